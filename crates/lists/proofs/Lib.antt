@@ -1,0 +1,11 @@
+pub mod Cases
+pub mod ChainsLaws
+pub mod MapLaws
+pub mod PartsLaws
+pub mod RowsLaws
+pub mod SearchLaws
+pub mod ShiftLaws
+pub mod SortLaws
+pub mod SumsLaws
+pub mod TestsLaws
+pub mod WordsLaws

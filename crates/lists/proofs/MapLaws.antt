@@ -1,0 +1,30 @@
+-- What `map` does under cuts and stores: a table of structs read as a table of rows.
+use mathlib.Core.Path.{_≡_, refl, ap, ap₂, _∙_}
+use mathlib.Core.List.{List, [], _∷_, _++_, map, map-append}
+use Prim.Native.Nat.{ℕ, zero, suc}
+use lib.ListN.{take, drop, set}
+use Rattle.lists.specs.Parts.{insertAt, removeAt}
+
+module _ {A B : Type 0} (f : A → B) where
+  pub map-take : (n : ℕ) (l : List A) → map f (take n l) ≡ take n (map f l)
+  map-take zero l = refl
+  map-take (suc n) [] = refl
+  map-take (suc n) (x ∷ xs) = ap (λ (r : List B). f x ∷ r) (map-take n xs)
+
+  pub map-drop : (n : ℕ) (l : List A) → map f (drop n l) ≡ drop n (map f l)
+  map-drop zero l = refl
+  map-drop (suc n) [] = refl
+  map-drop (suc n) (x ∷ xs) = map-drop n xs
+
+  pub map-set : (l : List A) (i : ℕ) (v : A) → map f (set l i v) ≡ set (map f l) i (f v)
+  map-set [] i v = refl
+  map-set (x ∷ xs) zero v = refl
+  map-set (x ∷ xs) (suc i) v = ap (λ (r : List B). f x ∷ r) (map-set xs i v)
+
+  pub map-insertAt : (l : List A) (a : ℕ) (v : A) → map f (insertAt l a v) ≡ insertAt (map f l) a (f v)
+  unfolding insertAt
+  map-insertAt l a v = map-append f (take a l) (v ∷ drop a l) ∙ ap₂ (λ (x y : List B). x ++ (f v ∷ y)) (map-take a l) (map-drop a l)
+
+  pub map-removeAt : (l : List A) (a : ℕ) → map f (removeAt l a) ≡ removeAt (map f l) a
+  unfolding removeAt
+  map-removeAt l a = map-append f (take a l) (drop (suc a) l) ∙ ap₂ (λ (x y : List B). x ++ y) (map-take a l) (map-drop (suc a) l)

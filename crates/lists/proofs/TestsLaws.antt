@@ -1,0 +1,145 @@
+-- Laws of tests as Bools, and of what they pick.
+use mathlib.Core.Path.{_≡_, refl}
+use mathlib.Core.Bool.{Bool, true, false, cond}
+use mathlib.Core.List.{List, [], _∷_, _++_}
+use mathlib.Core.Option.{Option, none, some}
+use Prim.Native.Nat.{ℕ, zero, suc, _<_}
+use native.Mathlib.Omega.{arith}
+use native.Mathlib.Nat.{le-of-suc-le-suc, not-suc-le-zero}
+use lib.ListN.{length, getD}
+pub use borrow.Author.Tests.{not-true, not-false}
+use Rattle.lists.specs.Tests.{both, either, Each, all, firstAt, best}
+use Rattle.lists.proofs.Cases.{by-cases, option-cases}
+
+pub both-left : (a b : Bool) → both a b ≡ true → a ≡ true
+unfolding both
+both-left true b e = refl
+both-left false b e = e
+
+pub both-right : (a b : Bool) → both a b ≡ true → b ≡ true
+unfolding both
+both-right true b e = e
+both-right false b e = cc
+
+pub both-intro : {a b : Bool} → a ≡ true → b ≡ true → both a b ≡ true
+unfolding both
+both-intro e f = rw (e, f)
+
+pub either-cases {ℓ} : {P : Type ℓ} (a b : Bool) → either a b ≡ true → (a ≡ true → P) → (b ≡ true → P) → P
+unfolding either
+either-cases true b e f g = f refl
+either-cases false b e f g = g e
+
+pub either-left : {a : Bool} (b : Bool) → a ≡ true → either a b ≡ true
+unfolding either
+either-left b e = rw e
+
+pub either-right : (a : Bool) {b : Bool} → b ≡ true → either a b ≡ true
+unfolding either
+either-right true e = refl
+either-right false e = e
+
+module _ {A : Type 0} where
+  -- ---- Each
+
+  pub each-map : (P Q : A → Type 0) (l : List A) → ((x : A) → P x → Q x) → Each P l → Each Q l
+  each-map P Q [] h e = tt
+  each-map P Q (x ∷ xs) h e = (h x (e .0), each-map P Q xs h (e .1))
+
+  pub each-append : (P : A → Type 0) (a b : List A) → Each P a → Each P b → Each P (a ++ b)
+  each-append P [] b e f = f
+  each-append P (x ∷ xs) b e f = (e .0, each-append P xs b (e .1) f)
+
+  pub each-split : (P : A → Type 0) (a b : List A) → Each P (a ++ b) → Each P a × Each P b
+  each-split P [] b e = (tt, e)
+  each-split P (x ∷ xs) b e = let t = each-split P xs b (e .1) in ((e .0, t .0), t .1)
+
+  pub each-getD : (P : A → Type 0) (l : List A) (i : ℕ) (d : A) → Each P l → i < length l → P (getD l i d)
+  each-getD P [] i d e h = absurd (not-suc-le-zero h)
+  each-getD P (x ∷ xs) zero d e h = e .0
+  each-getD P (x ∷ xs) (suc i) d e h = each-getD P xs i d (e .1) (le-of-suc-le-suc h)
+
+  pub getD-each : (P : A → Type 0) (l : List A) (d : A) → ((i : ℕ) → i < length l → P (getD l i d)) → Each P l
+  getD-each P [] d h = tt
+  getD-each P (x ∷ xs) d h = (h 0 (omega arith), getD-each P xs d (λ i b. h (suc i) (omega arith)))
+
+  -- ---- all
+
+  pub all-cons : (p : A → Bool) (x : A) (xs : List A) → all p (x ∷ xs) ≡ both (p x) (all p xs)
+  unfolding all
+  all-cons p x xs = refl
+
+  pub all-append : (p : A → Bool) (a b : List A) → all p (a ++ b) ≡ both (all p a) (all p b)
+  unfolding all both
+  all-append p [] b = refl
+  all-append p (x ∷ xs) b = by-cases (p x) (λ t. rw t (all-append p xs b)) (λ t. rw t)
+
+  pub all-each : (p : A → Bool) (P : A → Type 0) (l : List A) → ((x : A) → p x ≡ true → P x) → all p l ≡ true → Each P l
+  unfolding all
+  all-each p P [] h e = tt
+  all-each p P (x ∷ xs) h e = (h x (both-left (p x) (all p xs) e), all-each p P xs h (both-right (p x) (all p xs) e))
+
+  pub each-all : (p : A → Bool) (P : A → Type 0) (l : List A) → ((x : A) → P x → p x ≡ true) → Each P l → all p l ≡ true
+  unfolding all
+  each-all p P [] h e = refl
+  each-all p P (x ∷ xs) h e = both-intro (h x (e .0)) (each-all p P xs h (e .1))
+
+  -- ---- firstAt
+
+  fails-cons : (p : A → Bool) (x : A) (xs : List A) (d : A) (n : ℕ) → p x ≡ false → ((k : ℕ) → k < n → p (getD xs k d) ≡ false) → (k : ℕ) → k < suc n → p (getD (x ∷ xs) k d) ≡ false
+  fails-cons p x xs d n t h zero b = t
+  fails-cons p x xs d n t h (suc k) b = h k (le-of-suc-le-suc b)
+
+  -- what an answer of `firstAt` says of the list
+  abbrev Says : (A → Bool) → List A → A → Option ℕ → Type 0
+  Says p l d none = (k : ℕ) → k < length l → p (getD l k d) ≡ false
+  Says p l d (some i) = (i < length l) × (p (getD l i d) ≡ true) × ((k : ℕ) → k < i → p (getD l k d) ≡ false)
+
+  firstAt-says : (p : A → Bool) (l : List A) (d : A) → Says p l d (firstAt p l)
+  unfolding firstAt
+  firstAt-says p [] d = λ k h. absurd (not-suc-le-zero h)
+  firstAt-says p (x ∷ xs) d =
+      by-cases (p x)
+      (λ t. rw t (omega arith, t, λ k h. absurd (not-suc-le-zero h)))
+      (λ t. option-cases (firstAt p xs)
+      (λ n. rw (t, n) (fails-cons p x xs d (length xs) t (rw n at (firstAt-says p xs d))))
+      (λ i n. let s : Says p xs d (some i) = rw n at (firstAt-says p xs d) in
+      rw (t, n) (omega arith, s .1, fails-cons p x xs d i t (s .2))))
+
+  pub firstAt-some : (p : A → Bool) (l : List A) (i : ℕ) (d : A) → firstAt p l ≡ some i → (i < length l) × (p (getD l i d) ≡ true) × ((k : ℕ) → k < i → p (getD l k d) ≡ false)
+  firstAt-some p l i d e = rw e at (firstAt-says p l d)
+
+  pub firstAt-none : (p : A → Bool) (l : List A) (k : ℕ) (d : A) → firstAt p l ≡ none → k < length l → p (getD l k d) ≡ false
+  firstAt-none p l k d e = rw e at (firstAt-says p l d) k
+
+  pub firstAt-found : (p : A → Bool) (l : List A) (i : ℕ) (d : A) → i < length l → p (getD l i d) ≡ true → ((k : ℕ) → k < i → p (getD l k d) ≡ false) → firstAt p l ≡ some i
+  unfolding firstAt
+  firstAt-found p [] i d b e h = absurd (not-suc-le-zero b)
+  firstAt-found p (x ∷ xs) zero d b e h = rw e
+  firstAt-found p (x ∷ xs) (suc i) d b e h = rw (h 0 (omega arith), firstAt-found p xs i d (le-of-suc-le-suc b) e (λ k c. h (suc k) (omega arith)))
+
+  pub firstAt-absent : (p : A → Bool) (l : List A) (d : A) → ((k : ℕ) → k < length l → p (getD l k d) ≡ false) → firstAt p l ≡ none
+  unfolding firstAt
+  firstAt-absent p [] d h = refl
+  firstAt-absent p (x ∷ xs) d h = rw (h 0 (omega arith), firstAt-absent p xs d (λ k c. h (suc k) (omega arith)))
+
+  -- ---- best
+
+  holds-cond : (P : A → Type 0) (b : Bool) (x y : A) → P x → P y → P (cond b x y)
+  holds-cond P true x y e f = e
+  holds-cond P false x y e f = f
+
+  pub best-holds : (P : A → Type 0) (better : A → A → Bool) (x : A) (l : List A) → P x → Each P l → P (best better x l)
+  unfolding best
+  best-holds P better x [] e es = e
+  best-holds P better x (y ∷ ys) e es = best-holds P better (cond (better y x) y x) ys (holds-cond P (better y x) y x (es .0) e) (es .1)
+
+  -- no element is better than the best, where `better` is a strict weak order: asymmetric, and "not better" is transitive
+  pub best-none-better : (better : A → A → Bool) → ((x y : A) → better x y ≡ true → better y x ≡ false) → ((x y z : A) → better y x ≡ false → better z y ≡ false → better z x ≡ false) →
+      (x : A) (l : List A) → Each (λ z. better z (best better x l) ≡ false) (x ∷ l)
+  unfolding best
+  best-none-better better asym trans x [] = (by-cases (better x x) (asym x x) (λ t. t), tt)
+  best-none-better better asym trans x (y ∷ ys) =
+      by-cases (better y x)
+      (λ t. let e = best-none-better better asym trans y ys in rw t (trans (best better y ys) y x (e .0) (asym y x t), e))
+      (λ t. let e = best-none-better better asym trans x ys in rw t (e .0, (trans (best better x ys) x y (e .0) t, e .1)))

@@ -1,0 +1,1 @@
+// List theory: specs/ has the definitions, proofs/ their laws. No code.
