@@ -1,0 +1,73 @@
+use borrow.Author.Needs.{needs}
+use Rattle.page.proofs.TestLaws.{laid-size, laid-used, laid-kind, laid-unused, laid-rise, laid-broken}
+use Rattle.page.proofs.laid_out.Statement.{statement}
+use Rattle.page.proofs.laid_out.Tie as tie
+
+returns : tie.Need-returns
+returns c = search laid-size
+
+read-header-requires : tie.Need-read-header-requires
+read-header-requires c κs = search needs
+
+room-requires : tie.Need-room-requires
+room-requires c κs = search needs
+
+mul-end : tie.Need-mul-end
+mul-end c = search needs
+
+add-end : tie.Need-add-end
+add-end c = search needs
+
+cast-if2 : tie.Need-cast-if2
+cast-if2 c = search needs
+
+returns-2 : tie.Need-returns-2
+returns-2 c = search laid-used
+
+kind-fits-requires : tie.Need-kind-fits-requires
+kind-fits-requires c κs = search needs
+
+returns-3 : tie.Need-returns-3
+returns-3 c = search laid-kind
+
+top-from-requires : tie.Need-top-from-requires
+top-from-requires c κs = search needs
+
+returns-4 : tie.Need-returns-4
+returns-4 c = search laid-unused
+
+radios-rise-requires : tie.Need-radios-rise-requires
+radios-rise-requires c κs = search needs
+
+enum-told : tie.Need-enum-told
+enum-told c = search needs
+
+enum-told-2 : tie.Need-enum-told-2
+enum-told-2 c = search needs
+
+returns-5 : tie.Need-returns-5
+returns-5 c = search laid-rise
+
+returns-6 : tie.Need-returns-6
+returns-6 c = search laid-broken
+
+pub laid-out-spec : {M : Type 1} → statement M
+laid-out-spec =
+    tie.close
+    (tie.spec
+    returns
+    read-header-requires
+    room-requires
+    mul-end
+    add-end
+    cast-if2
+    returns-2
+    kind-fits-requires
+    returns-3
+    top-from-requires
+    returns-4
+    radios-rise-requires
+    enum-told
+    enum-told-2
+    returns-5
+    returns-6)
