@@ -1,0 +1,288 @@
+-- A desk and bytes laid out as a well-formed store says keep what Demand 3 asks of them, where the plain rule stands as the store does.
+use mathlib.Core.Bool.{Bool, true, false, not}
+use mathlib.Core.List.{List, [], _∷_, _++_, map}
+use mathlib.Core.Option.{Option, none, some}
+use mathlib.Core.Path.{_≡_, refl, sym, ap, ap₂, _∙_}
+use Prim.Native.Nat.{ℕ, suc, _+_, _*_, _≤_, _<_}
+use native.Mathlib.Omega.{arith}
+use lib.Dec.{eqb, ltb}
+use lib.ListN.{length, take}
+use borrow.Author.Tests.{lt-ltb, eq-eqb, ne-eqb}
+use Rattle.terms.specs.Terms.{Place, maxRadio, pages, noPage}
+use Rattle.lists.specs.Chains.{firstOf}
+use Rattle.lists.specs.Rows.{Row, Rows, Rising, UpTo, find, countFound}
+use Rattle.lists.specs.Sums.{sumBy, sumTo, concat, count}
+use Rattle.lists.specs.Tests.{one-if, both, Each}
+use Rattle.lists.proofs.Cases.{by-cases, option-cases, list-cases}
+use Rattle.lists.proofs.ChainsLaws.{walk-linked}
+use Rattle.lists.proofs.RowsLaws.{sum-key, sum-rows}
+use Rattle.lists.proofs.SumsLaws.{sum-nil, sum-append, sum-le, sum-const, sum-zero, sum-each, sumTo-ext, sumTo-const, sumTo-but, sumTo-sumBy}
+use Rattle.lists.proofs.TestsLaws.{each-map}
+use Rattle.page.specs.Page.{entries}
+use Rattle.page.specs.Buffer.{pageAt}
+use Rattle.page.proofs.ChainLaws.{following}
+use Rattle.rules.specs.Grid.{samePlace, inside}
+use Rattle.rules.specs.Store.{Store, Cell, Report as StoreReport, Line as StoreLine}
+use Rattle.rules.specs.Sweep.{isAt, staleBy}
+use Rattle.rules.specs.Carry.{isOn, placeOf, liveIn, storedIn}
+use Rattle.rules.specs.Plain.{Plain}
+use Rattle.rules.specs.WellFormed.{countIf, liveOf, staleOf, staleIn, chains, WellFormed}
+use Rattle.rules.proofs.LinkLaws.{Link}
+use Rattle.desk.specs.Layout.{slotOf, gridOf, reportOf, waitingOf, lineWith, lineOf, deskOf, Laid}
+use Rattle.desk.proofs.PagesLaws.{PagesOnce}
+use Rattle.desk.proofs.ReadLaws.{each-map₂, counted-below, ChainRead, CellRead, FreePage, cells-read, free-read, Paged, pages-enough}
+use Rattle.desk.proofs.UniqueLaws.{take-cuts, take-slots, take-waiting, take-memo}
+use Rattle.demands.specs.Trace.{deskCuts}
+use Rattle.demands.specs.Demands.{chainAt, allChains, staleEntry, staleEntries, missedIn, missedCount, waitingPlace, staleBound, Kept}
+
+-- ---- lists
+
+pub sum-times : {A : Type 0} (k : ℕ) (f : A → ℕ) (l : List A) → sumBy (λ x. k * f x) l ≡ k * sumBy f l
+unfolding sumBy
+sum-times k f [] = omega arith
+sum-times k f (x ∷ xs) = omega (arith, sum-times k f xs)
+
+pub sum-concat-map : {A B : Type 0} (f : B → ℕ) (g : A → List B) (l : List A) → sumBy f (concat (map g l)) ≡ sumBy (λ x. sumBy f (g x)) l
+unfolding sumBy concat
+sum-concat-map f g [] = refl
+sum-concat-map f g (x ∷ xs) = omega (arith, sum-append f (g x) (concat (map g xs)), sum-concat-map f g xs)
+
+-- of the numbers below n only x counts
+sumTo-only : (n : ℕ) (g : ℕ → ℕ) (x : ℕ) → x < n → sumTo n (λ q. g q * one-if (eqb q x)) ≡ g x
+sumTo-only n g x h =
+    omega (
+      arith,
+      sumTo-but n (λ q. g q * one-if (eqb q x)) (λ _. 0) x h (λ q b d. rw (ne-eqb q x d) (omega arith)),
+      sumTo-const 0 n,
+      ap (λ t. g x * one-if t) (eq-eqb x x refl),
+    )
+
+-- a sum over the numbers below n is the sum over any list in which each of them stands once, and no other: both are the sum over all pairs that are equal
+pub sum-each-once : (n : ℕ) (g : ℕ → ℕ) (l : List ℕ) → ((q : ℕ) → count q l ≡ one-if (ltb q n)) → sumBy g l ≡ sumTo n g
+sum-each-once n g l h =
+    sym (sum-each (λ x. sumTo n (λ q. g q * one-if (eqb q x))) g l (each-map _ _ l (sumTo-only n g) (counted-below n l (λ q. omega (arith, h q)))))
+    ∙ sym (sumTo-sumBy n (λ q x. g q * one-if (eqb q x)) l)
+    ∙ sumTo-ext n _ g (λ q b. sum-times (g q) (λ x. one-if (eqb q x)) l ∙ rw (h q, lt-ltb q n b) (omega arith))
+
+count-none : {Val : Type 0} (r : ℕ) (o : Option Val) → countFound (λ _ _. 0) r o ≡ 0
+count-none r none = refl
+count-none r (some v) = refl
+
+-- a sum over rising rows of what is 0 off one key
+pub sum-at-key : {Val : Type 0} (f : Row Val → ℕ) (b r : ℕ) (l : Rows Val) → ((x : Row Val) → (x .key ≡ r → ⊥) → f x ≡ 0) → Rising b l
+    → sumBy f l ≡ countFound (λ k v. f (record { key = k; val = v })) r (find l r)
+sum-at-key f b r l h a = omega (arith, sum-key f (λ _. 0) b r l h a, count-none r (find l r), sum-const 0 l)
+
+-- ---- the desk's lists
+
+pub desk-cuts : (s : Store) → deskCuts (deskOf s) ≡ s .cuts
+unfolding deskCuts deskOf gridOf
+desk-cuts s = let a = take-cuts (s .cuts .easts) in let o = take-cuts (s .cuts .norths) in λ i. record { easts = a i; norths = o i }
+
+-- what a line found counts, 0 for none
+abbrev pub missedOf : Option StoreLine → ℕ
+missedOf none = 0
+missedOf (some l) = l .missed
+
+line-radio : (r m : ℕ) (o : Option Place) → lineWith r m o .radio ≡ r
+line-radio r m none = refl
+line-radio r m (some p) = refl
+
+line-missed : (r m : ℕ) (o : Option Place) → lineWith r m o .missed ≡ m
+line-missed r m none = refl
+line-missed r m (some p) = refl
+
+missed-found : (l : Rows StoreLine) (r : ℕ) → missedIn (map lineOf l) r ≡ missedOf (find l r)
+unfolding missedIn find
+missed-found [] r = refl
+missed-found (x ∷ xs) r =
+    rw (line-radio (x .key) (x .val .missed) (x .val .last), line-missed (x .key) (x .val .missed) (x .val .last), missed-found xs r)
+    (by-cases (eqb r (x .key)) (λ t. rw t) (λ t. rw t))
+
+pub missed-count : (s : Store) (r : ℕ) → missedCount (deskOf s) r ≡ missedOf (find (s .memo) r)
+unfolding missedCount deskOf
+missed-count s r = ap (λ l. missedIn l r) (take-memo (s .memo)) ∙ missed-found (s .memo) r
+
+waiting-found : (l : Rows StoreReport) (r : ℕ) → waitingPlace (map reportOf l) r ≡ placeOf (find l r)
+unfolding waitingPlace find
+waiting-found [] r = refl
+waiting-found (x ∷ xs) r = by-cases (eqb r (x .key)) (λ t. rw t) (λ t. rw t (waiting-found xs r))
+
+pub waiting-place : (s : Store) (r : ℕ) → waitingPlace (take (deskOf s .waiting .n) (deskOf s .waiting .rows)) r ≡ placeOf (find (s .waiting) r)
+unfolding deskOf
+waiting-place s r = ap (λ l. waitingPlace l r) (take-waiting (s .waiting)) ∙ waiting-found (s .waiting) r
+
+pub waiting-number : (s : Store) → deskOf s .waiting .n ≡ length (s .waiting)
+unfolding deskOf waitingOf
+waiting-number s = refl
+
+-- ---- the chains
+
+chain-at : (b l : List ℕ) → ChainRead b l → chainAt b (firstOf noPage l) ≡ l
+unfolding chainAt
+chain-at b l c = walk-linked noPage (following b) (suc pages) l (c .linked) (omega (arith, c .few))
+
+cell-chains : (b : List ℕ) (cells : List Cell) → Each (CellRead b) cells → concat (map (λ c. chainAt b (c .first)) (map slotOf cells)) ≡ concat (map (λ c. c .chain) cells)
+unfolding concat
+cell-chains b [] e = refl
+cell-chains b (c ∷ cs) e = ap₂ (λ (x y : List ℕ). x ++ y) (chain-at b (c .chain) (e .0 .read)) (cell-chains b cs (e .1))
+
+pub all-chains : (s : Store) (b : List ℕ) → PagesOnce s → Laid s b → allChains (deskOf s) b ≡ chains s
+unfolding allChains chains deskOf gridOf
+all-chains s b once l =
+    ap₂ (λ (x y : List ℕ). x ++ y)
+    (ap (λ z. concat (map (λ c. chainAt b (c .first)) z)) (take-slots (s .cells)) ∙ cell-chains b (s .cells) (cells-read s once b l))
+    (chain-at b (s .free) (free-read s once b l .read))
+
+-- ---- the entries on the pages are those of the cells
+
+module _ (s : Store) (w : WellFormed s) (b : List ℕ) (l : Laid s b) (f : Row Place → ℕ) where
+  cell-sum : (c : Cell) → Paged c → CellRead b c → sumBy (λ p. sumBy f (entries (pageAt b p))) (c .chain) ≡ sumBy f (c .entries)
+  cell-sum c p k = sym (sum-concat-map f (λ q. entries (pageAt b q)) (c .chain)) ∙ ap (sumBy f) (sym (k .entries (pages-enough c p)))
+
+  free-sum : sumBy (λ p. sumBy f (entries (pageAt b p))) (s .free) ≡ 0
+  free-sum =
+      sum-each (λ p. sumBy f (entries (pageAt b p))) (λ _. 0) (s .free) (each-map (FreePage b) _ (s .free) (λ p k. ap (sumBy f) (k .entries) ∙ sum-nil f) (free-read s (w .once) b l .free))
+      ∙ omega (arith, sum-const 0 (s .free))
+
+  pub pages-sum : sumTo pages (λ p. sumBy f (entries (pageAt b p))) ≡ sumBy (λ c. sumBy f (c .entries)) (s .cells)
+  unfolding chains
+  pages-sum =
+      let g : ℕ → ℕ = λ p. sumBy f (entries (pageAt b p)) in
+      omega (
+        arith,
+        sum-each-once pages g (chains s) (w .once),
+        sum-append g (concat (map (λ c. c .chain) (s .cells))) (s .free),
+        free-sum,
+        sum-concat-map g (λ c. c .chain) (s .cells),
+        sum-each (λ c. sumBy g (c .chain)) (λ c. sumBy f (c .entries)) (s .cells) (each-map₂ _ _ _ (s .cells) (λ c h k. cell-sum c (h .paged) k) (w .cells) (cells-read s (w .once) b l)),
+      )
+
+-- ---- stale entries of a radio
+
+count-stale : (x : Plain) (r : ℕ) (o : Option Place) → countFound (λ k v. one-if (staleEntry x r (record { key = k; val = v }))) r o ≡ countIf (λ p. not (isAt (x .flushed r) p)) o
+unfolding staleEntry both
+count-stale x r none = refl
+count-stale x r (some v) = rw (eq-eqb r r refl)
+
+stale-rows : (x : Plain) (r : ℕ) (l : Rows Place) → Rising 0 l → sumBy (λ e. one-if (staleEntry x r e)) l ≡ countIf (λ p. not (isAt (x .flushed r) p)) (find l r)
+unfolding staleEntry both
+stale-rows x r l a =
+    sum-at-key (λ e. one-if (staleEntry x r e)) 0 r l (λ e d. rw (ne-eqb r (e .key) (λ q. d (sym q)))) a ∙ count-stale x r (find l r)
+
+-- over all pages they are those in the cells
+pub stale-cells : (s : Store) (x : Plain) (b : List ℕ) → WellFormed s → Laid s b → (r : ℕ) → staleEntries x b r ≡ staleOf (x .flushed r) r (s .cells)
+unfolding staleEntries staleOf
+stale-cells s x b w l r =
+    pages-sum s w b l (λ e. one-if (staleEntry x r e))
+    ∙ sum-each _ _ (s .cells) (each-map _ _ (s .cells) (λ c h. stale-rows x r (c .entries) (h .rising)) (w .cells))
+
+-- ---- the memo agrees with the plain rule
+
+same-place : (p : Place) → samePlace p p ≡ true
+unfolding both
+same-place p = rw (eq-eqb (p .east) (p .east) refl, eq-eqb (p .north) (p .north) refl)
+
+one-if-le : (t : Bool) → one-if t ≤ 1
+one-if-le true = omega arith
+one-if-le false = omega arith
+
+-- how many cells have an entry of the radio
+abbrev heldOf : ℕ → List Cell → ℕ
+heldOf r cells = sumBy (λ c. countIf (λ _. true) (find (c .entries) r)) cells
+
+count-le : (t : Place → Bool) (o : Option Place) → countIf t o ≤ countIf (λ _. true) o
+count-le t none = omega arith
+count-le t (some p) = one-if-le (t p)
+
+stale-le : (last : Option Place) (r : ℕ) (cells : List Cell) → staleOf last r cells ≤ heldOf r cells
+unfolding staleOf
+stale-le last r cells = sum-le _ _ cells (λ c. count-le (λ p. not (isAt last p)) (find (c .entries) r))
+
+-- without a line, the one entry of a radio is the live one
+module _ (memo : Rows StoreLine) (r : ℕ) (n : find memo r ≡ none) where
+  held-live : (cells : List Cell) → heldOf r cells ≡ liveOf memo r cells
+  unfolding liveOf
+  held-live cells = rw n
+
+  only-stored : (cells : List Cell) → heldOf r cells ≤ 1 → staleOf (storedIn memo r cells) r cells ≡ 0
+  unfolding sumBy staleOf storedIn liveIn
+  only-stored [] h = refl
+  only-stored (c ∷ cs) h =
+      option-cases (find (c .entries) r)
+      (λ e. rw e (omega (arith, only-stored cs (omega (arith, rw e at h)))))
+      (λ v e. rw (e, n, same-place v) (omega (arith, stale-le (some v) r cs, rw e at h)))
+
+pub stale-flushed : (s : Store) (x : Plain) → WellFormed s → Link s x → (r : ℕ) → staleOf (x .flushed r) r (s .cells) ≡ missedOf (find (s .memo) r)
+stale-flushed s x w k r =
+    option-cases (find (s .memo) r)
+    (λ n. rw n (ap (λ o. staleOf o r (s .cells)) (sym (k .stored r))
+    ∙ only-stored (s .memo) r n (s .cells) (omega (arith, held-live (s .memo) r n (s .cells), w .present r, one-if-le (isOn s r)))))
+    (λ m e. rw e (ap (λ o. staleOf o r (s .cells)) (sym (k .lines r m e)) ∙ w .lines r m e .equal))
+
+-- ---- the sum over all radios
+
+-- an entry found, judged by the memo
+abbrev judged : Rows StoreLine → ℕ → Place → ℕ
+judged memo r p = one-if (staleBy (find memo r) p)
+
+count-judged : (memo : Rows StoreLine) (r : ℕ) (o : Option Place) → countFound (judged memo) r o ≡ countIf (staleBy (find memo r)) o
+count-judged memo r none = refl
+count-judged memo r (some p) = refl
+
+count-never : (o : Option Place) → countIf (λ _. false) o ≡ 0
+count-never none = refl
+count-never (some p) = refl
+
+stale-memo : (s : Store) → WellFormed s → (r : ℕ) → sumBy (λ c. countIf (staleBy (find (s .memo) r)) (find (c .entries) r)) (s .cells) ≡ missedOf (find (s .memo) r)
+unfolding staleOf
+stale-memo s w r =
+    option-cases (find (s .memo) r)
+    (λ n. rw n (sum-zero _ (s .cells) (λ c. count-never (find (c .entries) r))))
+    (λ m e. rw e (w .lines r m e .equal))
+
+stale-in : (memo : Rows StoreLine) (c : Cell) → Rising 0 (c .entries) → UpTo maxRadio (c .entries) → staleIn memo c ≡ sumTo (suc maxRadio) (λ r. countIf (staleBy (find memo r)) (find (c .entries) r))
+unfolding staleIn
+stale-in memo c a u =
+    sum-rows (judged memo) 0 maxRadio (c .entries) a u ∙ sumTo-ext (suc maxRadio) _ _ (λ r h. count-judged memo r (find (c .entries) r))
+
+-- each stale entry is one of a radio from 1 to 4,095
+pub missed-total : (s : Store) → WellFormed s → sumTo (suc maxRadio) (λ r. missedOf (find (s .memo) r)) ≡ sumBy (staleIn (s .memo)) (s .cells)
+missed-total s w =
+    sumTo-ext (suc maxRadio) _ _ (λ r h. sym (stale-memo s w r))
+    ∙ sumTo-sumBy (suc maxRadio) (λ r c. countIf (staleBy (find (s .memo) r)) (find (c .entries) r)) (s .cells)
+    ∙ sym (sum-each _ _ (s .cells) (each-map _ _ (s .cells) (λ c g. stale-in (s .memo) c (g .rising) (g .radios)) (w .cells)))
+
+-- the square is tiled, so that there is a cell
+some-cell : (s : Store) → WellFormed s → 0 < length (s .cells)
+some-cell s w =
+    let corner : Place = record { east = 0; north = 0 } in
+    let f : Cell → ℕ = λ c. one-if (inside (c .edges) corner) in
+    list-cases (s .cells)
+    (λ e. absurd (omega (arith, w .tiled corner (omega arith, omega arith), ap (sumBy f) e, sum-nil f)))
+    (λ c cs e. omega (arith, ap length e))
+
+-- ---- what is kept
+
+pub stale-missed : (s : Store) (x : Plain) (b : List ℕ) → WellFormed s → Laid s b → Link s x → (r : ℕ) → staleEntries x b r ≡ missedOf (find (s .memo) r)
+stale-missed s x b w l k r = stale-cells s x b w l r ∙ stale-flushed s x w k r
+
+-- 16 × 63 + 15 + 127 = 1,150: the inequality at the front of the round, with the tally at its greatest
+stale-bounded : (s : Store) (x : Plain) (b : List ℕ) → WellFormed s → Laid s b → Link s x → sumTo (suc maxRadio) (staleEntries x b) + deskOf s .waiting .n ≤ staleBound
+stale-bounded s x b w l k =
+    omega (
+      arith,
+      sumTo-ext (suc maxRadio) (staleEntries x b) (λ r. missedOf (find (s .memo) r)) (λ r h. stale-missed s x b w l k r),
+      missed-total s w,
+      waiting-number s,
+      w .bounded 0 (some-cell s w),
+      w .tallied,
+    )
+
+pub kept : (s : Store) (x : Plain) (b : List ℕ) → WellFormed s → Laid s b → Link s x → Kept (deskOf s) b x
+kept s x b w l k = record {
+  missed = λ r _ _. stale-missed s x b w l k r ∙ sym (missed-count s r);
+  bounded = stale-bounded s x b w l k;
+  once = λ p. ap (count p) (all-chains s b (w .once) l) ∙ w .once p;
+  waiting = λ r. waiting-place s r ∙ k .waiting r;
+}

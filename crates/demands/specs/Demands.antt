@@ -1,0 +1,101 @@
+-- Demands 2 and 3, over desk and page bytes (01, "The plain rule": "Demand 3 is a single claim about the whole list").
+use mathlib.Core.Bool.{Bool, true, not, cond}
+use mathlib.Core.List.{List, [], _∷_, _++_, map}
+use mathlib.Core.Option.{Option, none, some}
+use mathlib.Core.Path.{_≡_}
+use Prim.Native.Nat.{ℕ, suc, _+_, _≤_}
+use lib.Dec.{eqb, ltb}
+use lib.ListN.{take}
+use Rattle.terms.specs.Terms.{Place, maxRadio, pages, noPage}
+use Rattle.lists.specs.Chains.{walk}
+use Rattle.lists.specs.Rows.{Row, Rows}
+use Rattle.lists.specs.Sums.{sumBy, sumTo, concat, count}
+use Rattle.lists.specs.Tests.{one-if, both, either}
+use Rattle.page.specs.Page.{next, entries}
+use Rattle.page.specs.Buffer.{pageAt}
+use Rattle.rules.specs.Records.{kindField, kindSignOn, kindReport}
+use Rattle.rules.specs.Sweep.{isAt}
+use Rattle.rules.specs.Plain.{Plain, plainRefusal}
+use Rattle.desk.specs.declared.Desk.{Desk}
+use Rattle.desk.specs.declared.Line.{Line}
+use Rattle.desk.specs.declared.Report.{Report}
+use Rattle.desk.specs.Call.{After}
+use Rattle.demands.specs.Plain.{told}
+use Rattle.demands.specs.Trace.{Trace, EveryState, EveryCall}
+
+-- ---- Demand 2
+
+-- each call is answered as the plain rule says: number, count and answer buffer
+pub record AsTold (x : Plain) (bytes room : List ℕ) (y : After) : Type 0 where
+  pub number : y .number ≡ told x bytes room .number
+  pub count : y .count ≡ told x bytes room .count
+  pub buffer : y .buffer ≡ told x bytes room .buffer
+
+-- "After any run of calls from a fresh store, a rectangle's list is exactly the radios on whose latest accepted place lies in it, once each, by rising
+-- number; sign-on, report and sign-off are accepted as the plain rule says."
+abbrev pub Demand2 : Type 0
+Demand2 = (d : Desk) (b : List ℕ) (x : Plain) (t : Trace d b x) → EveryCall AsTold t
+
+-- ---- Demand 3
+
+-- "A chain runs from a cell's first page in the directory, or from the front of the free chain, by next page to 65,535." One page more than there are
+-- would show a chain that does not end.
+unfoldable pub chainAt : List ℕ → ℕ → List ℕ
+chainAt b p = walk noPage (λ q. next (pageAt b q)) (suc pages) p
+
+unfoldable pub allChains : Desk → List ℕ → List ℕ
+allChains d b =
+    concat (map (λ c. chainAt b (c .first)) (take (d .grid .cells .n) (d .grid .cells .slots))) ++ chainAt b (d .grid .free)
+
+-- "a stored entry is stale unless its place is the last place flushed for its radio, by the plain rule .., and the radio has not signed off since"
+unfoldable pub staleEntry : Plain → ℕ → Row Place → Bool
+staleEntry x r e = both (eqb r (e .key)) (not (isAt (x .flushed r) (e .val)))
+
+-- "Stale entries of each radio .. are counted over all 128 pages"
+unfoldable pub staleEntries : Plain → List ℕ → ℕ → ℕ
+staleEntries x b r = sumTo pages (λ p. sumBy (λ e. one-if (staleEntry x r e)) (entries (pageAt b p)))
+
+-- "without a memo line the missed count is 0"
+unfoldable pub missedIn : List Line → ℕ → ℕ
+missedIn [] r = 0
+missedIn (l ∷ ls) r = cond (eqb r (l .radio)) (l .missed) (missedIn ls r)
+
+unfoldable pub missedCount : Desk → ℕ → ℕ
+missedCount d r = missedIn (take (d .memo .n) (d .memo .rows)) r
+
+-- the place of the report of a radio that waits in the desk
+unfoldable pub waitingPlace : List Report → ℕ → Option Place
+waitingPlace [] r = none
+waitingPlace (w ∷ ws) r = cond (eqb r (w .radio)) (some (record { east = w .east; north = w .north })) (waitingPlace ws r)
+
+abbrev pub placeIf : Bool → Option Place → Option Place
+placeIf b o = cond b o none
+
+-- "16 × 63 + 15 + 127 = 1,150 bounds stale and waiting together"
+abbrev pub staleBound : ℕ
+staleBound = 1150
+
+-- what holds of desk and pages
+pub record Kept (d : Desk) (b : List ℕ) (x : Plain) : Type 0 where
+  -- "each radio's stale entries on the pages are its missed count"
+  pub missed : (r : ℕ) → 1 ≤ r → r ≤ maxRadio → staleEntries x b r ≡ missedCount d r
+  -- "stale and waiting together are at most 1,150"
+  pub bounded : sumTo (suc maxRadio) (staleEntries x b) + d .waiting .n ≤ staleBound
+  -- "each of the 128 pages stands once in one chain"
+  pub once : (p : ℕ) → count p (allChains d b) ≡ one-if (ltb p pages)
+  -- "the reports waiting in the desk are exactly its waiting radios with their latest places"
+  pub waiting : (r : ℕ) → waitingPlace (take (d .waiting .n) (d .waiting .rows)) r ≡ placeIf (x .waits r) (x .latest r)
+
+-- what holds of each call
+pub record NotRefused (x : Plain) (bytes buffer : List ℕ) (y : After) : Type 0 where
+  -- "To find the store unsound is to answer number 2."
+  pub found-sound : y .number ≡ 2 → ⊥
+  -- "A sign-on or report is turned down for lack of space if the desk turns it down where the plain rule carries it out."
+  pub had-space : either (eqb (kindField bytes) kindSignOn) (eqb (kindField bytes) kindReport) ≡ true → plainRefusal x bytes ≡ 0 → y .number ≡ 0
+
+pub record WholeList {d : Desk} {b : List ℕ} {x : Plain} (t : Trace d b x) : Type 0 where
+  pub states : EveryState Kept t
+  pub calls : EveryCall NotRefused t
+
+abbrev pub Demand3 : Type 0
+Demand3 = (d : Desk) (b : List ℕ) (x : Plain) (t : Trace d b x) → WholeList t

@@ -1,0 +1,4 @@
+pub mod FreshLaws
+pub mod PagesLaws
+pub mod ReadLaws
+pub mod UniqueLaws

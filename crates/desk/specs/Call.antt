@@ -1,0 +1,49 @@
+-- What one call answers and leaves, from what it finds: the definition that an entry point's contract cites, and a list of calls is made of
+-- (01, "Turned down, in checking order", "My note on what I won't accept").
+use mathlib.Core.Bool.{true}
+use mathlib.Core.List.{List}
+use mathlib.Core.Path.{_≡_}
+use Prim.Native.Nat.{ℕ}
+use lib.ListN.{length}
+use Rattle.page.specs.Buffer.{bufferBytes}
+use Rattle.rules.specs.Carry.{Outcome, carry, allowed}
+use Rattle.desk.specs.declared.Desk.{Desk}
+use Rattle.desk.specs.Layout.{deskOf, pagesOf}
+use Rattle.desk.specs.Sound.{Sound}
+
+-- what a call is handed: the desk, the pages, the record's bytes at hand, the answer buffer
+pub record Before : Type 0 where
+  pub desk : Desk
+  pub pages : List ℕ
+  pub bytes : List ℕ
+  pub buffer : List ℕ
+
+-- what it answers, and what desk, pages and answer buffer then hold
+pub record After : Type 0 where
+  pub number : ℕ
+  pub count : ℕ
+  pub desk : Desk
+  pub pages : List ℕ
+  pub buffer : List ℕ
+
+-- "The answer carries the number and 0 .. Desk, pages, answer buffer and any other lent buffer keep every byte."
+unfoldable pub turnedDown : ℕ → Before → After
+turnedDown n x = record { number = n; count = 0; desk = x .desk; pages = x .pages; buffer = x .buffer }
+
+-- an outcome of the rules, laid out
+unfoldable pub laidOut : Outcome → After
+laidOut o = record { number = o .number; count = o .count; desk = deskOf (o .store); pages = pagesOf (o .store); buffer = o .buffer }
+
+-- carried out, or turned down under 3 to 11, with a neighbour that 01 allows: what is left free is its name
+pub record Carried (x : Before) (s : Sound (x .desk) (x .pages)) (y : After) : Type 0 where
+  pub pick : ℕ
+  pub permitted : allowed pick (s .store) (x .bytes) ≡ true
+  pub done : y ≡ laidOut (carry pick (s .store) (x .bytes) (x .buffer))
+
+pub record Answers (x : Before) (y : After) : Type 0 where
+  -- 1: "The page buffer isn't 25,600 bytes."
+  pub size : (length (x .pages) ≡ bufferBytes → ⊥) → y ≡ turnedDown 1 x
+  -- 2: "The store isn't sound."
+  pub unsound : length (x .pages) ≡ bufferBytes → (Sound (x .desk) (x .pages) → ⊥) → y ≡ turnedDown 2 x
+  -- 3 to 11, or carried out
+  pub sound : (s : Sound (x .desk) (x .pages)) → Carried x s y

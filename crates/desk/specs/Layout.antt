@@ -1,0 +1,141 @@
+-- How a store is laid out: the desk's fields, and the bytes of the pages (01, "What the desk holds", "Records and pages").
+use mathlib.Core.Bool.{Bool, true, false, cond}
+use mathlib.Core.List.{List, [], _∷_, _++_, map}
+use mathlib.Core.Option.{Option, none, some}
+use mathlib.Core.Path.{_≡_}
+use Prim.Native.Nat.{ℕ, _+_, _-_}
+use lib.Dec.{eqb}
+use lib.ListN.{length, take, drop, replicate}
+use Rattle.terms.specs.Terms.{Place, pages, pageEntries, noPage, maxOn}
+use Rattle.lists.specs.Chains.{firstOf}
+use Rattle.lists.specs.Parts.{tab}
+use Rattle.lists.specs.Rows.{Row, Rows, find}
+use Rattle.lists.specs.Sums.{concat}
+use Rattle.lists.specs.Tests.{Each, one-if}
+use Rattle.page.specs.Page.{pageBytes, kindFirst, kindFurther, pageOf, freePageOf}
+use Rattle.page.specs.Buffer.{bufferBytes, pageAt}
+use Rattle.rules.specs.Limits.{maxCells, maxCuts, fullMemory}
+use Rattle.rules.specs.Store.{Store, Cell, Report as StoreReport, Line as StoreLine}
+use Rattle.desk.specs.declared.CutList.{CutList}
+use Rattle.desk.specs.declared.Slot.{Slot}
+use Rattle.desk.specs.declared.Directory.{Directory}
+use Rattle.desk.specs.declared.Grid.{Grid}
+use Rattle.desk.specs.declared.Report.{Report}
+use Rattle.desk.specs.declared.Waiting.{Waiting}
+use Rattle.desk.specs.declared.Line.{Line}
+use Rattle.desk.specs.declared.Memo.{Memo}
+use Rattle.desk.specs.declared.On.{On}
+use Rattle.desk.specs.declared.Desk.{Desk}
+
+-- ---- the desk
+
+-- one line more than there may be between two calls: a sign-off adds one before the tally sweeps
+abbrev pub lineSlots : ℕ
+lineSlots = 1151
+
+-- the list in so many slots, the unused ones holding z
+unfoldable pub slotted : {A : Type 0} → ℕ → A → List A → List A
+slotted n z l = l ++ replicate (n - length l) z
+
+unfoldable pub cutListOf : List ℕ → CutList
+cutListOf l = record { n = length l; at = slotted maxCuts 0 l }
+
+abbrev pub slotOf : Cell → Slot
+slotOf c = record {
+  number = c .number;
+  west = c .edges .easts .low;
+  east = c .edges .easts .high;
+  south = c .edges .norths .low;
+  north = c .edges .norths .high;
+  first = firstOf noPage (c .chain);
+}
+
+abbrev pub noSlot : Slot
+noSlot = record { number = 0; west = 0; east = 0; south = 0; north = 0; first = 0 }
+
+unfoldable pub directoryOf : List Cell → Directory
+directoryOf cells = record { n = length cells; slots = slotted maxCells noSlot (map slotOf cells) }
+
+unfoldable pub gridOf : Store → Grid
+gridOf s = record {
+  easts = cutListOf (s .cuts .easts);
+  norths = cutListOf (s .cuts .norths);
+  cells = directoryOf (s .cells);
+  free = firstOf noPage (s .free);
+}
+
+abbrev pub reportOf : Row StoreReport → Report
+reportOf w = record { radio = w .key; east = w .val .place .east; north = w .val .place .north; new = one-if (w .val .new) }
+
+abbrev pub noReport : Report
+noReport = record { radio = 0; east = 0; north = 0; new = 0 }
+
+unfoldable pub waitingOf : Rows StoreReport → Waiting
+waitingOf l = record { n = length l; rows = slotted fullMemory noReport (map reportOf l) }
+
+-- a line with a place, and one with none
+abbrev pub lineWith : ℕ → ℕ → Option Place → Line
+lineWith r missed none = record { radio = r; missed = missed; placed = 0; east = 0; north = 0 }
+lineWith r missed (some p) = record { radio = r; missed = missed; placed = 1; east = p .east; north = p .north }
+
+abbrev pub lineOf : Row StoreLine → Line
+lineOf l = lineWith (l .key) (l .val .missed) (l .val .last)
+
+abbrev pub noLine : Line
+noLine = record { radio = 0; missed = 0; placed = 0; east = 0; north = 0 }
+
+unfoldable pub memoOf : Rows StoreLine → Memo
+memoOf l = record { n = length l; rows = slotted lineSlots noLine (map lineOf l) }
+
+unfoldable pub onOf : Rows (Unit {0}) → On
+onOf l = record { n = length l; radios = slotted maxOn 0 (map (λ x. x .key) l) }
+
+-- "The desk has cuts, directory, the front of the free chain, waiting reports, memo, who is signed on, the round, and the tally c."
+unfoldable pub deskOf : Store → Desk
+deskOf s = record { grid = gridOf s; waiting = waitingOf (s .waiting); memo = memoOf (s .memo); on = onOf (s .on); tally = s .tally }
+
+-- ---- the pages
+
+-- a page and its bytes
+abbrev pub Leaf : Type 0
+Leaf = Row (List ℕ)
+
+-- a chain's pages: "kind (.. 2 first of a cell, 3 further), next page (65,535 for none), cell .., then up to 32 entries", "every page but the last full"
+unfoldable pub leaves : ℕ → ℕ → List ℕ → Rows Place → List Leaf
+leaves kind cell [] es = []
+leaves kind cell (p ∷ ps) es =
+    record { key = p; val = pageOf kind (firstOf noPage ps) cell (take pageEntries es) } ∷ leaves kindFurther cell ps (drop pageEntries es)
+
+unfoldable pub cellLeaves : Cell → List Leaf
+cellLeaves c = leaves kindFirst (c .number) (c .chain) (c .entries)
+
+unfoldable pub cellsLeaves : List Cell → List Leaf
+cellsLeaves cells = concat (map cellLeaves cells)
+
+-- "A free page has no entry"
+unfoldable pub freeLeaves : List ℕ → List Leaf
+freeLeaves [] = []
+freeLeaves (p ∷ ps) = record { key = p; val = freePageOf (firstOf noPage ps) } ∷ freeLeaves ps
+
+unfoldable pub storeLeaves : Store → List Leaf
+storeLeaves s = cellsLeaves (s .cells) ++ freeLeaves (s .free)
+
+-- the bytes are laid out as the store says: each page that it names holds just the bytes of its part
+abbrev pub At : List ℕ → Leaf → Type 0
+At b x = pageAt b (x .key) ≡ x .val
+
+pub record Laid (s : Store) (b : List ℕ) : Type 0 where
+  pub size : length b ≡ bufferBytes
+  pub leaf : Each (At b) (storeLeaves s)
+
+-- the same as a function: page after page
+abbrev pub orZeros : Option (List ℕ) → List ℕ
+orZeros none = replicate pageBytes 0
+orZeros (some v) = v
+
+unfoldable pub pagesOf : Store → List ℕ
+pagesOf s = concat (tab pages (λ p. orZeros (find (storeLeaves s) p)))
+
+-- the pages of a fresh store: "one cell (0) on page 0, and pages 1 to 127 free in that order"
+unfoldable pub freshPages : List ℕ
+freshPages = concat (pageOf kindFirst noPage 0 [] ∷ tab (pages - 1) (λ i. freePageOf (cond (eqb (i + 2) pages) noPage (i + 2))))

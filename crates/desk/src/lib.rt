@@ -1,0 +1,163 @@
+// The desk as the serving program holds it, and a fresh one. Counts come first in each part; slots past the count are zero.
+ghost use mathlib.Core.Path.{_≡_};
+ghost use Rattle.rules.specs.Store.{fresh};
+ghost use Rattle.desk.specs.Layout.{deskOf};
+
+// The cuts of one direction, rising.
+#[repr(C)]
+pub struct CutList {
+    pub n: usize,
+    pub at: [u16; 15],
+}
+
+// A cell of the directory: its number, its edges and the first page of its chain.
+#[repr(C)]
+pub struct Slot {
+    pub number: u16,
+    pub west: u16,
+    pub east: u16,
+    pub south: u16,
+    pub north: u16,
+    pub first: u16,
+}
+
+// The directory, in the order of the round, its front first.
+#[repr(C)]
+pub struct Directory {
+    pub n: usize,
+    pub slots: [Slot; 64],
+}
+
+// What a split or a join changes.
+#[repr(C)]
+pub struct Grid {
+    pub easts: CutList,
+    pub norths: CutList,
+    pub cells: Directory,
+    // the front of the free chain
+    pub free: u16,
+}
+
+// A waiting report; `new` is 1 where it is marked new, else 0.
+#[repr(C)]
+pub struct Report {
+    pub radio: u16,
+    pub east: u16,
+    pub north: u16,
+    pub new: u16,
+}
+
+// The waiting reports, by rising radio: one more than may wait between two calls.
+#[repr(C)]
+pub struct Waiting {
+    pub n: usize,
+    pub rows: [Report; 128],
+}
+
+// A memo line; `placed` is 1 where it has a place, and 0, with the place zero, where it has none.
+#[repr(C)]
+pub struct Line {
+    pub radio: u16,
+    pub missed: u16,
+    pub placed: u16,
+    pub east: u16,
+    pub north: u16,
+}
+
+// The memo, by rising radio: one line more than there may be between two calls.
+#[repr(C)]
+pub struct Memo {
+    pub n: usize,
+    pub rows: [Line; 1151],
+}
+
+// The radios on, rising.
+#[repr(C)]
+pub struct On {
+    pub n: usize,
+    pub radios: [u16; 512],
+}
+
+#[repr(C)]
+pub struct Desk {
+    pub grid: Grid,
+    pub waiting: Waiting,
+    pub memo: Memo,
+    pub on: On,
+    pub tally: u16,
+}
+
+impl Desk {
+    pub const MAX_CELLS: usize = 64;
+
+    pub const MAX_CUTS: usize = 15;
+
+    pub const MAX_ON: usize = 512;
+
+    pub const MAX_WAITING: usize = 127;
+
+    pub const MAX_LINES: usize = 1150;
+
+    pub const FULL_BOX: usize = 8;
+
+    pub const SWEEP_EVERY: u16 = 16;
+
+    pub const JOIN_ENTRIES: usize = 24;
+
+    pub const LAST_METRE: u16 = 65535;
+
+    // "A fresh store has no cut, one cell (0) on page 0, and pages 1 to 127 free in that order."
+    pub fn fresh() -> Desk
+        ensures { λ r. ⌜ r ≡ deskOf fresh ⌝ }
+    {
+        let no_slot = Slot {
+            number: 0,
+            west: 0,
+            east: 0,
+            south: 0,
+            north: 0,
+            first: 0,
+        };
+        let mut slots = [no_slot; 64];
+        slots[0] = Slot {
+            number: 0,
+            west: 0,
+            east: Desk::LAST_METRE,
+            south: 0,
+            north: Desk::LAST_METRE,
+            first: 0,
+        };
+        Desk {
+            grid: Grid {
+                easts: CutList { n: 0, at: [0; 15] },
+                norths: CutList { n: 0, at: [0; 15] },
+                cells: Directory { n: 1, slots },
+                free: 1,
+            },
+            waiting: Waiting {
+                n: 0,
+                rows: [Report {
+                    radio: 0,
+                    east: 0,
+                    north: 0,
+                    new: 0,
+                }; 128],
+            },
+            memo: Memo {
+                n: 0,
+                rows: [Line {
+                    radio: 0,
+                    missed: 0,
+                    placed: 0,
+                    east: 0,
+                    north: 0,
+                }; 1151],
+            },
+            on: On {
+                n: 0,
+                radios: [0; 512],
+            },
+            tally: 0,
+        }
+    }
+}

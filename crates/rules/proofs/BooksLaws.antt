@@ -1,0 +1,1144 @@
+-- The radios' books (record Books) are kept by every step: sweep, entering reports, sign-on, sign-off, split, join; and what each does to the stale counts of other cells.
+use mathlib.Core.Path.{_≡_, refl, sym, ap, _∙_, subst}
+use mathlib.Core.Bool.{Bool, true, false, not, cond}
+use mathlib.Core.List.{List, [], _∷_, _++_}
+use mathlib.Core.Option.{Option, none, some}
+use Prim.Native.Nat.{ℕ, zero, suc, _+_, _-_, _≤_, _<_}
+use native.Mathlib.Omega.{arith}
+use lib.Dec.{eqb, leb, ltb}
+use lib.ListN.{length, drop}
+use borrow.Author.Tests.{ltb-true, ltb-false, leb-true, leb-false, le-leb, lt-leb, eqb-true, eqb-false, ne-eqb, eq-eqb}
+use Rattle.terms.specs.Terms.{Place, maxRadio}
+use Rattle.lists.specs.Rows.{Row, Rows, Rising, UpTo, find, putRow, alter, insert, merge, countFound, passed}
+use Rattle.lists.specs.Sums.{sumBy, sumTo, filter, keep}
+use Rattle.lists.specs.Tests.{one-if, both, isSome, orElse, Each}
+use Rattle.lists.proofs.Cases.{by-cases, option-cases}
+use Rattle.lists.proofs.TestsLaws.{not-true, both-left, both-right, both-intro, either-cases, each-map, each-append, each-split}
+use Rattle.lists.proofs.SumsLaws.{sum-append, sum-take-drop, sum-const, sum-ext, sum-add, sum-each, sum-filter, sumTo-ext, sumTo-le, sumTo-add, sumTo-sumBy}
+use Rattle.lists.proofs.RowsLaws.{find-below, rising-alter, find-alter, rising-filter, find-filter, sum-key, sum-zero-find, rising-merge, find-merge, each-find, find-each, sum-rows}
+use Rattle.rules.specs.Grid.{Axis, eastward, northward, along, across, samePlace, Span, within, sameSpan, Rect, spanOf, withSpan, inside}
+use Rattle.rules.specs.Store.{Report, Line, Cell}
+use Rattle.rules.specs.Sweep.{isAt, staleBy, stale, lowered, lowerEach, sweptEntries, sweptMemo, swept}
+use Rattle.rules.specs.Cut.{Cut, lowSide, through}
+use Rattle.rules.specs.Flush.{placed, raised, entered, Work, enter, enterEach, lowCell, highCell, touch, beside, hull, joinedEdges}
+use Rattle.rules.specs.Carry.{wasNew}
+use Rattle.rules.specs.Plain.{putAt}
+use Rattle.rules.specs.WellFormed.{countIf, liveOf, staleIn, InSquare, InSquareIf}
+use Rattle.rules.proofs.Parts.{staleR, missedOf, Rowed, Books, Clean, Signed, marks, onSet}
+
+-- ---- lists
+
+module _ {A : Type 0} where
+  -- a fact for every i of each element
+  pub each-for : {I : Type 0} (P : I → A → Type 0) (l : List A) → ((i : I) → Each (P i) l) → Each (λ x. (i : I) → P i x) l
+  each-for P [] h = tt
+  each-for P (x ∷ xs) h = (λ i. h i .0, each-for P xs (λ i. h i .1))
+
+  pub each-every : (P : A → Type 0) (l : List A) → ((x : A) → P x) → Each P l
+  each-every P [] h = tt
+  each-every P (x ∷ xs) h = (h x, each-every P xs h)
+
+  pub each-zip : (P Q R : A → Type 0) (l : List A) → ((x : A) → P x → Q x → R x) → Each P l → Each Q l → Each R l
+  each-zip P Q R [] h e f = tt
+  each-zip P Q R (x ∷ xs) h e f = (h x (e .0) (f .0), each-zip P Q R xs h (e .1) (f .1))
+
+  pub each-drop : (P : A → Type 0) (j : ℕ) (l : List A) → Each P l → Each P (drop j l)
+  each-drop P zero l e = e
+  each-drop P (suc j) [] e = tt
+  each-drop P (suc j) (x ∷ xs) e = each-drop P j xs (e .1)
+
+  each-keep : (P : A → Type 0) (b : Bool) (x : A) (l : List A) → (b ≡ true → P x) → Each P l → Each P (keep b x l)
+  each-keep P true x l h e = (h refl, e)
+  each-keep P false x l h e = e
+
+  -- what passes a filter has the fact and passes
+  pub each-filter : (P Q : A → Type 0) (p : A → Bool) (l : List A) → ((x : A) → P x → p x ≡ true → Q x) → Each P l → Each Q (filter p l)
+  unfolding filter
+  each-filter P Q p [] h e = tt
+  each-filter P Q p (x ∷ xs) h e = each-keep Q (p x) x (filter p xs) (h x (e .0)) (each-filter P Q p xs h (e .1))
+
+  pub sum-zero-each : (f : A → ℕ) (l : List A) → sumBy f l ≡ 0 → Each (λ x. f x ≡ 0) l
+  unfolding sumBy
+  sum-zero-each f [] e = tt
+  sum-zero-each f (x ∷ xs) e = (omega arith, sum-zero-each f xs (omega arith))
+
+  pub sum-drop-le : (f : A → ℕ) (j : ℕ) (l : List A) → sumBy f (drop j l) ≤ sumBy f l
+  sum-drop-le f j l = omega (arith, sum-take-drop f j l)
+
+module _ {Val : Type 0} where
+  pub rising-above : (b : ℕ) (l : Rows Val) → Rising b l → Each (λ x. b < x .key) l
+  rising-above b [] a = tt
+  rising-above b (x ∷ xs) a = (a .0, each-map _ _ xs (λ y h. omega arith) (rising-above (x .key) xs (a .1)))
+
+  upto-putRow : (n r : ℕ) (o : Option Val) (l : Rows Val) → r ≤ n → UpTo n l → UpTo n (putRow r o l)
+  upto-putRow n r none l h u = u
+  upto-putRow n r (some v) l h u = (h, u)
+
+  pub upto-alter : (f : Option Val → Option Val) (n r : ℕ) (l : Rows Val) → r ≤ n → UpTo n l → UpTo n (alter f r l)
+  unfolding alter
+  upto-alter f n r [] h u = upto-putRow n r (f none) [] h tt
+  upto-alter f n r (x ∷ xs) h u =
+      by-cases (eqb r (x .key))
+      (λ e. rw e (upto-putRow n r (f (some (x .val))) xs h (u .1)))
+      (λ e. by-cases (ltb r (x .key))
+      (λ t. rw (e, t) (upto-putRow n r (f none) (x ∷ xs) h u))
+      (λ t. rw (e, t) (u .0, upto-alter f n r xs h (u .1))))
+
+  pub upto-merge : (n : ℕ) (l m : Rows Val) → UpTo n l → UpTo n m → UpTo n (merge l m)
+  unfolding merge
+  upto-merge n [] m u v = v
+  upto-merge n (x ∷ xs) m u v = upto-merge n xs (insert (x .key) (x .val) m) (u .1) (upto-alter (λ _. some (x .val)) n (x .key) m (u .0) v)
+
+pub one-if-false : (b : Bool) → one-if b ≡ 0 → b ≡ false
+one-if-false true e = absurd (omega arith)
+one-if-false false e = refl
+
+pub one-le : (b : Bool) → one-if b ≤ 1
+one-le true = omega arith
+one-le false = omega arith
+
+pub both-swap : (a b : Bool) → both a b ≡ both b a
+unfolding both
+both-swap true true = refl
+both-swap true false = refl
+both-swap false true = refl
+both-swap false false = refl
+
+pub both-true : (a : Bool) → both a true ≡ a
+unfolding both
+both-true true = refl
+both-true false = refl
+
+pub both-false : (a : Bool) → both a false ≡ false
+unfolding both
+both-false true = refl
+both-false false = refl
+
+-- one of two parts, and a further test
+pub both-parts : (a b c f : Bool) → one-if a ≡ one-if b + one-if c → one-if (both a f) ≡ one-if (both b f) + one-if (both c f)
+both-parts a b c true h = omega (arith, h, ap one-if (both-true a), ap one-if (both-true b), ap one-if (both-true c))
+both-parts a b c false h = omega (arith, ap one-if (both-false a), ap one-if (both-false b), ap one-if (both-false c))
+
+one-found : {Val : Type 0} (r : ℕ) (x : Option Val) → countFound (λ _ _. 1) r x ≡ one-if (isSome x)
+one-found r none = refl
+one-found r (some v) = refl
+
+-- a row for each key at which one is found
+pub length-rows : {Val : Type 0} (n : ℕ) (l : Rows Val) → Rising 0 l → UpTo n l → length l ≡ sumTo (suc n) (λ r. one-if (isSome (find l r)))
+length-rows n l a u =
+    omega (
+      arith,
+      sum-const 1 l,
+      sum-rows (λ _ _. 1) 0 n l a u,
+      sumTo-ext (suc n) (λ r. countFound (λ _ _. 1) r (find l r)) (λ r. one-if (isSome (find l r))) (λ r _. one-found r (find l r)),
+    )
+
+-- ---- places
+
+same-refl : (p : Place) → samePlace p p ≡ true
+same-refl p = both-intro (eq-eqb (p .east) (p .east) refl) (eq-eqb (p .north) (p .north) refl)
+
+same-true : (p q : Place) → samePlace p q ≡ true → p ≡ q
+same-true p q e = λ i. record {
+  east = eqb-true (p .east) (q .east) (both-left (eqb (p .east) (q .east)) (eqb (p .north) (q .north)) e) i;
+  north = eqb-true (p .north) (q .north) (both-right (eqb (p .east) (q .east)) (eqb (p .north) (q .north)) e) i;
+}
+
+-- ---- one radio's entries: those that its line tells to be stale, the live ones, all
+
+abbrev staleC : Option Line → ℕ → Cell → ℕ
+staleC o r c = countIf (staleBy o) (find (c .entries) r)
+
+abbrev liveC : Option Line → ℕ → Cell → ℕ
+liveC o r c = countIf (λ p. not (staleBy o p)) (find (c .entries) r)
+
+abbrev heldC : ℕ → Cell → ℕ
+heldC r c = countIf (λ _. true) (find (c .entries) r)
+
+count-split : (t : Place → Bool) (x : Option Place) → countIf (λ p. not (t p)) x + countIf t x ≡ countIf (λ _. true) x
+count-split t none = refl
+count-split t (some p) = by-cases (t p) (λ e. rw e) (λ e. rw e)
+
+-- every count of a step is this, before and after
+live-stale : (o : Option Line) (r : ℕ) (cells : List Cell) → sumBy (liveC o r) cells + sumBy (staleC o r) cells ≡ sumBy (heldC r) cells
+live-stale o r cells = sym (sum-add (liveC o r) (staleC o r) cells) ∙ sum-ext (λ c. liveC o r c + staleC o r c) (heldC r) cells (λ c. count-split (staleBy o) (find (c .entries) r))
+
+judged-by : {o u : Option Line} (p : Place) → u ≡ o → staleBy u p ≡ staleBy o p
+judged-by p e = ap (λ o. staleBy o p) e
+
+count-passed : (t : Place → Bool) (u : Row Place → Bool) (r : ℕ) (x : Option Place) → countIf t (passed u r x) + countIf t (passed (λ e. not (u e)) r x) ≡ countIf t x
+count-passed t u r none = refl
+count-passed t u r (some p) = by-cases (u (record { key = r; val = p })) (λ e. rw e (omega arith)) (λ e. rw e (omega arith))
+
+count-zero : (t : Place → Bool) (x : Option Place) (p : Place) → countIf t x ≡ 0 → x ≡ some p → t p ≡ false
+count-zero t x p z e = one-if-false (t p) (sym (ap (countIf t) e) ∙ z)
+
+-- two tests that judge the entry alike count alike
+count-same : (t u : Place → Bool) (x : Option Place) → ((p : Place) → x ≡ some p → t p ≡ u p) → countIf t x ≡ countIf u x
+count-same t u none h = refl
+count-same t u (some p) h = ap one-if (h p refl)
+
+held-found : (x : Option Place) → countIf (λ _. true) x ≡ one-if (isSome x)
+held-found none = refl
+held-found (some p) = refl
+
+-- the books of one radio, by its line, its mark and whether it is on
+record Book (cells : List Cell) (r : ℕ) (o : Option Line) (n b : Bool) : Type 0 where
+  counted : sumBy (staleC o r) cells ≡ missedOf o
+  present : sumBy (liveC o r) cells + one-if n ≡ one-if b
+
+module _ {cells : List Cell} {memo : Rows Line} {new on : ℕ → Bool} where
+  book-of : Books cells memo new on → (r : ℕ) → Book cells r (find memo r) (new r) (on r)
+  unfolding staleR liveOf
+  book-of b r = record { counted = b .counted r; present = b .present r }
+
+  books-from : Each Rowed cells → ((p : Place) → sumBy (λ c. one-if (inside (c .edges) p)) cells ≤ 1) → Rising 0 memo → UpTo maxRadio memo →
+      ((r : ℕ) (l : Line) → find memo r ≡ some l → (1 ≤ l .missed) × InSquareIf (l .last)) → ((r : ℕ) → Book cells r (find memo r) (new r) (on r)) → Books cells memo new on
+  unfolding staleR liveOf
+  books-from rowed apart rises radios lines book = record {
+    cells-rowed = rowed;
+    apart = apart;
+    memo-rises = rises;
+    memo-radios = radios;
+    lines = lines;
+    counted = λ r. book r .counted;
+    present = λ r. book r .present;
+  }
+
+-- the first cell may change where the radio's entry stays
+book-other : {d e : Cell} {rest : List Cell} {r : ℕ} {o : Option Line} {n b : Bool} → find (e .entries) r ≡ find (d .entries) r → Book (d ∷ rest) r o n b → Book (e ∷ rest) r o n b
+unfolding sumBy
+book-other {d} {e} {rest} {r} {o} {n} {b} same k = record {
+  counted = omega (arith, k .counted, ap (countIf (staleBy o)) same);
+  present = omega (arith, k .present, ap (countIf (λ p. not (staleBy o p))) same);
+}
+
+-- ---- the same cells in another order, or with other numbers and chains; the same marks
+
+-- cells with the same sums
+pub books-order : {cells cells′ : List Cell} {memo : Rows Line} {new on : ℕ → Bool} → Each Rowed cells′ → ((f : Cell → ℕ) → sumBy f cells′ ≡ sumBy f cells)
+    → Books cells memo new on → Books cells′ memo new on
+books-order {memo = memo} rowed same b =
+    books-from rowed (λ p. omega (arith, b .apart p, same (λ c. one-if (inside (c .edges) p)))) (b .memo-rises) (b .memo-radios) (b .lines)
+    (λ r. let k = book-of b r in record {
+      counted = same (staleC (find memo r) r) ∙ k .counted;
+      present = omega (arith, k .present, same (liveC (find memo r) r));
+    })
+
+pub books-front : {memo : Rows Line} {new on : ℕ → Bool} (xs : List Cell) (d : Cell) (ys : List Cell) → Books (xs ++ (d ∷ ys)) memo new on → Books (d ∷ (xs ++ ys)) memo new on
+unfolding sumBy
+books-front xs d ys b =
+    let e = each-split Rowed xs (d ∷ ys) (b .cells-rowed) in
+    books-order (e .1 .0, each-append Rowed xs ys (e .0) (e .1 .1)) (λ f. omega (arith, sum-append f xs (d ∷ ys), sum-append f xs ys)) b
+
+pub books-append : {memo : Rows Line} {new on : ℕ → Bool} (xs ys : List Cell) → Books (xs ++ ys) memo new on → Books (ys ++ xs) memo new on
+books-append xs ys b =
+    let e = each-split Rowed xs ys (b .cells-rowed) in
+    books-order (each-append Rowed ys xs (e .1) (e .0)) (λ f. omega (arith, sum-append f xs ys, sum-append f ys xs)) b
+
+pub books-back : {memo : Rows Line} {new on : ℕ → Bool} (d : Cell) (rest : List Cell) → Books (d ∷ rest) memo new on → Books (rest ++ (d ∷ [])) memo new on
+books-back d rest b = books-append (d ∷ []) rest b
+
+pub books-back2 : {memo : Rows Line} {new on : ℕ → Bool} (a d : Cell) (rest : List Cell) → Books (a ∷ d ∷ rest) memo new on → Books (rest ++ (a ∷ d ∷ [])) memo new on
+books-back2 a d rest b = books-append (a ∷ d ∷ []) rest b
+
+pub books-swap : {memo : Rows Line} {new on : ℕ → Bool} (a d : Cell) (rest : List Cell) → Books (a ∷ d ∷ rest) memo new on → Books (d ∷ a ∷ rest) memo new on
+books-swap a d rest b = books-front (a ∷ []) d rest b
+
+rowed-same : (d e : Cell) → e .edges ≡ d .edges → e .entries ≡ d .entries → Rowed d → Rowed e
+rowed-same d e edges entries k = record {
+  rising = subst (λ (l : Rows Place). Rising 0 l) (sym entries) (k .rising);
+  radios = subst (λ (l : Rows Place). UpTo maxRadio l) (sym entries) (k .radios);
+  placed =
+      subst (λ (l : Rows Place). Each (λ x. inside (e .edges) (x .val) ≡ true) l) (sym entries)
+      (subst (λ (a : Rect). Each (λ x. inside a (x .val) ≡ true) (d .entries)) (sym edges) (k .placed));
+}
+
+-- a first cell with other number or chain
+pub books-same : {memo : Rows Line} {new on : ℕ → Bool} (d e : Cell) (rest : List Cell) → e .edges ≡ d .edges → e .entries ≡ d .entries → Books (d ∷ rest) memo new on → Books (e ∷ rest) memo new on
+unfolding sumBy
+books-same d e rest edges entries b =
+    books-from (rowed-same d e edges entries (b .cells-rowed .0), b .cells-rowed .1)
+    (λ p. omega (arith, b .apart p, ap (λ (a : Rect). one-if (inside a p)) edges)) (b .memo-rises) (b .memo-radios) (b .lines)
+    (λ r. book-other (ap (λ (l : Rows Place). find l r) entries) (book-of b r))
+
+pub books-ext : {cells : List Cell} {memo : Rows Line} {new new′ on on′ : ℕ → Bool} → ((r : ℕ) → new r ≡ new′ r) → ((r : ℕ) → on r ≡ on′ r) → Books cells memo new on → Books cells memo new′ on′
+books-ext h k b =
+    books-from (b .cells-rowed) (b .apart) (b .memo-rises) (b .memo-radios) (b .lines)
+    (λ r. let a = book-of b r in record { counted = a .counted; present = omega (arith, a .present, ap one-if (h r), ap one-if (k r)) })
+
+-- ---- clean cells
+
+clean-find : (memo : Rows Line) (c : Cell) → Rowed c → ((r : ℕ) (p : Place) → find (c .entries) r ≡ some p → staleBy (find memo r) p ≡ false) → Clean memo c
+unfolding staleIn
+clean-find memo c k h = sum-zero-find (λ e. one-if (stale memo e)) 0 (c .entries) (k .rising) (λ r p e. ap one-if (h r p e))
+
+find-clean : (memo : Rows Line) (c : Cell) → Rowed c → Clean memo c → (r : ℕ) (p : Place) → find (c .entries) r ≡ some p → staleBy (find memo r) p ≡ false
+unfolding staleIn
+find-clean memo c k clean r p e =
+    each-find (λ r p. staleBy (find memo r) p ≡ false) r p (c .entries)
+    (each-map _ _ (c .entries) (λ x z. one-if-false (stale memo x) z) (sum-zero-each (λ e. one-if (stale memo e)) (c .entries) clean)) e
+
+clean-count : (memo : Rows Line) (c : Cell) → Rowed c → Clean memo c → (r : ℕ) → staleC (find memo r) r c ≡ 0
+clean-count memo c k clean r =
+    option-cases (find (c .entries) r) (λ e. ap (countIf (staleBy (find memo r))) e) (λ p e. ap (countIf (staleBy (find memo r))) e ∙ ap one-if (find-clean memo c k clean r p e))
+
+-- two memos that judge a cell's entries alike
+abbrev Judges : Rows Line → Rows Line → Cell → Type 0
+Judges memo memo′ c = (r : ℕ) (p : Place) → find (c .entries) r ≡ some p → staleBy (find memo′ r) p ≡ staleBy (find memo r) p
+
+judged-stale : (memo memo′ : Rows Line) (c : Cell) → Rowed c → Judges memo memo′ c → staleIn memo′ c ≡ staleIn memo c
+unfolding staleIn
+judged-stale memo memo′ c k h =
+    sum-each (λ e. one-if (stale memo′ e)) (λ e. one-if (stale memo e)) (c .entries)
+    (find-each (λ r p. one-if (staleBy (find memo′ r) p) ≡ one-if (staleBy (find memo r) p)) 0 (c .entries) (k .rising) (λ r p e. ap one-if (h r p e)))
+
+-- ---- sweep
+
+-- a line is lowered where an entry goes
+abbrev lowIf : Option Place → Option Line → Option Line
+lowIf none o = o
+lowIf (some p) o = lowered o
+
+find-lowerEach : (r b : ℕ) (es : Rows Place) (memo : Rows Line) → Rising b es → Rising 0 memo → find (lowerEach es memo) r ≡ lowIf (find es r) (find memo r)
+unfolding lowerEach find
+find-lowerEach r b [] memo a m = refl
+find-lowerEach r b (e ∷ es) memo a m =
+    let pos : 0 < e .key = omega arith in
+    let ih = find-lowerEach r (e .key) es (alter lowered (e .key) memo) (a .1) (rising-alter lowered 0 (e .key) memo pos m) in
+    by-cases (eqb r (e .key))
+    (λ t. rw (t, ih, find-below r (e .key) es (let z = eqb-true r (e .key) t in omega arith) (a .1), find-alter lowered 0 (e .key) r memo pos m, t))
+    (λ t. rw (t, ih, find-alter lowered 0 (e .key) r memo pos m, t))
+
+rising-lowerEach : (b : ℕ) (es : Rows Place) (memo : Rows Line) → Rising b es → Rising 0 memo → Rising 0 (lowerEach es memo)
+unfolding lowerEach
+rising-lowerEach b [] memo a m = m
+rising-lowerEach b (e ∷ es) memo a m = rising-lowerEach (e .key) es (alter lowered (e .key) memo) (a .1) (rising-alter lowered 0 (e .key) memo (omega arith) m)
+
+upto-lowerEach : (n : ℕ) (es : Rows Place) (memo : Rows Line) → UpTo n es → UpTo n memo → UpTo n (lowerEach es memo)
+unfolding lowerEach
+upto-lowerEach n [] memo u v = v
+upto-lowerEach n (e ∷ es) memo u v = upto-lowerEach n es (alter lowered (e .key) memo) (u .1) (upto-alter lowered n (e .key) memo (u .0) v)
+
+lowered-line : (o : Option Line) (l : Line) → ((m : Line) → o ≡ some m → InSquareIf (m .last)) → lowered o ≡ some l → (1 ≤ l .missed) × InSquareIf (l .last)
+lowered-line none l h = λ e. let z : _≡_ {A = ℕ} 0 1 = cc in absurd (omega arith)
+lowered-line (some m) l h =
+    by-cases (ltb 1 (m .missed))
+    (λ t. rw t (λ e. let q : _≡_ {A = Line} (record { missed = m .missed - 1; last = m .last }) l = cc in
+    (let a = ap (λ (x : Line). x .missed) q in omega (arith, ltb-true), subst (λ (x : Line). InSquareIf (x .last)) q (h m refl))))
+    (λ t. rw t (λ e. let z : _≡_ {A = ℕ} 0 1 = cc in absurd (omega arith)))
+
+lowered-missed : (o : Option Line) → 1 ≤ missedOf o → missedOf (lowered o) + 1 ≡ missedOf o
+lowered-missed none = λ h. absurd (omega arith)
+lowered-missed (some l) = λ h. by-cases (ltb 1 (l .missed)) (λ t. rw t (omega (arith, ltb-true))) (λ t. rw t (omega (arith, ltb-false)))
+
+-- a line that is lowered and not dropped judges as before; one that is dropped was the last
+lowered-judges : (o : Option Line) (p : Place) → (missedOf o ≤ 1 → staleBy o p ≡ false) → staleBy (lowered o) p ≡ staleBy o p
+lowered-judges none p h = refl
+lowered-judges (some l) p h = by-cases (ltb 1 (l .missed)) (λ t. rw t) (λ t. rw t (sym (h (omega (arith, ltb-false)))))
+
+find-sweptMemo : (memo : Rows Line) (es : Rows Place) → Rising 0 memo → Rising 0 es → (r : ℕ) → find (sweptMemo memo es) r ≡ lowIf (passed (stale memo) r (find es r)) (find memo r)
+unfolding sweptMemo
+find-sweptMemo memo es m a r =
+    find-lowerEach r 0 (filter (stale memo) es) memo (rising-filter (stale memo) 0 es a) m ∙ ap (λ o. lowIf o (find memo r)) (find-filter (stale memo) 0 r es a)
+
+find-swept : (memo : Rows Line) (d : Cell) → Rising 0 (d .entries) → (r : ℕ) → find (swept memo d .entries) r ≡ passed (λ e. not (stale memo e)) r (find (d .entries) r)
+unfolding swept sweptEntries
+find-swept memo d a r = find-filter (λ e. not (stale memo e)) 0 r (d .entries) a
+
+rowed-swept : (memo : Rows Line) (d : Cell) → Rowed d → Rowed (swept memo d)
+unfolding swept sweptEntries
+rowed-swept memo d k = record {
+  rising = rising-filter (λ e. not (stale memo e)) 0 (d .entries) (k .rising);
+  radios = each-filter _ _ (λ e. not (stale memo e)) (d .entries) (λ x h _. h) (k .radios);
+  placed = each-filter _ _ (λ e. not (stale memo e)) (d .entries) (λ x h _. h) (k .placed);
+}
+
+module _ {memo : Rows Line} {new on : ℕ → Bool} (d : Cell) (rest : List Cell) (b : Books (d ∷ rest) memo new on) where
+  -- the three ways of a radio in the swept cell: no entry, a live one, a stale one
+  swept-lacks : (r : ℕ) → find (d .entries) r ≡ none → (find (swept memo d .entries) r ≡ none) × (find (sweptMemo memo (d .entries)) r ≡ find memo r)
+  swept-lacks r e = (rw (find-swept memo d (b .cells-rowed .0 .rising) r, e), rw (find-sweptMemo memo (d .entries) (b .memo-rises) (b .cells-rowed .0 .rising) r, e))
+
+  swept-keeps : (r : ℕ) (p : Place) → find (d .entries) r ≡ some p → staleBy (find memo r) p ≡ false
+      → (find (swept memo d .entries) r ≡ some p) × (find (sweptMemo memo (d .entries)) r ≡ find memo r)
+  swept-keeps r p e t =
+      (rw (find-swept memo d (b .cells-rowed .0 .rising) r, e, t), rw (find-sweptMemo memo (d .entries) (b .memo-rises) (b .cells-rowed .0 .rising) r, e, t))
+
+  swept-drops : (r : ℕ) (p : Place) → find (d .entries) r ≡ some p → staleBy (find memo r) p ≡ true
+      → (find (swept memo d .entries) r ≡ none) × (find (sweptMemo memo (d .entries)) r ≡ lowered (find memo r))
+  swept-drops r p e t =
+      (rw (find-swept memo d (b .cells-rowed .0 .rising) r, e, t), rw (find-sweptMemo memo (d .entries) (b .memo-rises) (b .cells-rowed .0 .rising) r, e, t))
+
+  -- the entry that goes is one of those that the line counts
+  swept-missed : (r : ℕ) (p : Place) → find (d .entries) r ≡ some p → staleBy (find memo r) p ≡ true → sumBy (staleC (find memo r) r) rest + 1 ≡ missedOf (find memo r)
+  unfolding sumBy
+  swept-missed r p e t = omega (arith, book-of b r .counted, ap (countIf (staleBy (find memo r))) e, ap one-if t)
+
+  swept-judges-at : (r : ℕ) → Each (λ c. (p : Place) → find (c .entries) r ≡ some p → staleBy (find (sweptMemo memo (d .entries)) r) p ≡ staleBy (find memo r) p) rest
+  swept-judges-at r =
+      option-cases (find (d .entries) r)
+      (λ e. each-every _ rest (λ c p _. judged-by p (swept-lacks r e .1)))
+      (λ v e. by-cases (staleBy (find memo r) v)
+      (λ t. each-map _ _ rest
+      (λ c h p f. judged-by p (swept-drops r v e t .1) ∙ lowered-judges (find memo r) p (λ m. count-zero (staleBy (find memo r)) (find (c .entries) r) p (h m) f))
+      (each-for (λ (m : missedOf (find memo r) ≤ 1) c. staleC (find memo r) r c ≡ 0) rest (λ m. sum-zero-each (staleC (find memo r) r) rest (omega (arith, swept-missed r v e t)))))
+      (λ t. each-every _ rest (λ c p _. judged-by p (swept-keeps r v e t .1))))
+
+  -- the other cells' entries are judged as before
+  swept-judges : Each (Judges memo (sweptMemo memo (d .entries))) rest
+  swept-judges = each-for _ rest swept-judges-at
+
+  swept-stale : (r : ℕ) → sumBy (staleC (find (sweptMemo memo (d .entries)) r) r) rest ≡ sumBy (staleC (find memo r) r) rest
+  swept-stale r =
+      let o = find memo r in
+      let u = find (sweptMemo memo (d .entries)) r in
+      sum-each (staleC u r) (staleC o r) rest (each-map _ _ rest (λ c h. count-same (staleBy u) (staleBy o) (find (c .entries) r) h) (swept-judges-at r))
+
+  swept-live : (r : ℕ) → sumBy (liveC (find (sweptMemo memo (d .entries)) r) r) rest ≡ sumBy (liveC (find memo r) r) rest
+  swept-live r =
+      let o = find memo r in
+      let u = find (sweptMemo memo (d .entries)) r in
+      sum-each (liveC u r) (liveC o r) rest
+      (each-map _ _ rest (λ c h. count-same (λ p. not (staleBy u p)) (λ p. not (staleBy o p)) (find (c .entries) r) (λ p e. ap not (h p e))) (swept-judges-at r))
+
+  -- nothing stale is left of the radio, what is live stays, and the line counts one less for what goes
+  swept-first : (r : ℕ) → (staleC (find (sweptMemo memo (d .entries)) r) r (swept memo d) ≡ 0)
+      × (liveC (find (sweptMemo memo (d .entries)) r) r (swept memo d) ≡ liveC (find memo r) r d)
+      × (missedOf (find (sweptMemo memo (d .entries)) r) + staleC (find memo r) r d ≡ missedOf (find memo r))
+  swept-first r =
+      let o = find memo r in
+      let u = find (sweptMemo memo (d .entries)) r in
+      option-cases (find (d .entries) r)
+      (λ e. let n = swept-lacks r e in (
+        ap (countIf (staleBy u)) (n .0),
+        ap (countIf (λ p. not (staleBy u p))) (n .0) ∙ sym (ap (countIf (λ p. not (staleBy o p))) e),
+        omega (arith, ap missedOf (n .1), ap (countIf (staleBy o)) e),
+      ))
+      (λ v e. by-cases (staleBy o v)
+      (λ t. let n = swept-drops r v e t in (
+        ap (countIf (staleBy u)) (n .0),
+        ap (countIf (λ p. not (staleBy u p))) (n .0) ∙ sym (ap (countIf (λ p. not (staleBy o p))) e ∙ ap (λ a. one-if (not a)) t),
+        omega (arith, ap missedOf (n .1), ap (countIf (staleBy o)) e, ap one-if t, lowered-missed o (omega (arith, swept-missed r v e t))),
+      ))
+      (λ t. let n = swept-keeps r v e t in
+      let same = judged-by v (n .1) in (
+        ap (countIf (staleBy u)) (n .0) ∙ ap one-if (same ∙ t),
+        ap (countIf (λ p. not (staleBy u p))) (n .0) ∙ ap (λ a. one-if (not a)) same ∙ sym (ap (countIf (λ p. not (staleBy o p))) e),
+        omega (arith, ap missedOf (n .1), ap (countIf (staleBy o)) e, ap one-if t),
+      )))
+
+  swept-book : (r : ℕ) → Book (swept memo d ∷ rest) r (find (sweptMemo memo (d .entries)) r) (new r) (on r)
+  unfolding sumBy
+  swept-book r =
+      let first = swept-first r in
+      record {
+        counted = omega (arith, book-of b r .counted, first .0, first .2, swept-stale r);
+        present = omega (arith, book-of b r .present, first .1, swept-live r);
+      }
+
+  swept-lines : (r : ℕ) (l : Line) → find (sweptMemo memo (d .entries)) r ≡ some l → (1 ≤ l .missed) × InSquareIf (l .last)
+  swept-lines r l g =
+      option-cases (find (d .entries) r)
+      (λ e. b .lines r l (sym (swept-lacks r e .1) ∙ g))
+      (λ v e. by-cases (staleBy (find memo r) v)
+      (λ t. lowered-line (find memo r) l (λ m f. b .lines r m f .1) (sym (swept-drops r v e t .1) ∙ g))
+      (λ t. b .lines r l (sym (swept-keeps r v e t .1) ∙ g)))
+
+  swept-apart : (p : Place) → sumBy (λ c. one-if (inside (c .edges) p)) (swept memo d ∷ rest) ≤ 1
+  unfolding sumBy swept
+  swept-apart p = b .apart p
+
+  swept-rises : Rising 0 (sweptMemo memo (d .entries))
+  unfolding sweptMemo
+  swept-rises = rising-lowerEach 0 (filter (stale memo) (d .entries)) memo (rising-filter (stale memo) 0 (d .entries) (b .cells-rowed .0 .rising)) (b .memo-rises)
+
+  swept-radios : UpTo maxRadio (sweptMemo memo (d .entries))
+  unfolding sweptMemo
+  swept-radios = upto-lowerEach maxRadio (filter (stale memo) (d .entries)) memo (each-filter _ _ (stale memo) (d .entries) (λ x h _. h) (b .cells-rowed .0 .radios)) (b .memo-radios)
+
+  pub books-sweep : Books (swept memo d ∷ rest) (sweptMemo memo (d .entries)) new on
+  books-sweep = books-from (rowed-swept memo d (b .cells-rowed .0), b .cells-rowed .1) swept-apart swept-rises swept-radios swept-lines swept-book
+
+  pub clean-swept : Clean (sweptMemo memo (d .entries)) (swept memo d)
+  clean-swept =
+      clean-find (sweptMemo memo (d .entries)) (swept memo d) (rowed-swept memo d (b .cells-rowed .0))
+      (λ r p e. count-zero (staleBy (find (sweptMemo memo (d .entries)) r)) (find (swept memo d .entries) r) p (swept-first r .0) e)
+
+  -- no other cell's stale entries change
+  pub stale-sweep : Each (λ c. staleIn (sweptMemo memo (d .entries)) c ≡ staleIn memo c) rest
+  stale-sweep = each-zip _ _ _ rest (λ c k h. judged-stale memo (sweptMemo memo (d .entries)) c k h) (b .cells-rowed .1) swept-judges
+
+  pub stale-sweep-sum : (j : ℕ) → sumBy (staleIn (sweptMemo memo (d .entries))) (drop j rest) ≡ sumBy (staleIn memo) (drop j rest)
+  stale-sweep-sum j = sum-each (staleIn (sweptMemo memo (d .entries))) (staleIn memo) (drop j rest) (each-drop _ j rest stale-sweep)
+
+-- ---- one memo line changes
+
+found-stale : (memo : Rows Line) (r : ℕ) (x : Option Place) → countFound (λ q p. one-if (staleBy (find memo q) p)) r x ≡ countIf (staleBy (find memo r)) x
+found-stale memo r none = refl
+found-stale memo r (some p) = refl
+
+-- memos that differ at one radio: the stale entries of that radio make all the difference
+stale-line : (memo memo′ : Rows Line) (r : ℕ) (c : Cell) → Rowed c → ((q : ℕ) → (q ≡ r → ⊥) → find memo′ q ≡ find memo q)
+    → staleIn memo′ c + staleC (find memo r) r c ≡ staleIn memo c + staleC (find memo′ r) r c
+unfolding staleIn
+stale-line memo memo′ r c k h =
+    omega (
+      arith,
+      sum-key (λ e. one-if (stale memo′ e)) (λ e. one-if (stale memo e)) 0 r (c .entries) (λ e n. ap one-if (judged-by (e .val) (h (e .key) n))) (k .rising),
+      found-stale memo r (find (c .entries) r),
+      found-stale memo′ r (find (c .entries) r),
+    )
+
+stale-lines : (memo memo′ : Rows Line) (r : ℕ) (cells : List Cell) → Each Rowed cells → ((q : ℕ) → (q ≡ r → ⊥) → find memo′ q ≡ find memo q)
+    → sumBy (staleIn memo′) cells + sumBy (staleC (find memo r) r) cells ≡ sumBy (staleIn memo) cells + sumBy (staleC (find memo′ r) r) cells
+unfolding sumBy
+stale-lines memo memo′ r [] k h = refl
+stale-lines memo memo′ r (c ∷ cs) k h = omega (arith, stale-line memo memo′ r c (k .0) h, stale-lines memo memo′ r cs (k .1) h)
+
+-- no more become stale than were live
+stale-grows : (memo memo′ : Rows Line) (r : ℕ) (cells : List Cell) → Each Rowed cells → ((q : ℕ) → (q ≡ r → ⊥) → find memo′ q ≡ find memo q)
+    → (j : ℕ) → sumBy (staleIn memo′) (drop j cells) ≤ sumBy (staleIn memo) (drop j cells) + sumBy (liveC (find memo r) r) cells
+stale-grows memo memo′ r cells k h j =
+    omega (
+      arith,
+      stale-lines memo memo′ r (drop j cells) (each-drop Rowed j cells k) h,
+      live-stale (find memo r) r (drop j cells),
+      live-stale (find memo′ r) r (drop j cells),
+      sum-drop-le (liveC (find memo r) r) j cells,
+    )
+
+other-line : (f : Option Line → Option Line) (r : ℕ) (memo : Rows Line) → 0 < r → Rising 0 memo → (q : ℕ) → (q ≡ r → ⊥) → find (alter f r memo) q ≡ find memo q
+other-line f r memo pos m q n = rw (find-alter f 0 r q memo pos m, ne-eqb q r n)
+
+same-line : (f : Option Line → Option Line) (r : ℕ) (memo : Rows Line) → 0 < r → Rising 0 memo → find (alter f r memo) r ≡ f (find memo r)
+same-line f r memo pos m = rw (find-alter f 0 r r memo pos m, eq-eqb r r refl)
+
+-- lines of a memo that changes at one radio
+altered-lines : (f : Option Line → Option Line) (r : ℕ) (memo : Rows Line) → 0 < r → Rising 0 memo → ((q : ℕ) (l : Line) → find memo q ≡ some l → (1 ≤ l .missed) × InSquareIf (l .last))
+    → ((l : Line) → f (find memo r) ≡ some l → (1 ≤ l .missed) × InSquareIf (l .last)) → (q : ℕ) (l : Line) → find (alter f r memo) q ≡ some l → (1 ≤ l .missed) × InSquareIf (l .last)
+altered-lines f r memo pos m lines at q l e =
+    by-cases (eqb q r)
+    (λ t. at l (sym (same-line f r memo pos m) ∙ ap (find (alter f r memo)) (sym (eqb-true q r t)) ∙ e))
+    (λ t. lines q l (sym (other-line f r memo pos m q (eqb-false q r t)) ∙ e))
+
+-- ---- a report is entered
+
+placed-line : (p : Option Place) (o : Option Line) (l : Line) → InSquareIf p → ((m : Line) → o ≡ some m → 1 ≤ m .missed) → placed p o ≡ some l → (1 ≤ l .missed) × InSquareIf (l .last)
+placed-line p none l s h = λ e. let z : _≡_ {A = ℕ} 0 1 = cc in absurd (omega arith)
+placed-line p (some m) l s h = λ e. let q : _≡_ {A = Line} (record { missed = m .missed; last = p }) l = cc in
+    subst (λ (x : Line). (1 ≤ x .missed) × InSquareIf (x .last)) q (h m refl, s)
+
+raised-line : (p : Option Place) (o : Option Line) (l : Line) → InSquareIf p → raised p o ≡ some l → (1 ≤ l .missed) × InSquareIf (l .last)
+raised-line p none l s = λ e. let q : _≡_ {A = Line} (record { missed = 1; last = p }) l = cc in
+    subst (λ (x : Line). (1 ≤ x .missed) × InSquareIf (x .last)) q (omega arith, s)
+raised-line p (some m) l s = λ e. let q : _≡_ {A = Line} (record { missed = m .missed + 1; last = p }) l = cc in
+    subst (λ (x : Line). (1 ≤ x .missed) × InSquareIf (x .last)) q (omega arith, s)
+
+entered-line : (f n : Bool) (p : Place) (o : Option Line) (l : Line) → InSquare p → ((m : Line) → o ≡ some m → 1 ≤ m .missed) → entered f n p o ≡ some l → (1 ≤ l .missed) × InSquareIf (l .last)
+entered-line true n p o l s h = placed-line (some p) o l s h
+entered-line false true p o l s h = placed-line (some p) o l s h
+entered-line false false p o l s h = raised-line (some p) o l s
+
+placed-missed : (p : Option Place) (o : Option Line) → missedOf (placed p o) ≡ missedOf o
+placed-missed p none = refl
+placed-missed p (some l) = refl
+
+raised-missed : (p : Option Place) (o : Option Line) → missedOf (raised p o) ≡ missedOf o + 1
+raised-missed p none = refl
+raised-missed p (some l) = refl
+
+-- one more is missed exactly where no entry was found and the report isn't new
+entered-missed : (f n : Bool) (p : Place) (o : Option Line) → one-if f + one-if n ≤ 1 → missedOf (entered f n p o) + (one-if f + one-if n) ≡ missedOf o + 1
+entered-missed true true p o h = absurd (omega arith)
+entered-missed true false p o h = omega (arith, placed-missed (some p) o)
+entered-missed false true p o h = omega (arith, placed-missed (some p) o)
+entered-missed false false p o h = omega (arith, raised-missed (some p) o)
+
+-- a line, if any, has the place
+abbrev At : Place → Option Line → Type 0
+At p none = Unit {0}
+At p (some l) = l .last ≡ some p
+
+placed-at : (p : Place) (o : Option Line) → At p (placed (some p) o)
+placed-at p none = tt
+placed-at p (some l) = refl
+
+raised-at : (p : Place) (o : Option Line) → At p (raised (some p) o)
+raised-at p none = refl
+raised-at p (some l) = refl
+
+entered-at : (f n : Bool) (p : Place) (o : Option Line) → At p (entered f n p o)
+entered-at true n p o = placed-at p o
+entered-at false true p o = placed-at p o
+entered-at false false p o = raised-at p o
+
+-- at that place nothing is stale
+at-live : (p : Place) (o : Option Line) → At p o → staleBy o p ≡ false
+at-live p none h = refl
+at-live p (some l) h = ap (λ q. not (isAt q p)) h ∙ ap not (same-refl p)
+
+-- no entry of a cell is at a place outside it
+away : (c : Cell) (p : Place) → Rowed c → inside (c .edges) p ≡ false → (r : ℕ) (v : Place) → find (c .entries) r ≡ some v → samePlace p v ≡ false
+away c p k h r v e =
+    by-cases (samePlace p v)
+    (λ t. let z = ap (inside (c .edges)) (same-true p v t) in let y = each-find (λ _ v. inside (c .edges) v ≡ true) r v (c .entries) (k .placed) e in cc)
+    (λ t. t)
+
+-- so all entries outside are stale by a line with the place
+away-stale : (o : Option Line) (p : Place) (r : ℕ) (c : Cell) → At p o → 1 ≤ missedOf o → Rowed c → inside (c .edges) p ≡ false → staleC o r c ≡ heldC r c
+away-stale none p r c h m k i = absurd (omega arith)
+away-stale (some l) p r c h m k i =
+    count-same (staleBy (some l)) (λ _. true) (find (c .entries) r) (λ v e. ap (λ q. not (isAt q v)) h ∙ ap not (away c p k i r v e))
+
+-- the cell with other entries
+abbrev pub withEntries : Rows Place → Cell → Cell
+withEntries es d = record { number = d .number; edges = d .edges; chain = d .chain; entries = es }
+
+-- radio r, on, reports the place p, which lies in d; d is clean, and n is the mark
+module _ {memo : Rows Line} {new on : ℕ → Bool} (d : Cell) (rest : List Cell) (b : Books (d ∷ rest) memo new on) (clean : Clean memo d) (r : ℕ) (p : Place) (n : Bool)
+    (pos : 0 < r) (top : r ≤ maxRadio) (here : inside (d .edges) p ≡ true) (square : InSquare p) (mark : new r ≡ n) (is-on : on r ≡ true) where
+  -- what becomes of a line of r, the line then, and d's entries then
+  abbrev lineThen : Option Line → Option Line
+  lineThen = entered (isSome (find (d .entries) r)) n p
+
+  abbrev lineNow : Option Line
+  lineNow = lineThen (find memo r)
+
+  abbrev entriesThen : Rows Place
+  entriesThen = insert r p (d .entries)
+
+  entry-same : find entriesThen r ≡ some p
+  entry-same = rw (find-alter (λ _. some p) 0 r r (d .entries) pos (b .cells-rowed .0 .rising), eq-eqb r r refl)
+
+  entry-other : (q : ℕ) → eqb q r ≡ false → find entriesThen q ≡ find (d .entries) q
+  entry-other q t = rw (find-alter (λ _. some p) 0 r q (d .entries) pos (b .cells-rowed .0 .rising), t)
+
+  -- an entry is the new one, or was there
+  entry-cases : {P : Type 0} (q : ℕ) (v : Place) → find entriesThen q ≡ some v → (eqb q r ≡ true → p ≡ v → P) → (eqb q r ≡ false → find (d .entries) q ≡ some v → P) → P
+  entry-cases q v e f g =
+      by-cases (eqb q r)
+      (λ t. let z : p ≡ v = cc (entry-same, ap (find entriesThen) (eqb-true q r t)) in f t z)
+      (λ t. g t (sym (entry-other q t) ∙ e))
+
+  memo-same : find (alter lineThen r memo) r ≡ lineNow
+  memo-same = same-line lineThen r memo pos (b .memo-rises)
+
+  memo-other : (q : ℕ) → (q ≡ r → ⊥) → find (alter lineThen r memo) q ≡ find memo q
+  memo-other = other-line lineThen r memo pos (b .memo-rises)
+
+  outside : Each (λ c. inside (c .edges) p ≡ false) rest
+  unfolding sumBy
+  outside = each-map _ _ rest (λ c. one-if-false (inside (c .edges) p)) (sum-zero-each (λ c. one-if (inside (c .edges) p)) rest (omega (arith, b .apart p, ap one-if here)))
+
+  -- the entries elsewhere are what the line is to count: they were stale, and so was all that is missed, but for a live one if d has none and the mark is off
+  held-elsewhere : sumBy (heldC r) rest ≡ missedOf lineNow
+  unfolding sumBy
+  held-elsewhere =
+      let o = find memo r in
+      let k = book-of b r in
+      let first = count-split (staleBy o) (find (d .entries) r) in
+      let none-stale = clean-count memo d (b .cells-rowed .0) clean r in
+      let found = held-found (find (d .entries) r) in
+      let marked = ap one-if mark in
+      let signed = ap one-if is-on in
+      omega (arith, k .counted, k .present, live-stale o r rest, entered-missed (isSome (find (d .entries) r)) n p o (omega (arith, k .present)))
+
+  at-place : At p lineNow
+  at-place = entered-at (isSome (find (d .entries) r)) n p (find memo r)
+
+  stale-elsewhere : sumBy (staleC lineNow r) rest ≡ sumBy (heldC r) rest
+  stale-elsewhere =
+      by-cases (ltb 0 (missedOf lineNow))
+      (λ t. sum-each (staleC lineNow r) (heldC r) rest
+      (each-zip _ _ _ rest (λ c k i. away-stale lineNow p r c at-place (ltb-true 0 (missedOf lineNow) t) k i) (b .cells-rowed .1) outside))
+      (λ t. omega (arith, held-elsewhere, live-stale lineNow r rest, ltb-false 0 (missedOf lineNow) t))
+
+  live-here : staleBy lineNow p ≡ false
+  live-here = at-live p lineNow at-place
+
+  entered-book : Book (withEntries entriesThen d ∷ rest) r lineNow false (on r)
+  unfolding sumBy
+  entered-book =
+      let o = lineNow in
+      record {
+        counted = omega (arith, held-elsewhere, stale-elsewhere, ap (countIf (staleBy o)) entry-same, ap one-if live-here);
+        present = omega (arith, stale-elsewhere, live-stale o r rest, ap (countIf (λ v. not (staleBy o v))) entry-same, ap (λ a. one-if (not a)) live-here, ap one-if is-on);
+      }
+
+  entered-books-at : (q : ℕ) → Book (withEntries entriesThen d ∷ rest) q (find (alter lineThen r memo) q) (putAt r false new q) (on q)
+  entered-books-at q =
+      by-cases (eqb q r)
+      (λ t. rw (t, eqb-true q r t, memo-same) entered-book)
+      (λ t. rw (t, memo-other q (eqb-false q r t)) (book-other (entry-other q t) (book-of b q)))
+
+  entered-rowed : Rowed (withEntries entriesThen d)
+  entered-rowed =
+      let k = b .cells-rowed .0 in
+      record {
+        rising = rising-alter (λ _. some p) 0 r (d .entries) pos (k .rising);
+        radios = upto-alter (λ _. some p) maxRadio r (d .entries) top (k .radios);
+        placed = find-each (λ _ v. inside (d .edges) v ≡ true) 0 entriesThen (rising-alter (λ _. some p) 0 r (d .entries) pos (k .rising)) (λ q v e. entry-cases q v e
+            (λ _ z. rw (← z) here)
+            (λ _ f. each-find (λ _ v. inside (d .edges) v ≡ true) q v (d .entries) (k .placed) f));
+      }
+
+  entered-books : Books (withEntries entriesThen d ∷ rest) (alter lineThen r memo) (putAt r false new) on
+  unfolding sumBy
+  entered-books =
+      books-from (entered-rowed, b .cells-rowed .1) (λ v. b .apart v) (rising-alter lineThen 0 r memo pos (b .memo-rises)) (upto-alter lineThen maxRadio r memo top (b .memo-radios))
+      (altered-lines lineThen r memo pos (b .memo-rises) (b .lines)
+      (λ l e. entered-line (isSome (find (d .entries) r)) n p (find memo r) l square (λ m f. b .lines r m f .0) e))
+      entered-books-at
+
+  entered-clean : Clean (alter lineThen r memo) (withEntries entriesThen d)
+  entered-clean = clean-find (alter lineThen r memo) (withEntries entriesThen d) entered-rowed (λ q v e. entry-cases q v e
+      (λ t z. judged-by v (ap (find (alter lineThen r memo)) (eqb-true q r t) ∙ memo-same) ∙ ap (staleBy lineNow) (sym z) ∙ live-here)
+      (λ t f. judged-by v (memo-other q (eqb-false q r t)) ∙ find-clean memo d (b .cells-rowed .0) clean q v f))
+
+  entered-stale : (j : ℕ) → sumBy (staleIn (alter lineThen r memo)) (drop j rest) ≤ sumBy (staleIn memo) (drop j rest) + 1
+  unfolding sumBy
+  entered-stale j = omega (arith, stale-grows memo (alter lineThen r memo) r rest (b .cells-rowed .1) memo-other j, book-of b r .present, ap one-if is-on)
+
+-- what is asked of a report that goes into a cell with these edges
+pub record Enters (edges : Rect) (new on : ℕ → Bool) (w : Row Report) : Type 0 where
+  pub radio : w .key ≤ maxRadio
+  pub here : inside edges (w .val .place) ≡ true
+  pub square : InSquare (w .val .place)
+  pub marked : new (w .key) ≡ w .val .new
+  pub signed : on (w .key) ≡ true
+
+-- a cell's entries and the memo, to begin with
+abbrev pub workOf : Rows Line → Cell → Work
+workOf memo d = record { entries = d .entries; memo = memo }
+
+-- no mark is left where a report went in
+abbrev pub marksWithout : Rows Report → (ℕ → Bool) → ℕ → Bool
+marksWithout ws new q = cond (isSome (find ws q)) false (new q)
+
+module _ {memo : Rows Line} {new on : ℕ → Bool} (d : Cell) (rest : List Cell) (b : Books (d ∷ rest) memo new on) (clean : Clean memo d)
+    (w : Row Report) (pos : 0 < w .key) (e : Enters (d .edges) new on w) where
+  pub books-enter : Books (withEntries (enter w (workOf memo d) .entries) d ∷ rest) (enter w (workOf memo d) .memo) (putAt (w .key) false new) on
+  unfolding enter
+  books-enter = entered-books d rest b clean (w .key) (w .val .place) (w .val .new) pos (e .radio) (e .here) (e .square) (e .marked) (e .signed)
+
+  pub clean-enter : Clean (enter w (workOf memo d) .memo) (withEntries (enter w (workOf memo d) .entries) d)
+  unfolding enter
+  clean-enter = entered-clean d rest b clean (w .key) (w .val .place) (w .val .new) pos (e .radio) (e .here) (e .square) (e .marked) (e .signed)
+
+  pub stale-enter : (j : ℕ) → sumBy (staleIn (enter w (workOf memo d) .memo)) (drop j rest) ≤ sumBy (staleIn memo) (drop j rest) + 1
+  unfolding enter
+  stale-enter = entered-stale d rest b clean (w .key) (w .val .place) (w .val .new) pos (e .radio) (e .here) (e .square) (e .marked) (e .signed)
+
+-- ---- reports are entered one by one
+
+-- what holds then: k is the work done, w reports went in
+record Entered (d : Cell) (rest : List Cell) (memo : Rows Line) (new on : ℕ → Bool) (k : Work) (w : ℕ) : Type 0 where
+  books : Books (withEntries (k .entries) d ∷ rest) (k .memo) new on
+  clean : Clean (k .memo) (withEntries (k .entries) d)
+  stale : (j : ℕ) → sumBy (staleIn (k .memo)) (drop j rest) ≤ sumBy (staleIn memo) (drop j rest) + w
+
+enters-after : (r : ℕ) (edges : Rect) (new on : ℕ → Bool) (w : Row Report) → Enters edges new on w → r < w .key → Enters edges (putAt r false new) on w
+enters-after r edges new on w e h = record {
+  radio = e .radio;
+  here = e .here;
+  square = e .square;
+  marked = rw (ne-eqb (w .key) r (omega arith)) (e .marked);
+  signed = e .signed;
+}
+
+marks-after : (w : Row Report) (ws : Rows Report) (new : ℕ → Bool) (q : ℕ) → marksWithout ws (putAt (w .key) false new) q ≡ marksWithout (w ∷ ws) new q
+unfolding find
+marks-after w ws new q = by-cases (eqb q (w .key)) (λ t. rw t (by-cases (isSome (find ws q)) (λ u. rw u) (λ u. rw u))) (λ t. rw t)
+
+enters-each : {memo : Rows Line} {new on : ℕ → Bool} (d : Cell) (rest : List Cell) → Books (d ∷ rest) memo new on → Clean memo d → (a : ℕ) (ws : Rows Report) → Rising a ws
+    → Each (Enters (d .edges) new on) ws → Entered d rest memo (marksWithout ws new) on (enterEach ws (workOf memo d)) (length ws)
+unfolding enterEach find
+enters-each d rest b clean a [] r e = record { books = b; clean = clean; stale = λ j. omega arith }
+enters-each {memo} {new} {on} d rest b clean a (w ∷ ws) r e =
+    let pos : 0 < w .key = omega arith in
+    let k = enter w (workOf memo d) in
+    let ih = enters-each (withEntries (k .entries) d) rest (books-enter d rest b clean w pos (e .0)) (clean-enter d rest b clean w pos (e .0)) (w .key) ws (r .1)
+    (each-zip _ _ _ ws (λ x f h. enters-after (w .key) (d .edges) new on x f h) (e .1) (rising-above (w .key) ws (r .1))) in
+    record {
+      books = books-ext (marks-after w ws new) (λ _. refl) (ih .books);
+      clean = ih .clean;
+      stale = λ j. omega (arith, ih .stale j, stale-enter d rest b clean w pos (e .0) j);
+    }
+
+module _ {memo : Rows Line} {new on : ℕ → Bool} (d : Cell) (rest : List Cell) (b : Books (d ∷ rest) memo new on) (clean : Clean memo d)
+    (a : ℕ) (ws : Rows Report) (rises : Rising a ws) (enters : Each (Enters (d .edges) new on) ws) where
+  pub books-enterEach : Books (withEntries (enterEach ws (workOf memo d) .entries) d ∷ rest) (enterEach ws (workOf memo d) .memo) (marksWithout ws new) on
+  books-enterEach = enters-each d rest b clean a ws rises enters .books
+
+  pub clean-enterEach : Clean (enterEach ws (workOf memo d) .memo) (withEntries (enterEach ws (workOf memo d) .entries) d)
+  clean-enterEach = enters-each d rest b clean a ws rises enters .clean
+
+  pub stale-enterEach : (j : ℕ) → sumBy (staleIn (enterEach ws (workOf memo d) .memo)) (drop j rest) ≤ sumBy (staleIn memo) (drop j rest) + length ws
+  stale-enterEach = enters-each d rest b clean a ws rises enters .stale
+
+-- ---- sign-on
+
+pub books-on : {cells : List Cell} {memo : Rows Line} {new on : ℕ → Bool} (r : ℕ) → on r ≡ false → Books cells memo new on → Books cells memo (putAt r true new) (putAt r true on)
+books-on {cells} {memo} {new} {on} r off b =
+    books-from (b .cells-rowed) (b .apart) (b .memo-rises) (b .memo-radios) (b .lines)
+    (λ q. let k = book-of b q in by-cases (eqb q r)
+    (λ t. let z : on q ≡ false = ap on (eqb-true q r t) ∙ off in rw t (record { counted = k .counted; present = omega (arith, k .present, ap one-if z) }))
+    (λ t. rw t k))
+
+-- ---- sign-off
+
+raised-stale : (o : Option Line) (p : Place) → staleBy (raised none o) p ≡ true
+raised-stale none p = refl
+raised-stale (some l) p = refl
+
+module _ {cells : List Cell} {memo : Rows Line} {new on : ℕ → Bool} (r : ℕ) (pos : 0 < r) (top : r ≤ maxRadio) (is-on : on r ≡ true) (b : Books cells memo new on) where
+  -- without a mark the live entry becomes stale, as all others are
+  off-book : new r ≡ false → Book cells r (raised none (find memo r)) false false
+  off-book t =
+      let o = find memo r in
+      let k = book-of b r in
+      let all-stale : sumBy (staleC (raised none o) r) cells ≡ sumBy (heldC r) cells =
+      sum-ext (staleC (raised none o) r) (heldC r) cells (λ c. count-same (staleBy (raised none o)) (λ _. true) (find (c .entries) r) (λ p _. raised-stale o p)) in
+      record {
+        counted = omega (arith, k .counted, k .present, live-stale o r cells, raised-missed none o, ap one-if t, ap one-if is-on);
+        present = omega (arith, live-stale (raised none o) r cells);
+      }
+
+  off-marked : new r ≡ true → Books cells memo (putAt r false new) (putAt r false on)
+  off-marked u =
+      books-from (b .cells-rowed) (b .apart) (b .memo-rises) (b .memo-radios) (b .lines)
+      (λ q. let k = book-of b q in by-cases (eqb q r)
+      (λ t. let z = eqb-true q r t in
+      let marked : new q ≡ true = ap new z ∙ u in
+      let signed : on q ≡ true = ap on z ∙ is-on in
+      rw t (record { counted = k .counted; present = omega (arith, k .present, ap one-if marked, ap one-if signed) }))
+      (λ t. rw t k))
+
+  off-unmarked : new r ≡ false → Books cells (alter (raised none) r memo) (putAt r false new) (putAt r false on)
+  off-unmarked u =
+      books-from (b .cells-rowed) (b .apart) (rising-alter (raised none) 0 r memo pos (b .memo-rises)) (upto-alter (raised none) maxRadio r memo top (b .memo-radios))
+      (altered-lines (raised none) r memo pos (b .memo-rises) (b .lines) (λ l e. raised-line none (find memo r) l tt e))
+      (λ q. by-cases (eqb q r)
+      (λ t. rw (t, eqb-true q r t, same-line (raised none) r memo pos (b .memo-rises)) (off-book u))
+      (λ t. rw (t, other-line (raised none) r memo pos (b .memo-rises) q (eqb-false q r t)) (book-of b q)))
+
+  pub books-off : Books cells (cond (new r) memo (alter (raised none) r memo)) (putAt r false new) (putAt r false on)
+  books-off = by-cases (new r) (λ u. rw u (off-marked u)) (λ u. rw u (off-unmarked u))
+
+  pub stale-off : (j : ℕ) → sumBy (staleIn (cond (new r) memo (alter (raised none) r memo))) (drop j cells) ≤ sumBy (staleIn memo) (drop j cells) + one-if (not (new r))
+  stale-off j =
+      by-cases (new r)
+      (λ u. rw u (omega arith))
+      (λ u. rw u (omega (arith, stale-grows memo (alter (raised none) r memo) r cells (b .cells-rowed) (other-line (raised none) r memo pos (b .memo-rises)) j, book-of b r .present, ap one-if is-on)))
+
+-- ---- split
+
+-- a rectangle holds a place, by the two directions
+inside-along : (a : Axis) (e : Rect) (p : Place) → inside e p ≡ both (within (spanOf a e) (along a p)) (within (spanOf (across a) e) (along (across a) p))
+inside-along eastward e p = refl
+inside-along northward e p = both-swap (within (e .easts) (p .east)) (within (e .norths) (p .north))
+
+inside-withSpan : (a : Axis) (s : Span) (e : Rect) (p : Place) → inside (withSpan a s e) p ≡ both (within s (along a p)) (within (spanOf (across a) e) (along (across a) p))
+inside-withSpan eastward s e p = refl
+inside-withSpan northward s e p = both-swap (within (e .easts) (p .east)) (within s (p .north))
+
+abbrev lowSpan : ℕ → Span → Span
+lowSpan c s = record { low = s .low; high = c - 1 }
+
+abbrev highSpan : ℕ → Span → Span
+highSpan c s = record { low = c; high = s .high }
+
+within-bounds : (s : Span) (x : ℕ) → within s x ≡ true → (s .low ≤ x) × (x ≤ s .high)
+within-bounds s x h = (leb-true (s .low) x (both-left (leb (s .low) x) (leb x (s .high)) h), leb-true x (s .high) (both-right (leb (s .low) x) (leb x (s .high)) h))
+
+bounds-within : (s : Span) (x : ℕ) → s .low ≤ x → x ≤ s .high → within s x ≡ true
+bounds-within s x h k = both-intro (le-leb (s .low) x h) (le-leb x (s .high) k)
+
+span-cut : (s : Span) (c x : ℕ) → s .low < c → c ≤ s .high → one-if (within s x) ≡ one-if (within (lowSpan c s) x) + one-if (within (highSpan c s) x)
+unfolding both
+span-cut s c x h k =
+    by-cases (leb c x)
+    (λ e. let g = leb-true c x e in rw (e, le-leb (s .low) x (omega arith), lt-leb x (c - 1) (omega arith)) (omega arith))
+    (λ e. let g = leb-false c x e in rw (e, le-leb x (c - 1) (omega arith), le-leb x (s .high) (omega arith)) (omega arith))
+
+module _ (c : Cut) (n : ℕ) (d : Cell) (cuts : through (spanOf (c .axis) (d .edges)) (c .at) ≡ true) where
+  -- each place of the cell lies in one of the two
+  pub inside-cut : (p : Place) → one-if (inside (d .edges) p) ≡ one-if (inside (lowCell c d .edges) p) + one-if (inside (highCell c n d .edges) p)
+  unfolding lowCell highCell
+  inside-cut p =
+      let s = spanOf (c .axis) (d .edges) in
+      let x = along (c .axis) p in
+      let f = within (spanOf (across (c .axis)) (d .edges)) (along (across (c .axis)) p) in
+      let h : s .low < c .at = ltb-true (s .low) (c .at) (both-left (ltb (s .low) (c .at)) (leb (c .at) (s .high)) cuts) in
+      let k : c .at ≤ s .high = leb-true (c .at) (s .high) (both-right (ltb (s .low) (c .at)) (leb (c .at) (s .high)) cuts) in
+      omega (
+        arith,
+        both-parts (within s x) (within (lowSpan (c .at) s) x) (within (highSpan (c .at) s) x) f (span-cut s (c .at) x h k),
+        ap one-if (inside-along (c .axis) (d .edges) p),
+        ap one-if (inside-withSpan (c .axis) (lowSpan (c .at) s) (d .edges) p),
+        ap one-if (inside-withSpan (c .axis) (highSpan (c .at) s) (d .edges) p),
+      )
+
+  -- a place of the cell lies on its side of the cut
+  inside-low : (p : Place) → inside (d .edges) p ≡ true → ltb (along (c .axis) p) (c .at) ≡ true → inside (lowCell c d .edges) p ≡ true
+  unfolding lowCell
+  inside-low p h t =
+      let s = spanOf (c .axis) (d .edges) in
+      let x = along (c .axis) p in
+      let f = within (spanOf (across (c .axis)) (d .edges)) (along (across (c .axis)) p) in
+      let i = sym (inside-along (c .axis) (d .edges) p) ∙ h in
+      let w = within-bounds s x (both-left (within s x) f i) in
+      inside-withSpan (c .axis) (lowSpan (c .at) s) (d .edges) p
+      ∙ both-intro (bounds-within (lowSpan (c .at) s) x (w .0) (omega (arith, ltb-true x (c .at) t))) (both-right (within s x) f i)
+
+  inside-high : (p : Place) → inside (d .edges) p ≡ true → ltb (along (c .axis) p) (c .at) ≡ false → inside (highCell c n d .edges) p ≡ true
+  unfolding highCell
+  inside-high p h t =
+      let s = spanOf (c .axis) (d .edges) in
+      let x = along (c .axis) p in
+      let f = within (spanOf (across (c .axis)) (d .edges)) (along (across (c .axis)) p) in
+      let i = sym (inside-along (c .axis) (d .edges) p) ∙ h in
+      let w = within-bounds s x (both-left (within s x) f i) in
+      inside-withSpan (c .axis) (highSpan (c .at) s) (d .edges) p
+      ∙ both-intro (bounds-within (highSpan (c .at) s) x (omega (arith, ltb-false x (c .at) t)) (w .1)) (both-right (within s x) f i)
+
+  rowed-low : Rowed d → Rowed (lowCell c d)
+  unfolding lowCell
+  rowed-low k = record {
+    rising = rising-filter (lowSide c) 0 (d .entries) (k .rising);
+    radios = each-filter _ _ (lowSide c) (d .entries) (λ x h _. h) (k .radios);
+    placed = each-filter _ _ (lowSide c) (d .entries) (λ x h t. inside-low (x .val) h t) (k .placed);
+  }
+
+  rowed-high : Rowed d → Rowed (highCell c n d)
+  unfolding highCell
+  rowed-high k = record {
+    rising = rising-filter (λ e. not (lowSide c e)) 0 (d .entries) (k .rising);
+    radios = each-filter _ _ (λ e. not (lowSide c e)) (d .entries) (λ x h _. h) (k .radios);
+    placed = each-filter _ _ (λ e. not (lowSide c e)) (d .entries) (λ x h t. inside-high (x .val) h (not-true (lowSide c x) t)) (k .placed);
+  }
+
+  count-cut : (t : Place → Bool) (r : ℕ) → Rising 0 (d .entries) → countIf t (find (lowCell c d .entries) r) + countIf t (find (highCell c n d .entries) r) ≡ countIf t (find (d .entries) r)
+  unfolding lowCell highCell
+  count-cut t r a =
+      omega (
+        arith,
+        count-passed t (lowSide c) r (find (d .entries) r),
+        ap (countIf t) (find-filter (lowSide c) 0 r (d .entries) a),
+        ap (countIf t) (find-filter (λ e. not (lowSide c e)) 0 r (d .entries) a),
+      )
+
+  pub books-split : {memo : Rows Line} {new on : ℕ → Bool} (rest : List Cell) → Books (d ∷ rest) memo new on → Books (lowCell c d ∷ highCell c n d ∷ rest) memo new on
+  unfolding sumBy
+  books-split {memo} rest b =
+      let k = b .cells-rowed .0 in
+      books-from (rowed-low k, (rowed-high k, b .cells-rowed .1)) (λ p. omega (arith, b .apart p, inside-cut p)) (b .memo-rises) (b .memo-radios) (b .lines)
+      (λ r. record {
+        counted = omega (arith, book-of b r .counted, count-cut (staleBy (find memo r)) r (k .rising));
+        present = omega (arith, book-of b r .present, count-cut (λ p. not (staleBy (find memo r) p)) r (k .rising));
+      })
+
+-- no stale entry comes or goes
+pub stale-split : (c : Cut) (n : ℕ) (d : Cell) (memo : Rows Line) → staleIn memo (lowCell c d) + staleIn memo (highCell c n d) ≡ staleIn memo d
+unfolding staleIn lowCell highCell
+stale-split c n d memo = sum-filter (λ e. one-if (stale memo e)) (lowSide c) (d .entries)
+
+pub clean-low : (c : Cut) (d : Cell) (memo : Rows Line) → Clean memo d → Clean memo (lowCell c d)
+clean-low c d memo h = omega (arith, stale-split c 0 d memo)
+
+pub clean-high : (c : Cut) (n : ℕ) (d : Cell) (memo : Rows Line) → Clean memo d → Clean memo (highCell c n d)
+clean-high c n d memo h = omega (arith, stale-split c n d memo)
+
+-- ---- join
+
+hull-left : (s t : Span) (x : ℕ) → within s x ≡ true → within (hull s t) x ≡ true
+hull-left s t x h = let w = within-bounds s x h in bounds-within (hull s t) x (omega arith) (omega arith)
+
+hull-right : (s t : Span) (x : ℕ) → within t x ≡ true → within (hull s t) x ≡ true
+hull-right s t x h = let w = within-bounds t x h in bounds-within (hull s t) x (omega arith) (omega arith)
+
+-- spans without a gap hold what lies from end to end
+hull-touch : {P : Type 0} (s t : Span) (x : ℕ) → touch s t ≡ true → within (hull s t) x ≡ true → (within s x ≡ true → P) → (within t x ≡ true → P) → P
+hull-touch s t x h i f g =
+    let w = within-bounds (hull s t) x i in
+    either-cases (eqb (s .high + 1) (t .low)) (eqb (t .high + 1) (s .low)) h
+    (λ e. let z = eqb-true (s .high + 1) (t .low) e in by-cases (leb x (s .high))
+    (λ u. let y = leb-true x (s .high) u in f (bounds-within s x (omega arith) (omega arith)))
+    (λ u. let y = leb-false x (s .high) u in g (bounds-within t x (omega arith) (omega arith))))
+    (λ e. let z = eqb-true (t .high + 1) (s .low) e in by-cases (leb x (t .high))
+    (λ u. let y = leb-true x (t .high) u in g (bounds-within t x (omega arith) (omega arith)))
+    (λ u. let y = leb-false x (t .high) u in f (bounds-within s x (omega arith) (omega arith))))
+
+hull-same : (s t : Span) (x : ℕ) → sameSpan s t ≡ true → within (hull s t) x ≡ true → (within s x ≡ true) × (within t x ≡ true)
+hull-same s t x h i =
+    let w = within-bounds (hull s t) x i in
+    let l = eqb-true (s .low) (t .low) (both-left (eqb (s .low) (t .low)) (eqb (s .high) (t .high)) h) in
+    let u = eqb-true (s .high) (t .high) (both-right (eqb (s .low) (t .low)) (eqb (s .high) (t .high)) h) in
+    (bounds-within s x (omega arith) (omega arith), bounds-within t x (omega arith) (omega arith))
+
+inside-parts : (e : Rect) (p : Place) → inside e p ≡ true → (within (e .easts) (p .east) ≡ true) × (within (e .norths) (p .north) ≡ true)
+inside-parts e p h = (both-left (within (e .easts) (p .east)) (within (e .norths) (p .north)) h, both-right (within (e .easts) (p .east)) (within (e .norths) (p .north)) h)
+
+inside-joined-left : (a n : Rect) (p : Place) → inside a p ≡ true → inside (joinedEdges a n) p ≡ true
+inside-joined-left a n p h = let i = inside-parts a p h in both-intro (hull-left (a .easts) (n .easts) (p .east) (i .0)) (hull-left (a .norths) (n .norths) (p .north) (i .1))
+
+inside-joined-right : (a n : Rect) (p : Place) → inside n p ≡ true → inside (joinedEdges a n) p ≡ true
+inside-joined-right a n p h = let i = inside-parts n p h in both-intro (hull-right (a .easts) (n .easts) (p .east) (i .0)) (hull-right (a .norths) (n .norths) (p .north) (i .1))
+
+-- a place of the two together lies in one of them
+inside-joined : {P : Type 0} (a n : Rect) (p : Place) → beside a n ≡ true → inside (joinedEdges a n) p ≡ true → (inside a p ≡ true → P) → (inside n p ≡ true → P) → P
+unfolding beside
+inside-joined a n p h i f g =
+    let j = inside-parts (joinedEdges a n) p i in
+    let te = touch (a .easts) (n .easts) in
+    let sn = sameSpan (a .norths) (n .norths) in
+    let tn = touch (a .norths) (n .norths) in
+    let se = sameSpan (a .easts) (n .easts) in
+    either-cases (both te sn) (both tn se) h
+    (λ t. let y = hull-same (a .norths) (n .norths) (p .north) (both-right te sn t) (j .1) in
+    hull-touch (a .easts) (n .easts) (p .east) (both-left te sn t) (j .0) (λ x. f (both-intro x (y .0))) (λ x. g (both-intro x (y .1))))
+    (λ t. let y = hull-same (a .easts) (n .easts) (p .east) (both-right tn se t) (j .0) in
+    hull-touch (a .norths) (n .norths) (p .north) (both-left tn se t) (j .1) (λ x. f (both-intro (y .0) x)) (λ x. g (both-intro (y .1) x)))
+
+pub inside-joined-le : (a n : Rect) (p : Place) → beside a n ≡ true → one-if (inside (joinedEdges a n) p) ≤ one-if (inside a p) + one-if (inside n p)
+inside-joined-le a n p h =
+    by-cases (inside (joinedEdges a n) p)
+    (λ t. inside-joined a n p h t (λ x. omega (arith, ap one-if t, ap one-if x)) (λ x. omega (arith, ap one-if t, ap one-if x)))
+    (λ t. omega (arith, ap one-if t))
+
+-- two cells made one
+abbrev pub joinedCell : ℕ → List ℕ → Cell → Cell → Cell
+joinedCell k chain d n = record { number = k; edges = joinedEdges (d .edges) (n .edges); chain = chain; entries = merge (n .entries) (d .entries) }
+
+count-orElse : (t : Place → Bool) (x y : Option Place) → countIf (λ _. true) x + countIf (λ _. true) y ≤ 1 → countIf t (orElse x y) ≡ countIf t x + countIf t y
+count-orElse t none y h = omega arith
+count-orElse t (some p) none h = omega arith
+count-orElse t (some p) (some q) h = absurd (omega arith)
+
+found-orElse : {P : Type 0} (x y : Option Place) (v : Place) → orElse x y ≡ some v → (x ≡ some v → P) → (y ≡ some v → P) → P
+found-orElse none y v e f g = g e
+found-orElse (some p) y v e f g = f e
+
+module _ {memo : Rows Line} {new on : ℕ → Bool} (k : ℕ) (chain : List ℕ) (d n : Cell) (rest : List Cell) (b : Books (d ∷ n ∷ rest) memo new on)
+    (clean-d : Clean memo d) (clean-n : Clean memo n) (adjoin : beside (d .edges) (n .edges) ≡ true) where
+  find-joined : (r : ℕ) → find (merge (n .entries) (d .entries)) r ≡ orElse (find (n .entries) r) (find (d .entries) r)
+  find-joined r = find-merge 0 r (n .entries) (d .entries) (b .cells-rowed .1 .0 .rising) (b .cells-rowed .0 .rising)
+
+  -- both are clean, so an entry in each would be two live ones
+  one-held : (r : ℕ) → heldC r n + heldC r d ≤ 1
+  unfolding sumBy
+  one-held r =
+      let o = find memo r in
+      let c = clean-count memo d (b .cells-rowed .0) clean-d r in
+      let e = clean-count memo n (b .cells-rowed .1 .0) clean-n r in
+      omega (arith, book-of b r .present, one-le (on r), count-split (staleBy o) (find (d .entries) r), count-split (staleBy o) (find (n .entries) r))
+
+  count-joined : (t : Place → Bool) (r : ℕ) → countIf t (find (merge (n .entries) (d .entries)) r) ≡ countIf t (find (n .entries) r) + countIf t (find (d .entries) r)
+  count-joined t r = ap (countIf t) (find-joined r) ∙ count-orElse t (find (n .entries) r) (find (d .entries) r) (one-held r)
+
+  rowed-joined : Rowed (joinedCell k chain d n)
+  rowed-joined =
+      let x = b .cells-rowed .0 in
+      let y = b .cells-rowed .1 .0 in
+      let rises = rising-merge 0 (n .entries) (d .entries) (y .rising) (x .rising) in
+      record {
+        rising = rises;
+        radios = upto-merge maxRadio (n .entries) (d .entries) (y .radios) (x .radios);
+        placed = find-each (λ _ p. inside (joinedEdges (d .edges) (n .edges)) p ≡ true) 0 (merge (n .entries) (d .entries)) rises
+            (λ r p e. found-orElse (find (n .entries) r) (find (d .entries) r) p (sym (find-joined r) ∙ e)
+            (λ f. inside-joined-right (d .edges) (n .edges) p (each-find (λ _ p. inside (n .edges) p ≡ true) r p (n .entries) (y .placed) f))
+            (λ f. inside-joined-left (d .edges) (n .edges) p (each-find (λ _ p. inside (d .edges) p ≡ true) r p (d .entries) (x .placed) f)));
+      }
+
+  pub books-join : Books (joinedCell k chain d n ∷ rest) memo new on
+  unfolding sumBy
+  books-join =
+      books-from (rowed-joined, b .cells-rowed .1 .1) (λ p. omega (arith, b .apart p, inside-joined-le (d .edges) (n .edges) p adjoin)) (b .memo-rises) (b .memo-radios) (b .lines)
+      (λ r. record {
+        counted = omega (arith, book-of b r .counted, count-joined (staleBy (find memo r)) r);
+        present = omega (arith, book-of b r .present, count-joined (λ p. not (staleBy (find memo r) p)) r);
+      })
+
+  pub clean-join : Clean memo (joinedCell k chain d n)
+  clean-join =
+      clean-find memo (joinedCell k chain d n) rowed-joined (λ r p e. found-orElse (find (n .entries) r) (find (d .entries) r) p (sym (find-joined r) ∙ e)
+      (find-clean memo n (b .cells-rowed .1 .0) clean-n r p)
+      (find-clean memo d (b .cells-rowed .0) clean-d r p))
+
+-- ---- the marks and who is on, as the store's rows have them (for books-ext)
+
+pub marks-signedOn : (r : ℕ) (p : Place) (waiting : Rows Report) → 0 < r → Rising 0 waiting → (q : ℕ) → putAt r true (marks waiting) q ≡ marks (insert r (record { place = p; new = true }) waiting) q
+marks-signedOn r p waiting pos a q =
+    rw (find-alter (λ _. some (record { place = p; new = true })) 0 r q waiting pos a) (by-cases (eqb q r) (λ t. rw t) (λ t. rw t))
+
+pub marks-reported : (r : ℕ) (p : Place) (waiting : Rows Report) → 0 < r → Rising 0 waiting → (q : ℕ)
+    → marks waiting q ≡ marks (alter (λ w. some (record { place = p; new = wasNew w })) r waiting) q
+marks-reported r p waiting pos a q =
+    rw (find-alter (λ w. some (record { place = p; new = wasNew w })) 0 r q waiting pos a) (by-cases (eqb q r) (λ t. rw t) (λ t. rw t))
+
+pub marks-signedOff : (r : ℕ) (waiting : Rows Report) → 0 < r → Rising 0 waiting → (q : ℕ) → putAt r false (marks waiting) q ≡ marks (alter (λ _. none) r waiting) q
+marks-signedOff r waiting pos a q = rw (find-alter (λ _. none) 0 r q waiting pos a) (by-cases (eqb q r) (λ t. rw t) (λ t. rw t))
+
+pub on-signedOn : (r : ℕ) (rows : Rows (Unit {0})) → 0 < r → Rising 0 rows → (q : ℕ) → putAt r true (onSet rows) q ≡ onSet (insert r tt rows) q
+on-signedOn r rows pos a q = rw (find-alter (λ _. some tt) 0 r q rows pos a) (by-cases (eqb q r) (λ t. rw t) (λ t. rw t))
+
+pub on-signedOff : (r : ℕ) (rows : Rows (Unit {0})) → 0 < r → Rising 0 rows → (q : ℕ) → putAt r false (onSet rows) q ≡ onSet (alter (λ _. none) r rows) q
+on-signedOff r rows pos a q = rw (find-alter (λ _. none) 0 r q rows pos a) (by-cases (eqb q r) (λ t. rw t) (λ t. rw t))
+
+-- the reports that pass go in, the others wait on
+pub marks-flushed : (t : Row Report → Bool) (waiting : Rows Report) → Rising 0 waiting → (q : ℕ) → marksWithout (filter t waiting) (marks waiting) q ≡ marks (filter (λ w. not (t w)) waiting) q
+marks-flushed t waiting a q = rw (find-filter t 0 q waiting a, find-filter (λ w. not (t w)) 0 q waiting a) (left t q (find waiting q))
+  where
+    left : (t : Row Report → Bool) (q : ℕ) (x : Option Report) → cond (isSome (passed t q x)) false (wasNew x) ≡ wasNew (passed (λ w. not (t w)) q x)
+    left t q none = refl
+    left t q (some w) = by-cases (t (record { key = q; val = w })) (λ e. rw e) (λ e. rw e)
+
+-- ---- totals
+
+-- a cell's stale entries and its entries, radio by radio
+stale-radios : (memo : Rows Line) (n : ℕ) (c : Cell) → Rising 0 (c .entries) → UpTo n (c .entries) → staleIn memo c ≡ sumTo (suc n) (λ r. staleC (find memo r) r c)
+unfolding staleIn
+stale-radios memo n c a u =
+    sum-rows (λ r p. one-if (staleBy (find memo r) p)) 0 n (c .entries) a u
+    ∙ sumTo-ext (suc n) (λ r. countFound (λ q p. one-if (staleBy (find memo q) p)) r (find (c .entries) r)) (λ r. staleC (find memo r) r c) (λ r _. found-stale memo r (find (c .entries) r))
+
+length-radios : (n : ℕ) (c : Cell) → Rising 0 (c .entries) → UpTo n (c .entries) → length (c .entries) ≡ sumTo (suc n) (λ r. heldC r c)
+length-radios n c a u = length-rows n (c .entries) a u ∙ sumTo-ext (suc n) (λ r. one-if (isSome (find (c .entries) r))) (λ r. heldC r c) (λ r _. sym (held-found (find (c .entries) r)))
+
+module _ {cells : List Cell} {memo : Rows Line} {new on : ℕ → Bool} (b : Books cells memo new on) where
+  stale-total : sumBy (staleIn memo) cells ≡ sumTo (suc maxRadio) (λ r. sumBy (staleC (find memo r) r) cells)
+  stale-total =
+      sum-each (staleIn memo) (λ c. sumTo (suc maxRadio) (λ r. staleC (find memo r) r c)) cells (each-map _ _ cells (λ c k. stale-radios memo maxRadio c (k .rising) (k .radios)) (b .cells-rowed))
+      ∙ sym (sumTo-sumBy (suc maxRadio) (λ r. staleC (find memo r) r) cells)
+
+  held-total : sumBy (λ c. length (c .entries)) cells ≡ sumTo (suc maxRadio) (λ r. sumBy (heldC r) cells)
+  held-total =
+      sum-each (λ c. length (c .entries)) (λ c. sumTo (suc maxRadio) (λ r. heldC r c)) cells (each-map _ _ cells (λ c k. length-radios maxRadio c (k .rising) (k .radios)) (b .cells-rowed))
+      ∙ sym (sumTo-sumBy (suc maxRadio) heldC cells)
+
+  line-missed : (r : ℕ) → one-if (isSome (find memo r)) ≤ missedOf (find memo r)
+  line-missed r = option-cases (find memo r) (λ e. rw e (omega arith)) (λ l e. rw e (b .lines r l e .0))
+
+  -- each line counts a stale entry or more
+  pub memo-total : length memo ≤ sumBy (staleIn memo) cells
+  memo-total =
+      omega (
+        arith,
+        length-rows maxRadio memo (b .memo-rises) (b .memo-radios),
+        stale-total,
+        sumTo-le (suc maxRadio) (λ r. one-if (isSome (find memo r))) (λ r. sumBy (staleC (find memo r) r) cells) (λ r _. omega (arith, line-missed r, book-of b r .counted)),
+      )
+
+-- each radio on has one live entry at most
+pub entries-total : {cells : List Cell} {memo : Rows Line} {new : ℕ → Bool} (rows : Rows (Unit {0})) → Signed rows → Books cells memo new (onSet rows)
+    → sumBy (λ c. length (c .entries)) cells ≤ length rows + sumBy (staleIn memo) cells
+entries-total {cells} {memo} rows s b =
+    omega (
+      arith,
+      length-rows maxRadio rows (s .rising-on) (s .radios-on),
+      stale-total b,
+      held-total b,
+      sumTo-add (suc maxRadio) (λ r. one-if (isSome (find rows r))) (λ r. sumBy (staleC (find memo r) r) cells),
+      sumTo-le (suc maxRadio) (λ r. sumBy (heldC r) cells) (λ r. one-if (isSome (find rows r)) + sumBy (staleC (find memo r) r) cells)
+          (λ r _. omega (arith, book-of b r .present, live-stale (find memo r) r cells)),
+    )

@@ -1,0 +1,14 @@
+pub mod BooksLaws
+pub mod CutLaws
+pub mod FlushLaws
+pub mod LinkLaws
+pub mod LiveLaws
+pub mod PagedLaws
+pub mod Parts
+pub mod PlainLaws
+pub mod RecordLaws
+pub mod RoundLaws
+pub mod Starred
+pub mod StepLaws
+pub mod TilingLaws
+pub mod WellLaws

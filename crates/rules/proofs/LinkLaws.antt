@@ -1,0 +1,274 @@
+-- The store beside the plain rule: what each says of a radio, and that they answer alike.
+use mathlib.Core.Bool.{Bool, true, false, not, cond}
+use mathlib.Core.List.{List, [], _∷_, _++_}
+use mathlib.Core.Option.{Option, none, some}
+use mathlib.Core.Path.{_≡_, refl, sym, ap, ap₂, _∙_, fun-ext}
+use Prim.Native.Nat.{ℕ, zero, suc, _+_, _-_, _*_, _≤_, _<_}
+use native.Mathlib.Omega.{arith}
+use native.Mathlib.Nat.{le-of-suc-le-suc, not-suc-le-zero}
+use lib.Dec.{eqb, leb, ltb}
+use lib.ListN.{length}
+use borrow.Author.Tests.{lt-ltb, le-ltb, ltb-true, ltb-false, eqb-true, eqb-false, ne-eqb, eq-eqb}
+use Rattle.terms.specs.Terms.{Place, maxRadio, maxOn}
+use Rattle.lists.specs.Parts.{tab}
+use Rattle.lists.specs.Rows.{Row, Rows, Rising, UpTo, find, alter, insert, countFound}
+use Rattle.lists.specs.Sums.{sumBy, sumTo, keep}
+use Rattle.lists.specs.Tests.{one-if, both, Each, isSome, orElse}
+use Rattle.lists.proofs.Cases.{by-cases, option-cases}
+use Rattle.lists.proofs.RowsLaws.{find-below, rising-less, find-alter, ext-find, sum-rows}
+use Rattle.lists.proofs.SumsLaws.{sum-const, sum-ext, sumTo-ext}
+use Rattle.rules.specs.Limits.{fullBox, fullMemory}
+use Rattle.rules.specs.Grid.{Rect, inside, Cuts, Box, sameBox, boxOf}
+use Rattle.rules.specs.Store.{Report, Line, Cell, Store, fresh}
+use Rattle.rules.specs.Flush.{raised, inBox}
+use Rattle.rules.specs.Records.{refusal}
+use Rattle.rules.specs.Carry.{isOn, onCount, wasNew, placeOf, liveIn, storedIn, latest, listIf, listOf, found, waitingIn, boxToFlush, flushDue, signedOn, reported, signedOff}
+use Rattle.rules.specs.Plain.{Plain, plainFresh, plainOn, plainOnCount, putAt, waitsIn, plainIn, plainDue, plainPlace, plainOff, plainRefusal, plainFound}
+use Rattle.rules.proofs.Parts.{Signed, Waits}
+
+pub record Link (s : Store) (x : Plain) : Type 0 where
+  pub on : (r : ℕ) → isOn s r ≡ plainOn x r
+  -- the reports waiting are the plain rule's waiting radios with their latest places
+  pub waiting : (r : ℕ) → placeOf (find (s .waiting) r) ≡ cond (x .waits r) (x .latest r) none
+  -- "marked new" is "no last place flushed"
+  pub marked : (r : ℕ) → wasNew (find (s .waiting) r) ≡ both (x .waits r) (not (isSome (x .flushed r)))
+  -- the live entry has the last place flushed, and so has any memo line
+  pub stored : (r : ℕ) → storedIn (s .memo) r (s .cells) ≡ x .flushed r
+  pub lines : (r : ℕ) (l : Line) → find (s .memo) r ≡ some l → l .last ≡ x .flushed r
+  -- where nothing waits, the latest place is the last place flushed, or the radio is off
+  pub quiet : (r : ℕ) → x .waits r ≡ false → x .latest r ≡ x .flushed r
+  pub waits-on : (r : ℕ) → x .waits r ≡ true → plainOn x r ≡ true
+
+pub fresh-link : Link fresh plainFresh
+unfolding fresh plainFresh isOn plainOn find storedIn liveIn both
+fresh-link = record {
+  on = λ r. refl;
+  waiting = λ r. refl;
+  marked = λ r. refl;
+  stored = λ r. refl;
+  lines = λ r l e. cc;
+  quiet = λ r e. refl;
+  waits-on = λ r e. e;
+}
+
+-- ---- the same latest place
+
+some-is : {A : Type 0} (o : Option A) → isSome o ≡ true → (P : Type 0) → ((a : A) → o ≡ some a → P) → P
+some-is none e P f = let z : _≡_ {A = ℕ} 0 1 = cc in absurd (omega arith)
+some-is (some a) e P f = f a refl
+
+pub latest-same : (s : Store) (x : Plain) → Link s x → (r : ℕ) → latest s r ≡ x .latest r
+unfolding latest plainOn
+latest-same s x k r =
+    by-cases (x .waits r)
+    (λ t. some-is (x .latest r) (k .waits-on r t) _ (λ p e. rw (k .waiting r, t, e)))
+    (λ t. rw (k .waiting r, t) (k .stored r ∙ sym (k .quiet r t)))
+
+-- ---- the same who is on
+
+one-found : {A : Type 0} (r : ℕ) (o : Option A) → countFound (λ _ _. 1) r o ≡ one-if (isSome o)
+one-found r none = refl
+one-found r (some a) = refl
+
+length-found : {A : Type 0} (l : Rows A) → Rising 0 l → UpTo maxRadio l → length l ≡ sumTo (suc maxRadio) (λ r. one-if (isSome (find l r)))
+length-found l a u =
+    omega (arith, sum-const 1 l, sum-rows (λ _ _. 1) 0 maxRadio l a u, sumTo-ext (suc maxRadio) (λ r. countFound (λ _ _. 1) r (find l r)) (λ r. one-if (isSome (find l r))) (λ r h. one-found r (find l r)))
+
+pub refusal-same : (s : Store) (x : Plain) → Link s x → Signed (s .on) → (bytes : List ℕ) → refusal (isOn s) (onCount s) bytes ≡ plainRefusal x bytes
+unfolding plainRefusal plainOnCount onCount isOn
+refusal-same s x k g bytes =
+    ap₂ (λ (f : ℕ → Bool) (n : ℕ). refusal f n bytes) (fun-ext (k .on))
+    (length-found (s .on) (g .rising-on) (g .radios-on) ∙ sumTo-ext (suc maxRadio) _ _ (λ r h. ap one-if (k .on r)))
+
+-- ---- the same list
+
+abbrev placeIn : Rect → Option Place → Option Place
+placeIn rect none = none
+placeIn rect (some p) = cond (inside rect p) (some p) none
+
+module _ (rect : Rect) (f : ℕ → Option Place) where
+  rising-listIf : (b r : ℕ) (o : Option Place) (l : Rows Place) → b < r → Rising r l → Rising b (listIf rect r o l)
+  rising-listIf b r none l h a = rising-less b r l (omega arith) a
+  rising-listIf b r (some p) l h a = by-cases (inside rect p) (λ t. rw t (h, a)) (λ t. rw t (rising-less b r l (omega arith) a))
+
+  rising-listOf : (b : ℕ) (l : Rows (Unit {0})) → Rising b l → Rising b (listOf rect f l)
+  unfolding listOf
+  rising-listOf b [] a = tt
+  rising-listOf b (x ∷ xs) a = rising-listIf b (x .key) (f (x .key)) (listOf rect f xs) (a .0) (rising-listOf (x .key) xs (a .1))
+
+  find-listIf-same : (r : ℕ) (o : Option Place) (l : Rows Place) → Rising r l → find (listIf rect r o l) r ≡ placeIn rect o
+  unfolding find
+  find-listIf-same r none l a = find-below r r l (omega arith) a
+  find-listIf-same r (some p) l a = by-cases (inside rect p) (λ t. rw (t, eq-eqb r r refl)) (λ t. rw t (find-below r r l (omega arith) a))
+
+  find-listIf-other : (r q : ℕ) (o : Option Place) (l : Rows Place) → eqb q r ≡ false → find (listIf rect r o l) q ≡ find l q
+  unfolding find
+  find-listIf-other r q none l e = refl
+  find-listIf-other r q (some p) l e = by-cases (inside rect p) (λ t. rw (t, e)) (λ t. rw t)
+
+  find-listOf : (b q : ℕ) (l : Rows (Unit {0})) → Rising b l → find (listOf rect f l) q ≡ cond (isSome (find l q)) (placeIn rect (f q)) none
+  unfolding listOf find
+  find-listOf b q [] a = refl
+  find-listOf b q (x ∷ xs) a =
+      by-cases (eqb q (x .key))
+      (λ t. rw (t, eqb-true q (x .key) t) (find-listIf-same (x .key) (f (x .key)) (listOf rect f xs) (rising-listOf (x .key) xs (a .1))))
+      (λ t. rw t (find-listIf-other (x .key) q (f (x .key)) (listOf rect f xs) t ∙ find-listOf (x .key) q xs (a .1)))
+
+-- the radios 1 to n as rows
+rising-tab : (n k : ℕ) (f : ℕ → ℕ) → ((i : ℕ) → f i ≡ suc (k + i)) → Rising k (tab n (λ i. record { key = f i; val = tt {0} }))
+unfolding tab
+rising-tab zero k f h = tt
+rising-tab (suc n) k f h = (omega (arith, h 0), rising-tab n (f 0) (λ i. f (suc i)) (λ i. omega (arith, h 0, h (suc i))))
+
+find-tab : (n k r : ℕ) (f : ℕ → ℕ) → ((i : ℕ) → f i ≡ suc (k + i)) → k < r → r ≤ k + n → isSome (find (tab n (λ i. record { key = f i; val = tt {0} })) r) ≡ true
+unfolding tab find
+find-tab zero k r f h a b = absurd (omega arith)
+find-tab (suc n) k r f h a b =
+    by-cases (eqb r (f 0))
+    (λ t. rw t)
+    (λ t. rw t (find-tab n (f 0) r (λ i. f (suc i)) (λ i. omega (arith, h 0, h (suc i))) (omega (arith, h 0, eqb-false r (f 0) t)) (omega (arith, h 0))))
+
+-- a row found has its key within the bounds
+found-within : {A : Type 0} (b n r : ℕ) (l : Rows A) → Rising b l → UpTo n l → isSome (find l r) ≡ true → (b < r) × (r ≤ n)
+unfolding find
+found-within b n r [] a u = λ e. let z : _≡_ {A = ℕ} 0 1 = cc in absurd (omega arith)
+found-within b n r (x ∷ xs) a u =
+    by-cases (eqb r (x .key))
+    (λ t. let z = eqb-true r (x .key) t in rw t (λ e. (omega (arith, a .0), omega (arith, u .0))))
+    (λ t. rw t (λ e. let w = found-within (x .key) n r xs (a .1) (u .1) e in (omega (arith, a .0), w .1)))
+
+pub found-same : (s : Store) (x : Plain) → Link s x → Signed (s .on) → (rect : Rect) → found s rect ≡ plainFound x rect
+unfolding found plainFound isOn plainOn
+found-same s x k g rect =
+    let all : Rows (Unit {0}) = tab maxRadio (λ i. record { key = suc i; val = tt }) in
+    let rises : Rising 0 all = rising-tab maxRadio 0 suc (λ i. omega arith) in
+    ap (λ (f : ℕ → Option Place). listOf rect f (s .on)) (fun-ext (latest-same s x k))
+    ∙ ext-find 0 (listOf rect (x .latest) (s .on)) (listOf rect (x .latest) all) (rising-listOf rect (x .latest) 0 (s .on) (g .rising-on)) (rising-listOf rect (x .latest) 0 all rises)
+    (λ r. find-listOf rect (x .latest) 0 r (s .on) (g .rising-on) ∙ option-cases (x .latest r)
+    (λ e. rw e (never (isSome (find (s .on) r)) ∙ sym (rw (find-listOf rect (x .latest) 0 r all rises, e) (never (isSome (find all r))))))
+    (λ p e. let o : isSome (find (s .on) r) ≡ true = k .on r ∙ ap isSome e in
+    let w = found-within 0 maxRadio r (s .on) (g .rising-on) (g .radios-on) o in
+    rw o (sym (rw (find-listOf rect (x .latest) 0 r all rises, find-tab maxRadio 0 r suc (λ i. omega arith) (w .0) (w .1))))))
+  where
+    never : (b : Bool) → _≡_ {A = Option Place} (cond b none none) none
+    never true = refl
+    never false = refl
+
+-- ---- the same memory cell to flush
+
+abbrev countAt : Cuts → Box → Option Place → ℕ
+countAt cuts m none = 0
+countAt cuts m (some p) = one-if (sameBox (boxOf cuts p) m)
+
+count-report : (cuts : Cuts) (m : Box) (r : ℕ) (o : Option Report) → countFound (λ q w. one-if (inBox cuts m (record { key = q; val = w }))) r o ≡ countAt cuts m (placeOf o)
+unfolding inBox
+count-report cuts m r none = refl
+count-report cuts m r (some w) = refl
+
+count-plain : (cuts : Cuts) (m : Box) (b : Bool) (o : Option Place) → countAt cuts m (cond b o none) ≡ one-if (both b (waitsIn cuts m o))
+unfolding both
+count-plain cuts m true none = refl
+count-plain cuts m true (some p) = refl
+count-plain cuts m false o = refl
+
+pub waitingIn-same : (s : Store) (x : Plain) → Link s x → Waits (s .waiting) (s .on) → (m : Box)
+    → waitingIn (s .cuts) (s .waiting) m ≡ sumTo (suc maxRadio) (λ r. one-if (plainIn (s .cuts) x m r))
+unfolding waitingIn plainIn
+waitingIn-same s x k w m =
+    sum-rows (λ q v. one-if (inBox (s .cuts) m (record { key = q; val = v }))) 0 maxRadio (s .waiting) (w .waiting-rises) (w .waiting-radios)
+    ∙ sumTo-ext (suc maxRadio) _ _ (λ r h. count-report (s .cuts) m r (find (s .waiting) r) ∙ ap (countAt (s .cuts) m) (k .waiting r) ∙ count-plain (s .cuts) m (x .waits r) (x .latest r))
+
+some-place : (o : Option Report) → isSome o ≡ isSome (placeOf o)
+some-place none = refl
+some-place (some w) = refl
+
+waits-found : (s : Store) (x : Plain) → Link s x → (r : ℕ) → isSome (find (s .waiting) r) ≡ x .waits r
+unfolding plainOn
+waits-found s x k r =
+    some-place (find (s .waiting) r) ∙ ap isSome (k .waiting r)
+    ∙ by-cases (x .waits r) (λ t. rw t (k .waits-on r t)) (λ t. rw t)
+
+pub length-waiting : (s : Store) (x : Plain) → Link s x → Waits (s .waiting) (s .on) → length (s .waiting) ≡ sumTo (suc maxRadio) (λ r. one-if (x .waits r))
+length-waiting s x k w =
+    length-found (s .waiting) (w .waiting-rises) (w .waiting-radios) ∙ sumTo-ext (suc maxRadio) _ _ (λ r h. ap one-if (waits-found s x k r))
+
+pub due-same : (s : Store) (x : Plain) → Link s x → Waits (s .waiting) (s .on) → (p : Place) → flushDue s p ≡ plainDue (s .cuts) x p
+unfolding flushDue plainDue
+due-same s x k w p = ap₂ (λ (f : Box → ℕ) (n : ℕ). boxToFlush (s .cuts) f n p) (fun-ext (waitingIn-same s x k w)) (length-waiting s x k w)
+
+-- ---- a record's own effect
+
+none-is : {A : Type 0} (o : Option A) → isSome o ≡ false → o ≡ none
+none-is none e = refl
+none-is (some a) e = let z : _≡_ {A = ℕ} 0 1 = cc in absurd (omega arith)
+
+not-both : (b : Bool) → b ≡ true → b ≡ false → ⊥
+not-both b t f = let z : _≡_ {A = Bool} true false = sym t ∙ f in let y : _≡_ {A = ℕ} 0 1 = cc in omega arith
+
+-- a radio that is off has nothing here
+off-nothing : (s : Store) (x : Plain) → Link s x → (r : ℕ) → plainOn x r ≡ false → (x .waits r ≡ false) × (x .latest r ≡ none) × (x .flushed r ≡ none)
+unfolding plainOn
+off-nothing s x k r e =
+    let l = none-is (x .latest r) e in
+    by-cases (x .waits r)
+    (λ t. absurd (not-both _ (k .waits-on r t) e))
+    (λ t. (t, l, sym (k .quiet r t) ∙ l))
+
+-- a report is put among the waiting, marked where nothing of its radio was flushed
+module _ (s : Store) (x : Plain) (k : Link s x) (r : ℕ) (p : Place) (h : 0 < r) (rises : Rising 0 (s .waiting)) (f : Option Report → Option Report) (b : Bool)
+    (put : f (find (s .waiting) r) ≡ some (record { place = p; new = b })) (mark : b ≡ not (isSome (x .flushed r))) where
+  waiting-place : (q : ℕ) → placeOf (find (alter f r (s .waiting)) q) ≡ cond (putAt r true (x .waits) q) (putAt r (some p) (x .latest) q) none
+  waiting-place q =
+      rw (find-alter f 0 r q (s .waiting) h rises) (by-cases (eqb q r)
+      (λ t. rw (t, eqb-true q r t, put))
+      (λ t. rw t (k .waiting q)))
+
+  marked-place : (q : ℕ) → wasNew (find (alter f r (s .waiting)) q) ≡ both (putAt r true (x .waits) q) (not (isSome (x .flushed q)))
+  unfolding both
+  marked-place q =
+      rw (find-alter f 0 r q (s .waiting) h rises) (by-cases (eqb q r)
+      (λ t. rw (t, eqb-true q r t, put) mark)
+      (λ t. rw t (k .marked q)))
+
+  quiet-place : (q : ℕ) → putAt r true (x .waits) q ≡ false → putAt r (some p) (x .latest) q ≡ x .flushed q
+  quiet-place q =
+      by-cases (eqb q r)
+      (λ t. rw t (λ e. cc))
+      (λ t. rw t (λ e. k .quiet q e))
+
+  waits-place : (q : ℕ) → putAt r true (x .waits) q ≡ true → isSome (putAt r (some p) (x .latest) q) ≡ true
+  unfolding plainOn
+  waits-place q =
+      by-cases (eqb q r)
+      (λ t. rw t (λ e. refl))
+      (λ t. rw t (λ e. k .waits-on q e))
+
+  link-place : (on : Rows (Unit {0})) → ((q : ℕ) → isSome (find on q) ≡ isSome (putAt r (some p) (x .latest) q))
+      → Link (record { cuts = s .cuts; cells = s .cells; free = s .free; waiting = alter f r (s .waiting); memo = s .memo; on = on; tally = s .tally }) (plainPlace r p x)
+  unfolding plainPlace isOn plainOn
+  link-place on same = record {
+    on = same;
+    waiting = waiting-place;
+    marked = marked-place;
+    stored = k .stored;
+    lines = k .lines;
+    quiet = quiet-place;
+    waits-on = waits-place;
+  }
+
+pub link-on : (s : Store) (x : Plain) → Link s x → (r : ℕ) (p : Place) → 1 ≤ r → Signed (s .on) → Waits (s .waiting) (s .on) → isOn s r ≡ false
+    → Link (signedOn r p s) (plainPlace r p x)
+unfolding signedOn isOn plainOn
+link-on s x k r p h g w off =
+    let o = off-nothing s x k r (sym (k .on r) ∙ off) in
+    link-place s x k r p h (w .waiting-rises) (λ _. some (record { place = p; new = true })) true refl (sym (rw (o .2) refl)) (insert r tt (s .on))
+    (λ q. rw (find-alter (λ _. some tt) 0 r q (s .on) h (g .rising-on)) (by-cases (eqb q r) (λ t. rw t) (λ t. rw t (k .on q))))
+
+pub link-report : (s : Store) (x : Plain) → Link s x → (r : ℕ) (p : Place) → 1 ≤ r → Waits (s .waiting) (s .on) → isOn s r ≡ true
+    → Link (reported r p s) (plainPlace r p x)
+unfolding reported isOn plainOn
+link-report s x k r p h w on =
+    link-place s x k r p h (w .waiting-rises) (λ o. some (record { place = p; new = wasNew o })) (wasNew (find (s .waiting) r)) refl
+    (k .marked r ∙ by-cases (x .waits r) (λ t. unfold both in rw t) (λ t. unfold both in rw (t, ← k .quiet r t, sym (k .on r) ∙ on)))
+    (s .on)
+    (λ q. k .on q ∙ by-cases (eqb q r) (λ t. rw (t, eqb-true q r t) (sym (k .on r) ∙ on)) (λ t. rw t))

@@ -1,0 +1,614 @@
+-- Which place a radio's live entry has, through every step. Live entries whose place passes a test are a sum, and the sum for every test tells the place.
+use mathlib.Core.Path.{_≡_, refl, sym, ap, ap₂, _∙_}
+use mathlib.Core.Logic.{_≢_}
+use mathlib.Core.Bool.{Bool, true, false, not, cond}
+use mathlib.Core.List.{List, [], _∷_, _++_}
+use mathlib.Core.Option.{Option, none, some}
+use Prim.Native.Nat.{ℕ, _+_, _-_, _≤_, _<_}
+use native.Mathlib.Omega.{arith}
+use lib.Dec.{eqb, ltb}
+use borrow.Author.Tests.{ltb-false, eqb-true, ne-eqb, eq-eqb}
+use Rattle.terms.specs.Terms.{Place}
+use Rattle.lists.specs.Rows.{Row, Rows, Rising, find, alter, merge, countFound, passed}
+use Rattle.lists.specs.Sums.{sumBy, filter}
+use Rattle.lists.specs.Tests.{one-if, both, either, isSome, orElse, Each}
+use Rattle.lists.proofs.Cases.{by-cases, option-cases}
+use Rattle.lists.proofs.TestsLaws.{both-left, both-right, both-intro}
+use Rattle.lists.proofs.SumsLaws.{sum-cons, sum-append, sum-ext, sum-le, sum-zero}
+use Rattle.lists.proofs.RowsLaws.{find-below, rising-alter, find-alter, rising-filter, find-filter, find-merge, each-find}
+use Rattle.rules.specs.Grid.{samePlace, inside, Box}
+use Rattle.rules.specs.Store.{Report, Line, Cell, Store, others, settled}
+use Rattle.rules.specs.Sweep.{staleBy, stale, lowered, lowerEach, sweptEntries, sweptMemo, swept}
+use Rattle.rules.specs.Cut.{Cut, lowSide}
+use Rattle.rules.specs.Flush.{raised, entered, Work, enter, enterEach, inBox, flushedInto, lowCell, highCell}
+use Rattle.rules.specs.Carry.{liveIn, storedIn, placeOf}
+use Rattle.rules.specs.WellFormed.{countIf, liveOf, staleIn}
+use Rattle.rules.proofs.Parts.{staleR, missedOf, Rowed, Books, Clean}
+
+-- ---- lists
+
+module _ {Val : Type 0} where
+  -- what is found is one part of the sum
+  pub sum-found : (f : ℕ → Val → ℕ) (r : ℕ) (l : Rows Val) → countFound f r (find l r) ≤ sumBy (λ x. f (x .key) (x .val)) l
+  unfolding find sumBy
+  sum-found f r [] = omega arith
+  sum-found f r (x ∷ xs) = by-cases (eqb r (x .key)) (λ e. rw (e, eqb-true r (x .key) e) (omega arith)) (λ e. rw e (omega (arith, sum-found f r xs)))
+
+both-true : (a : Bool) → both a true ≡ a
+unfolding both
+both-true true = refl
+both-true false = refl
+
+true-both : (b : Bool) → both true b ≡ b
+unfolding both
+true-both b = refl
+
+false-both : (b : Bool) → both false b ≡ false
+unfolding both
+false-both b = refl
+
+both-one-le : (a b : Bool) → one-if (both a b) ≤ one-if a
+unfolding both
+both-one-le true true = omega arith
+both-one-le true false = omega arith
+both-one-le false b = omega arith
+
+one-if-le : (a : Bool) → one-if a ≤ 1
+one-if-le true = omega arith
+one-if-le false = omega arith
+
+-- ---- places
+
+same-refl : (p : Place) → samePlace p p ≡ true
+same-refl p = both-intro (eq-eqb (p .east) (p .east) refl) (eq-eqb (p .north) (p .north) refl)
+
+same-true : (p q : Place) → samePlace p q ≡ true → p ≡ q
+same-true p q e =
+    let x = eqb-true (p .east) (q .east) (both-left (eqb (p .east) (q .east)) (eqb (p .north) (q .north)) e) in
+    let y = eqb-true (p .north) (q .north) (both-right (eqb (p .east) (q .east)) (eqb (p .north) (q .north)) e) in
+    λ i. record { east = x i; north = y i }
+
+-- ---- live entries by a test of the place
+
+-- 1 for an entry that isn't stale by the line and passes the test
+abbrev pub countLive : (Place → Bool) → Option Line → Option Place → ℕ
+countLive t o = countIf (λ p. both (not (staleBy o p)) (t p))
+
+-- the live entries of a radio whose place passes
+unfoldable pub liveBy : (Place → Bool) → Rows Line → ℕ → List Cell → ℕ
+liveBy t memo r cells = sumBy (λ c. countLive t (find memo r) (find (c .entries) r)) cells
+
+pub live-cons : (t : Place → Bool) (memo : Rows Line) (r : ℕ) (c : Cell) (cs : List Cell) →
+    liveBy t memo r (c ∷ cs) ≡ countLive t (find memo r) (find (c .entries) r) + liveBy t memo r cs
+unfolding liveBy
+live-cons t memo r c cs = sum-cons _ c cs
+
+pub live-append : (t : Place → Bool) (memo : Rows Line) (r : ℕ) (a b : List Cell) → liveBy t memo r (a ++ b) ≡ liveBy t memo r a + liveBy t memo r b
+unfolding liveBy
+live-append t memo r a b = sum-append _ a b
+
+-- the order of the cells does not matter
+pub live-order : (t : Place → Bool) (memo : Rows Line) (r : ℕ) (a b : List Cell) → ((f : Cell → ℕ) → sumBy f a ≡ sumBy f b) → liveBy t memo r a ≡ liveBy t memo r b
+unfolding liveBy
+live-order t memo r a b h = h _
+
+pub live-swap : (t : Place → Bool) (memo : Rows Line) (r : ℕ) (a d : Cell) (rest : List Cell) → liveBy t memo r (a ∷ d ∷ rest) ≡ liveBy t memo r (d ∷ a ∷ rest)
+live-swap t memo r a d rest = omega (arith, live-cons t memo r a (d ∷ rest), live-cons t memo r d rest, live-cons t memo r d (a ∷ rest), live-cons t memo r a rest)
+
+pub live-back : (t : Place → Bool) (memo : Rows Line) (r : ℕ) (a b : List Cell) → liveBy t memo r (a ++ b) ≡ liveBy t memo r (b ++ a)
+live-back t memo r a b = omega (arith, live-append t memo r a b, live-append t memo r b a)
+
+-- only the radio's own line counts
+pub live-line : (t : Place → Bool) (memo memo′ : Rows Line) (r : ℕ) (cells : List Cell) → find memo′ r ≡ find memo r → liveBy t memo′ r cells ≡ liveBy t memo r cells
+unfolding liveBy
+live-line t memo memo′ r cells e = ap (λ o. sumBy (λ c. countLive t o (find (c .entries) r)) cells) e
+
+-- only a cell's entry of the radio counts
+pub live-entry : (t : Place → Bool) (memo : Rows Line) (r : ℕ) (c c′ : Cell) (cs : List Cell) → find (c′ .entries) r ≡ find (c .entries) r → liveBy t memo r (c′ ∷ cs) ≡ liveBy t memo r (c ∷ cs)
+live-entry t memo r c c′ cs e = live-cons t memo r c′ cs ∙ ap (λ x. countLive t (find memo r) x + liveBy t memo r cs) e ∙ sym (live-cons t memo r c cs)
+
+pub live-settled : (t : Place → Bool) (memo : Rows Line) (r : ℕ) (free : List ℕ) (c : Cell) (cs : List Cell) → liveBy t memo r (settled free c ∷ cs) ≡ liveBy t memo r (c ∷ cs)
+unfolding settled
+live-settled t memo r free c cs = live-entry t memo r c (settled free c) cs refl
+
+-- the entry of one cell: any that is not stale, and at most these
+count-true : (o : Option Line) (e : Option Place) → countLive (λ _. true) o e ≡ countIf (λ p. not (staleBy o p)) e
+count-true o none = refl
+count-true o (some p) = ap one-if (both-true (not (staleBy o p)))
+
+count-le : (t : Place → Bool) (o : Option Line) (e : Option Place) → countLive t o e ≤ countIf (λ p. not (staleBy o p)) e
+count-le t o none = omega arith
+count-le t o (some p) = both-one-le (not (staleBy o p)) (t p)
+
+pub live-true : (memo : Rows Line) (r : ℕ) (cells : List Cell) → liveBy (λ _. true) memo r cells ≡ liveOf memo r cells
+unfolding liveBy liveOf
+live-true memo r cells = sum-ext _ _ cells (λ c. count-true (find memo r) (find (c .entries) r))
+
+pub live-le : (t : Place → Bool) (memo : Rows Line) (r : ℕ) (cells : List Cell) → liveBy t memo r cells ≤ liveOf memo r cells
+unfolding liveBy liveOf
+live-le t memo r cells = sum-le _ _ cells (λ c. count-le t (find memo r) (find (c .entries) r))
+
+-- ---- the first live entry's place, read off
+
+-- the one of a cell
+count-live : (t : Place → Bool) (memo : Rows Line) (r : ℕ) (e : Option Place) → countLive t (find memo r) e ≡ countIf t (passed (λ x. not (stale memo x)) r e)
+unfolding both
+count-live t memo r none = refl
+count-live t memo r (some p) = by-cases (not (staleBy (find memo r) p)) (λ s. rw s) (λ s. rw s)
+
+live-step : (t : Place → Bool) (memo : Rows Line) (r : ℕ) (c : Cell) (cs : List Cell) → liveBy t memo r (c ∷ cs) ≡ countIf t (liveIn memo r c) + liveBy t memo r cs
+unfolding liveIn
+live-step t memo r c cs = live-cons t memo r c cs ∙ ap (λ n. n + liveBy t memo r cs) (count-live t memo r (find (c .entries) r))
+
+none-live : (t : Place → Bool) (memo : Rows Line) (r : ℕ) (c : Cell) (cs : List Cell) → liveIn memo r c ≡ none → liveBy t memo r (c ∷ cs) ≡ liveBy t memo r cs
+none-live t memo r c cs e = omega (arith, live-step t memo r c cs, ap (countIf t) e)
+
+some-live : (t : Place → Bool) (memo : Rows Line) (r : ℕ) (c : Cell) (cs : List Cell) (p : Place) → liveIn memo r c ≡ some p → liveBy t memo r (c ∷ cs) ≡ one-if (t p) + liveBy t memo r cs
+some-live t memo r c cs p e = omega (arith, live-step t memo r c cs, ap (countIf t) e)
+
+stored-step : (memo : Rows Line) (r : ℕ) (c : Cell) (cs : List Cell) → storedIn memo r (c ∷ cs) ≡ orElse (liveIn memo r c) (storedIn memo r cs)
+unfolding storedIn
+stored-step memo r c cs = refl
+
+stored-nil : (memo : Rows Line) (r : ℕ) → storedIn memo r [] ≡ none
+unfolding storedIn
+stored-nil memo r = refl
+
+live-nil : (t : Place → Bool) (memo : Rows Line) (r : ℕ) → liveBy t memo r [] ≡ 0
+unfolding liveBy sumBy
+live-nil t memo r = refl
+
+-- no live entry, and no place
+none-stored : (memo : Rows Line) (r : ℕ) (cells : List Cell) → liveBy (λ _. true) memo r cells ≡ 0 → storedIn memo r cells ≡ none
+none-stored memo r [] h = stored-nil memo r
+none-stored memo r (c ∷ cs) h =
+    option-cases (liveIn memo r c)
+    (λ e. rw (stored-step memo r c cs, e) (none-stored memo r cs (omega (arith, none-live (λ _. true) memo r c cs e))))
+    (λ p e. absurd (omega (arith, some-live (λ _. true) memo r c cs p e)))
+
+pub stored-none : (memo : Rows Line) (r : ℕ) (cells : List Cell) → liveOf memo r cells ≡ 0 → storedIn memo r cells ≡ none
+stored-none memo r cells h = none-stored memo r cells (live-true memo r cells ∙ h)
+
+none-counted : (memo : Rows Line) (r : ℕ) (cells : List Cell) → storedIn memo r cells ≡ none → liveBy (λ _. true) memo r cells ≡ 0
+none-counted memo r [] h = live-nil (λ _. true) memo r
+none-counted memo r (c ∷ cs) h =
+    option-cases (liveIn memo r c)
+    (λ e. none-live (λ _. true) memo r c cs e ∙ none-counted memo r cs (rw (stored-step memo r c cs, e) at h))
+    (λ p e. let z : _≡_ {A = Option Place} (some p) none = rw (stored-step memo r c cs, e) at h in cc)
+
+-- and back
+pub stored-no-live : (memo : Rows Line) (r : ℕ) (cells : List Cell) → storedIn memo r cells ≡ none → liveOf memo r cells ≡ 0
+stored-no-live memo r cells h = sym (live-true memo r cells) ∙ none-counted memo r cells h
+
+-- one live entry at p: the test "is it p?" tells that the first one is at p, the test that all pass that no other follows
+pub stored-at : (memo : Rows Line) (r : ℕ) (cells : List Cell) (p : Place) → ((t : Place → Bool) → liveBy t memo r cells ≡ one-if (t p)) → storedIn memo r cells ≡ some p
+stored-at memo r [] p h = absurd (omega (arith, h (λ _. true), live-nil (λ _. true) memo r))
+stored-at memo r (c ∷ cs) p h =
+    option-cases (liveIn memo r c)
+    (λ e. rw (stored-step memo r c cs, e) (stored-at memo r cs p (λ t. sym (none-live t memo r c cs e) ∙ h t)))
+    (λ q e. rw (stored-step memo r c cs, e) (by-cases (samePlace p q)
+    (λ s. ap some (sym (same-true p q s)))
+    (λ s. absurd (omega (
+      arith,
+      h (λ _. true),
+      some-live (λ _. true) memo r c cs q e,
+      h (samePlace p),
+      some-live (samePlace p) memo r c cs q e,
+      ap one-if s,
+      ap one-if (same-refl p),
+      live-le (samePlace p) memo r cs,
+      live-true memo r cs,
+    )))))
+
+pub stored-some : (memo : Rows Line) (r : ℕ) (cells : List Cell) (p : Place) → storedIn memo r cells ≡ some p → liveOf memo r cells ≤ 1
+    → (t : Place → Bool) → liveBy t memo r cells ≡ one-if (t p)
+stored-some memo r [] p h b t = let z : _≡_ {A = Option Place} none (some p) = sym (stored-nil memo r) ∙ h in cc
+stored-some memo r (c ∷ cs) p h b t =
+    option-cases (liveIn memo r c)
+    (λ e. none-live t memo r c cs e
+    ∙ stored-some memo r cs p (rw (stored-step memo r c cs, e) at h) (omega (arith, none-live (λ _. true) memo r c cs e, live-true memo r cs, live-true memo r (c ∷ cs))) t)
+    (λ q e. let z : _≡_ {A = Option Place} (some q) (some p) = rw (stored-step memo r c cs, e) at h in
+    let y : q ≡ p = cc in
+    omega (
+      arith,
+      some-live t memo r c cs q e,
+      some-live (λ _. true) memo r c cs q e,
+      live-true memo r (c ∷ cs),
+      live-true memo r cs,
+      live-le t memo r cs,
+      ap (λ x. one-if (t x)) y,
+    ))
+
+pub stored-same : (memo memo′ : Rows Line) (r : ℕ) (cells cells′ : List Cell) → ((t : Place → Bool) → liveBy t memo′ r cells′ ≡ liveBy t memo r cells) → liveOf memo r cells ≤ 1
+    → storedIn memo′ r cells′ ≡ storedIn memo r cells
+stored-same memo memo′ r cells cells′ h b =
+    option-cases (storedIn memo r cells)
+    (λ e. none-stored memo′ r cells′ (h (λ _. true) ∙ none-counted memo r cells e) ∙ sym e)
+    (λ p e. stored-at memo′ r cells′ p (λ t. h t ∙ stored-some memo r cells p e b t) ∙ sym e)
+
+-- a radio has one live entry at most
+pub live-one : (cells : List Cell) (memo : Rows Line) (new on : ℕ → Bool) (r : ℕ) → Books cells memo new on → liveOf memo r cells ≤ 1
+live-one cells memo new on r k = omega (arith, k .present r, one-if-le (on r))
+
+-- ---- all entries of a radio by one line
+
+-- live ones, and stale ones
+abbrev liveUnder : (Place → Bool) → Option Line → ℕ → List Cell → ℕ
+liveUnder t o r cells = sumBy (λ c. countLive t o (find (c .entries) r)) cells
+
+abbrev staleUnder : Option Line → ℕ → List Cell → ℕ
+staleUnder o r cells = sumBy (λ c. countIf (staleBy o) (find (c .entries) r)) cells
+
+live-under : (t : Place → Bool) (memo : Rows Line) (r : ℕ) (cells : List Cell) (o : Option Line) → find memo r ≡ o → liveBy t memo r cells ≡ liveUnder t o r cells
+unfolding liveBy
+live-under t memo r cells o e = ap (λ o. sumBy (λ c. countLive t o (find (c .entries) r)) cells) e
+
+-- where no entry is stale by a line, all count as without a line
+count-no-stale : (t : Place → Bool) (o : Option Line) (e : Option Place) → countIf (staleBy o) e ≡ 0 → countLive t o e ≡ countLive t none e
+count-no-stale t o none h = refl
+count-no-stale t o (some p) h = by-cases (staleBy o p) (λ s. absurd (omega (arith, ap one-if s))) (λ s. ap (λ b. one-if (both (not b) (t p))) s)
+
+no-stale : (t : Place → Bool) (o : Option Line) (r : ℕ) (cells : List Cell) → staleUnder o r cells ≡ 0 → liveUnder t o r cells ≡ liveUnder t none r cells
+unfolding sumBy
+no-stale t o r [] h = refl
+no-stale t o r (c ∷ cs) h = omega (arith, count-no-stale t o (find (c .entries) r) (omega arith), no-stale t o r cs (omega arith))
+
+-- ---- sweep
+
+-- lowered if there is a stale entry
+abbrev loweredIf : Option Place → Option Line → Option Line
+loweredIf none o = o
+loweredIf (some p) o = lowered o
+
+find-lowerEach : (r b : ℕ) (es : Rows Place) (memo : Rows Line) → Rising b es → Rising 0 memo → find (lowerEach es memo) r ≡ loweredIf (find es r) (find memo r)
+unfolding lowerEach find
+find-lowerEach r b [] memo a m = refl
+find-lowerEach r b (e ∷ es) memo a m =
+    let pos : 0 < e .key = omega arith in
+    let ih = find-lowerEach r (e .key) es (alter lowered (e .key) memo) (a .1) (rising-alter lowered 0 (e .key) memo pos m) in
+    by-cases (eqb r (e .key))
+    (λ t. rw (t, ih, find-below r (e .key) es (omega (arith, eqb-true r (e .key) t)) (a .1), find-alter lowered 0 (e .key) r memo pos m, t))
+    (λ t. rw (t, ih, find-alter lowered 0 (e .key) r memo pos m, t))
+
+find-sweptMemo : (r : ℕ) (memo : Rows Line) (es : Rows Place) → Rising 0 es → Rising 0 memo → find (sweptMemo memo es) r ≡ loweredIf (passed (stale memo) r (find es r)) (find memo r)
+unfolding sweptMemo
+find-sweptMemo r memo es a m =
+    find-lowerEach r 0 (filter (stale memo) es) memo (rising-filter (stale memo) 0 es a) m
+    ∙ ap (λ o. loweredIf o (find memo r)) (find-filter (stale memo) 0 r es a)
+
+lowered-last : (o : Option Line) (l : Line) → lowered o ≡ some l → (k : Line) × (o ≡ some k) × (k .last ≡ l .last)
+lowered-last none l = λ e. let z : _≡_ {A = ℕ} 0 1 = cc in absurd (omega arith)
+lowered-last (some k) l =
+    by-cases (ltb 1 (k .missed))
+    (λ t. rw t (λ e. (k, refl, let z : record { missed = k .missed - 1; last = k .last } ≡ l = cc in ap (λ (x : Line). x .last) z)))
+    (λ t. rw t (λ e. let z : _≡_ {A = ℕ} 0 1 = cc in absurd (omega arith)))
+
+loweredIf-last : (e : Option Place) (o : Option Line) (l : Line) → loweredIf e o ≡ some l → (k : Line) × (o ≡ some k) × (k .last ≡ l .last)
+loweredIf-last none o l h = (l, h, refl)
+loweredIf-last (some p) o l h = lowered-last o l h
+
+-- a sweep changes no line's place
+pub sweptMemo-last : (r : ℕ) (memo : Rows Line) (es : Rows Place) → Rising 0 es → Rising 0 memo → (l : Line) → find (sweptMemo memo es) r ≡ some l
+    → (k : Line) × (find memo r ≡ some k) × (k .last ≡ l .last)
+sweptMemo-last r memo es a m l e = loweredIf-last (passed (stale memo) r (find es r)) (find memo r) l (sym (find-sweptMemo r memo es a m) ∙ e)
+
+find-swept : (r : ℕ) (memo : Rows Line) (d : Cell) → Rising 0 (d .entries) → find (swept memo d .entries) r ≡ passed (λ e. not (stale memo e)) r (find (d .entries) r)
+unfolding swept sweptEntries
+find-swept r memo d a = find-filter (λ e. not (stale memo e)) 0 r (d .entries) a
+
+-- a line that is dropped had one stale entry, and it is the one swept; else the line judges as before
+lowered-live : (t : Place → Bool) (o : Option Line) (p : Place) (r : ℕ) (cells : List Cell) → staleBy o p ≡ true → 1 + staleUnder o r cells ≡ missedOf o
+    → liveUnder t (lowered o) r cells ≡ liveUnder t o r cells
+lowered-live t none p r cells s h = cc
+lowered-live t (some l) p r cells s h =
+    by-cases (ltb 1 (l .missed))
+    (λ u. rw u)
+    (λ u. rw u (sym (no-stale t (some l) r cells (omega (arith, ltb-false 1 (l .missed) u)))))
+
+swept-live : (t : Place → Bool) (memo : Rows Line) (e : Option Place) (r : ℕ) (cells : List Cell) → countIf (staleBy (find memo r)) e + staleUnder (find memo r) r cells ≡ missedOf (find memo r)
+    → countLive t (loweredIf (passed (stale memo) r e) (find memo r)) (passed (λ x. not (stale memo x)) r e) + liveUnder t (loweredIf (passed (stale memo) r e) (find memo r)) r cells
+    ≡ countLive t (find memo r) e + liveUnder t (find memo r) r cells
+unfolding both
+swept-live t memo none r cells h = refl
+swept-live t memo (some p) r cells h =
+    by-cases (staleBy (find memo r) p)
+    (λ s. rw s (omega (arith, lowered-live t (find memo r) p r cells s (omega (arith, ap one-if s)))))
+    (λ s. rw (s, s))
+
+stale-cons : (memo : Rows Line) (r : ℕ) (c : Cell) (cs : List Cell) → staleR memo r (c ∷ cs) ≡ countIf (staleBy (find memo r)) (find (c .entries) r) + staleUnder (find memo r) r cs
+unfolding staleR
+stale-cons memo r c cs = sum-cons _ c cs
+
+pub live-sweep : (d : Cell) (rest : List Cell) (memo : Rows Line) (new on : ℕ → Bool) → Books (d ∷ rest) memo new on
+    → (t : Place → Bool) (r : ℕ) → liveBy t (sweptMemo memo (d .entries)) r (swept memo d ∷ rest) ≡ liveBy t memo r (d ∷ rest)
+live-sweep d rest memo new on k t r =
+    let a : Rising 0 (d .entries) = k .cells-rowed .0 .rising in
+    let e = find-sweptMemo r memo (d .entries) a (k .memo-rises) in
+    live-cons t (sweptMemo memo (d .entries)) r (swept memo d) rest
+    ∙ ap₂ _+_ (ap₂ (countLive t) e (find-swept r memo d a)) (live-under t (sweptMemo memo (d .entries)) r rest _ e)
+    ∙ swept-live t memo (find (d .entries) r) r rest (sym (stale-cons memo r d rest) ∙ k .counted r)
+    ∙ ap (λ n. countLive t (find memo r) (find (d .entries) r) + n) (sym (live-under t memo r rest (find memo r) refl))
+    ∙ sym (live-cons t memo r d rest)
+
+-- ---- reports entered
+
+abbrev pub withEntries : Rows Place → Cell → Cell
+withEntries es d = record { number = d .number; edges = d .edges; chain = d .chain; entries = es }
+
+-- the line says p: an entry at p is live, one in a cell that p does not lie in is not
+at-live : (t : Place → Bool) (m : ℕ) (p : Place) → countLive t (some (record { missed = m; last = some p })) (some p) ≡ one-if (t p)
+at-live t m p = ap (λ b. one-if (both (not (not b)) (t p))) (same-refl p) ∙ ap one-if (true-both (t p))
+
+away-one : (t : Place → Bool) (m : ℕ) (p : Place) (r : ℕ) (c : Cell) → Rowed c → one-if (inside (c .edges) p) ≡ 0 → (e : Option Place) → find (c .entries) r ≡ e
+    → countLive t (some (record { missed = m; last = some p })) e ≡ 0
+away-one t m p r c k h none e = refl
+away-one t m p r c k h (some q) e =
+    by-cases (samePlace p q)
+    (λ s. let i = each-find (λ _ v. inside (c .edges) v ≡ true) r q (c .entries) (k .placed) e in
+    absurd (omega (arith, ap (λ x. one-if (inside (c .edges) x)) (same-true p q s), ap one-if i)))
+    (λ s. ap (λ b. one-if (both (not (not b)) (t q))) s ∙ ap one-if (false-both (t q)))
+
+away-live : (t : Place → Bool) (m : ℕ) (p : Place) (r : ℕ) (cells : List Cell) → Each Rowed cells → sumBy (λ c. one-if (inside (c .edges) p)) cells ≡ 0
+    → liveUnder t (some (record { missed = m; last = some p })) r cells ≡ 0
+unfolding sumBy
+away-live t m p r [] k h = refl
+away-live t m p r (c ∷ cs) k h = omega (arith, away-one t m p r c (k .0) (omega arith) (find (c .entries) r) refl, away-live t m p r cs (k .1) (omega arith))
+
+-- the new entry is live
+entered-here : (t : Place → Bool) (b n : Bool) (p : Place) (o : Option Line) → countLive t (entered b n p o) (some p) ≡ one-if (t p)
+entered-here t true n p none = ap one-if (true-both (t p))
+entered-here t true n p (some l) = at-live t (l .missed) p
+entered-here t false true p none = ap one-if (true-both (t p))
+entered-here t false true p (some l) = at-live t (l .missed) p
+entered-here t false false p none = at-live t 1 p
+entered-here t false false p (some l) = at-live t (l .missed + 1) p
+
+-- no other is: by a line it lies elsewhere; without one all entries were live, and the radio had one in d, or none at all
+entered-away : (t : Place → Bool) (b n : Bool) (p : Place) (o : Option Line) (r : ℕ) (cells : List Cell) → Each Rowed cells → sumBy (λ c. one-if (inside (c .edges) p)) cells ≡ 0
+    → (o ≡ none → either b n ≡ true → liveUnder t none r cells ≡ 0) → liveUnder t (entered b n p o) r cells ≡ 0
+unfolding either
+entered-away t true n p none r cells k h f = f refl refl
+entered-away t true n p (some l) r cells k h f = away-live t (l .missed) p r cells k h
+entered-away t false true p none r cells k h f = f refl refl
+entered-away t false true p (some l) r cells k h f = away-live t (l .missed) p r cells k h
+entered-away t false false p none r cells k h f = away-live t 1 p r cells k h
+entered-away t false false p (some l) r cells k h f = away-live t (l .missed + 1) p r cells k h
+
+either-one : (a b : Bool) → either a b ≡ true → 1 ≤ one-if a + one-if b
+unfolding either
+either-one true b e = omega arith
+either-one false b e = omega (arith, ap one-if e)
+
+count-held : (e : Option Place) → countLive (λ _. true) none e ≡ one-if (isSome e)
+count-held none = refl
+count-held (some p) = ap one-if (true-both true)
+
+module _ (d : Cell) (rest : List Cell) (memo : Rows Line) (new on : ℕ → Bool) (k : Books (d ∷ rest) memo new on) where
+  lineless : (t : Place → Bool) (r : ℕ) (n : Bool) → new r ≡ n → find memo r ≡ none → either (isSome (find (d .entries) r)) n ≡ true → liveUnder t none r rest ≡ 0
+  lineless t r n e f h =
+      let a : countLive (λ _. true) (find memo r) (find (d .entries) r) ≡ countLive (λ _. true) none (find (d .entries) r) = ap (λ o. countLive (λ _. true) o (find (d .entries) r)) f in
+      omega (
+        arith,
+        k .present r,
+        one-if-le (on r),
+        live-true memo r (d ∷ rest),
+        live-cons (λ _. true) memo r d rest,
+        a,
+        count-held (find (d .entries) r),
+        either-one (isSome (find (d .entries) r)) n h,
+        ap one-if e,
+        live-le t memo r rest,
+        live-true memo r rest,
+        live-under t memo r rest none f,
+      )
+
+  -- a report of r at p, marked n, with the line that it makes
+  entered-live : (t : Place → Bool) (r : ℕ) (n : Bool) (p : Place) → new r ≡ n → inside (d .edges) p ≡ true → (memo′ : Rows Line) (d′ : Cell)
+      → find memo′ r ≡ entered (isSome (find (d .entries) r)) n p (find memo r) → find (d′ .entries) r ≡ some p → liveBy t memo′ r (d′ ∷ rest) ≡ one-if (t p)
+  entered-live t r n p e h memo′ d′ f g =
+      let o = entered (isSome (find (d .entries) r)) n p (find memo r) in
+      let away = entered-away t (isSome (find (d .entries) r)) n p (find memo r) r rest (k .cells-rowed .1)
+      (omega (arith, k .apart p, sum-cons (λ (c : Cell). one-if (inside (c .edges) p)) d rest, ap one-if h))
+      (lineless t r n e) in
+      omega (
+        arith,
+        live-cons t memo′ r d′ rest,
+        ap₂ (countLive t) f g,
+        entered-here t (isSome (find (d .entries) r)) n p (find memo r),
+        live-under t memo′ r rest o f,
+        away,
+      )
+
+-- ---- one report, and all of a memory cell: what is found then
+
+pub find-enter-entries : (w : Row Report) (k : Work) (q : ℕ) → 0 < w .key → Rising 0 (k .entries) → find (enter w k .entries) q ≡ cond (eqb q (w .key)) (some (w .val .place)) (find (k .entries) q)
+unfolding enter
+find-enter-entries w k q h a = find-alter (λ _. some (w .val .place)) 0 (w .key) q (k .entries) h a
+
+pub find-enter-memo : (w : Row Report) (k : Work) (q : ℕ) → 0 < w .key → Rising 0 (k .memo)
+    → find (enter w k .memo) q ≡ cond (eqb q (w .key)) (entered (isSome (find (k .entries) q)) (w .val .new) (w .val .place) (find (k .memo) q)) (find (k .memo) q)
+unfolding enter
+find-enter-memo w k q h a =
+    find-alter (entered (isSome (find (k .entries) (w .key))) (w .val .new) (w .val .place)) 0 (w .key) q (k .memo) h a
+    ∙ by-cases (eqb q (w .key)) (λ t. rw (t, eqb-true q (w .key) t)) (λ t. rw t)
+
+pub rising-enter-entries : (w : Row Report) (k : Work) → 0 < w .key → Rising 0 (k .entries) → Rising 0 (enter w k .entries)
+unfolding enter
+rising-enter-entries w k h a = rising-alter (λ _. some (w .val .place)) 0 (w .key) (k .entries) h a
+
+pub rising-enter-memo : (w : Row Report) (k : Work) → 0 < w .key → Rising 0 (k .memo) → Rising 0 (enter w k .memo)
+unfolding enter
+rising-enter-memo w k h a = rising-alter (entered (isSome (find (k .entries) (w .key))) (w .val .new) (w .val .place)) 0 (w .key) (k .memo) h a
+
+-- the line of a radio, by its report and its entry in d
+abbrev pub enteredIf : Option Report → Option Place → Option Line → Option Line
+enteredIf none e o = o
+enteredIf (some w) e o = entered (isSome e) (w .new) (w .place) o
+
+pub find-enterEach-entries : (q b : ℕ) (ws : Rows Report) (k : Work) → Rising b ws → Rising 0 (k .entries)
+    → find (enterEach ws k .entries) q ≡ orElse (placeOf (find ws q)) (find (k .entries) q)
+unfolding enterEach find
+find-enterEach-entries q b [] k a c = refl
+find-enterEach-entries q b (w ∷ ws) k a c =
+    let pos : 0 < w .key = omega arith in
+    let ih = find-enterEach-entries q (w .key) ws (enter w k) (a .1) (rising-enter-entries w k pos c) in
+    by-cases (eqb q (w .key))
+    (λ t. rw (ih, t, find-below q (w .key) ws (omega (arith, eqb-true q (w .key) t)) (a .1), find-enter-entries w k q pos c, t))
+    (λ t. rw (ih, t, find-enter-entries w k q pos c, t))
+
+pub find-enterEach-memo : (q b : ℕ) (ws : Rows Report) (k : Work) → Rising b ws → Rising 0 (k .entries) → Rising 0 (k .memo)
+    → find (enterEach ws k .memo) q ≡ enteredIf (find ws q) (find (k .entries) q) (find (k .memo) q)
+unfolding enterEach find
+find-enterEach-memo q b [] k a c m = refl
+find-enterEach-memo q b (w ∷ ws) k a c m =
+    let pos : 0 < w .key = omega arith in
+    let ih = find-enterEach-memo q (w .key) ws (enter w k) (a .1) (rising-enter-entries w k pos c) (rising-enter-memo w k pos m) in
+    by-cases (eqb q (w .key))
+    (λ t. rw (ih, t, find-below q (w .key) ws (omega (arith, eqb-true q (w .key) t)) (a .1), find-enter-memo w k q pos m, t))
+    (λ t. rw (ih, t, find-enter-entries w k q pos c, find-enter-memo w k q pos m, t))
+
+module _ (d : Cell) (rest : List Cell) (memo : Rows Line) (new on : ℕ → Bool) (k : Books (d ∷ rest) memo new on) where
+  pub live-enter : (w : Row Report) → 0 < w .key → inside (d .edges) (w .val .place) ≡ true → new (w .key) ≡ w .val .new → (t : Place → Bool)
+      → liveBy t (enter w (record { entries = d .entries; memo = memo }) .memo) (w .key) (withEntries (enter w (record { entries = d .entries; memo = memo }) .entries) d ∷ rest)
+      ≡ one-if (t (w .val .place))
+  live-enter w h i e t =
+      let j : Work = record { entries = d .entries; memo = memo } in
+      let same = eq-eqb (w .key) (w .key) refl in
+      entered-live d rest memo new on k t (w .key) (w .val .new) (w .val .place) e i (enter w j .memo) (withEntries (enter w j .entries) d)
+      (rw same at (find-enter-memo w j (w .key) h (k .memo-rises)))
+      (rw same at (find-enter-entries w j (w .key) h (k .cells-rowed .0 .rising)))
+
+  pub live-enter-other : (w : Row Report) → 0 < w .key → (q : ℕ) → q ≢ w .key → (t : Place → Bool)
+      → liveBy t (enter w (record { entries = d .entries; memo = memo }) .memo) q (withEntries (enter w (record { entries = d .entries; memo = memo }) .entries) d ∷ rest)
+      ≡ liveBy t memo q (d ∷ rest)
+  live-enter-other w h q n t =
+      let j : Work = record { entries = d .entries; memo = memo } in
+      let other = ne-eqb q (w .key) n in
+      live-line t memo (enter w j .memo) q (withEntries (enter w j .entries) d ∷ rest) (rw other at (find-enter-memo w j q h (k .memo-rises)))
+      ∙ live-entry t memo q d (withEntries (enter w j .entries) d) rest (rw other at (find-enter-entries w j q h (k .cells-rowed .0 .rising)))
+
+  -- each radio's report is entered once, and the others touch neither its line nor its entry: what Books says before is all that is needed
+  pub live-enterEach : (ws : Rows Report) → Rising 0 ws → (q : ℕ) (w : Report) → find ws q ≡ some w → inside (d .edges) (w .place) ≡ true → new q ≡ w .new → (t : Place → Bool)
+      → liveBy t (enterEach ws (record { entries = d .entries; memo = memo }) .memo) q (withEntries (enterEach ws (record { entries = d .entries; memo = memo }) .entries) d ∷ rest)
+      ≡ one-if (t (w .place))
+  live-enterEach ws a q w f i e t =
+      let j : Work = record { entries = d .entries; memo = memo } in
+      let c : Rising 0 (d .entries) = k .cells-rowed .0 .rising in
+      entered-live d rest memo new on k t q (w .new) (w .place) e i (enterEach ws j .memo) (withEntries (enterEach ws j .entries) d)
+      (rw f at (find-enterEach-memo q 0 ws j a c (k .memo-rises)))
+      (rw f at (find-enterEach-entries q 0 ws j a c))
+
+  pub live-enterEach-other : (ws : Rows Report) → Rising 0 ws → (q : ℕ) → find ws q ≡ none → (t : Place → Bool)
+      → liveBy t (enterEach ws (record { entries = d .entries; memo = memo }) .memo) q (withEntries (enterEach ws (record { entries = d .entries; memo = memo }) .entries) d ∷ rest)
+      ≡ liveBy t memo q (d ∷ rest)
+  live-enterEach-other ws a q f t =
+      let j : Work = record { entries = d .entries; memo = memo } in
+      let c : Rising 0 (d .entries) = k .cells-rowed .0 .rising in
+      live-line t memo (enterEach ws j .memo) q (withEntries (enterEach ws j .entries) d ∷ rest) (rw f at (find-enterEach-memo q 0 ws j a c (k .memo-rises)))
+      ∙ live-entry t memo q d (withEntries (enterEach ws j .entries) d) rest (rw f at (find-enterEach-entries q 0 ws j a c))
+
+-- ---- the reports of a memory cell in d, swept before: d and the other cells as `flushedInto` has them
+
+module _ (m : Box) (s : Store) (d : Cell) (new on : ℕ → Bool)
+    (k : Books (swept (s .memo) d ∷ others (d .number) (s .cells)) (sweptMemo (s .memo) (d .entries)) new on) where
+  pub live-flushed : Rising 0 (s .waiting) → (q : ℕ) (w : Report) → find (filter (inBox (s .cuts) m) (s .waiting)) q ≡ some w → inside (d .edges) (w .place) ≡ true → new q ≡ w .new
+      → (t : Place → Bool) → liveBy t (flushedInto m s d .store .memo) q (flushedInto m s d .cell ∷ flushedInto m s d .rest) ≡ one-if (t (w .place))
+  unfolding flushedInto swept
+  live-flushed a q w f i e t =
+      live-enterEach (swept (s .memo) d) (others (d .number) (s .cells)) (sweptMemo (s .memo) (d .entries)) new on k
+      (filter (inBox (s .cuts) m) (s .waiting)) (rising-filter (inBox (s .cuts) m) 0 (s .waiting) a) q w f i e t
+
+  pub live-flushed-other : Books (d ∷ others (d .number) (s .cells)) (s .memo) new on → Rising 0 (s .waiting) → (q : ℕ) → find (filter (inBox (s .cuts) m) (s .waiting)) q ≡ none
+      → (t : Place → Bool) → liveBy t (flushedInto m s d .store .memo) q (flushedInto m s d .cell ∷ flushedInto m s d .rest) ≡ liveBy t (s .memo) q (d ∷ others (d .number) (s .cells))
+  unfolding flushedInto swept
+  live-flushed-other b a q f t =
+      live-enterEach-other (swept (s .memo) d) (others (d .number) (s .cells)) (sweptMemo (s .memo) (d .entries)) new on k
+      (filter (inBox (s .cuts) m) (s .waiting)) (rising-filter (inBox (s .cuts) m) 0 (s .waiting) a) q f t
+      ∙ live-sweep d (others (d .number) (s .cells)) (s .memo) new on b t q
+
+-- ---- sign-off
+
+pub live-off-other : (memo : Rows Line) (r : ℕ) → 0 < r → Rising 0 memo → (cells : List Cell) (q : ℕ) → q ≢ r → (t : Place → Bool)
+    → liveBy t (alter (raised none) r memo) q cells ≡ liveBy t memo q cells
+live-off-other memo r h a cells q n t = live-line t memo (alter (raised none) r memo) q cells (rw (ne-eqb q r n) at (find-alter (raised none) 0 r q memo h a))
+
+-- a line that says "none" makes all stale
+raised-none : (t : Place → Bool) (o : Option Line) (e : Option Place) → countLive t (raised none o) e ≡ 0
+raised-none t o none = refl
+raised-none t none (some p) = ap one-if (false-both (t p))
+raised-none t (some l) (some p) = ap one-if (false-both (t p))
+
+pub live-off : (memo : Rows Line) (r : ℕ) → 0 < r → Rising 0 memo → (cells : List Cell) → liveOf (alter (raised none) r memo) r cells ≡ 0
+live-off memo r h a cells =
+    sym (live-true (alter (raised none) r memo) r cells)
+    ∙ live-under (λ _. true) (alter (raised none) r memo) r cells (raised none (find memo r)) (rw (eq-eqb r r refl) at (find-alter (raised none) 0 r r memo h a))
+    ∙ sum-zero _ cells (λ c. raised-none (λ _. true) (find memo r) (find (c .entries) r))
+
+-- ---- split
+
+split-count : (t : Place → Bool) (o : Option Line) (s : Row Place → Bool) (r : ℕ) (e : Option Place)
+    → countLive t o (passed s r e) + countLive t o (passed (λ x. not (s x)) r e) ≡ countLive t o e
+split-count t o s r none = refl
+split-count t o s r (some p) = by-cases (s (record { key = r; val = p })) (λ u. rw u (omega arith)) (λ u. rw u (omega arith))
+
+pub live-split : (d : Cell) (rest : List Cell) (memo : Rows Line) (c : Cut) (n : ℕ) → Rising 0 (d .entries) → (t : Place → Bool) (r : ℕ)
+    → liveBy t memo r (lowCell c d ∷ highCell c n d ∷ rest) ≡ liveBy t memo r (d ∷ rest)
+unfolding lowCell highCell
+live-split d rest memo c n a t r =
+    omega (
+      arith,
+      live-cons t memo r (lowCell c d) (highCell c n d ∷ rest),
+      live-cons t memo r (highCell c n d) rest,
+      live-cons t memo r d rest,
+      ap (countLive t (find memo r)) (find-filter (lowSide c) 0 r (d .entries) a),
+      ap (countLive t (find memo r)) (find-filter (λ e. not (lowSide c e)) 0 r (d .entries) a),
+      split-count t (find memo r) (lowSide c) r (find (d .entries) r),
+    )
+
+-- ---- join
+
+-- an entry of a clean cell is live
+found-stale : (memo : Rows Line) (r : ℕ) (e : Option Place) → countFound (λ k v. one-if (staleBy (find memo k) v)) r e ≡ countIf (staleBy (find memo r)) e
+found-stale memo r none = refl
+found-stale memo r (some p) = refl
+
+clean-live : (memo : Rows Line) (c : Cell) (r : ℕ) → Clean memo c → countLive (λ _. true) (find memo r) (find (c .entries) r) ≡ one-if (isSome (find (c .entries) r))
+unfolding staleIn
+clean-live memo c r h =
+    count-no-stale (λ _. true) (find memo r) (find (c .entries) r)
+    (omega (arith, sum-found (λ k v. one-if (staleBy (find memo k) v)) r (c .entries), found-stale memo r (find (c .entries) r)))
+    ∙ count-held (find (c .entries) r)
+
+join-count : (t : Place → Bool) (o : Option Line) (e f : Option Place) → one-if (isSome e) + one-if (isSome f) ≤ 1 → countLive t o (orElse f e) ≡ countLive t o e + countLive t o f
+join-count t o none none h = refl
+join-count t o none (some q) h = omega arith
+join-count t o (some p) none h = omega arith
+join-count t o (some p) (some q) h = absurd (omega arith)
+
+-- an entry of a radio in each would be two live ones
+apart-clean : (d n : Cell) (rest : List Cell) (memo : Rows Line) (new on : ℕ → Bool) → Books (d ∷ n ∷ rest) memo new on → Clean memo d → Clean memo n → (r : ℕ)
+    → one-if (isSome (find (d .entries) r)) + one-if (isSome (find (n .entries) r)) ≤ 1
+apart-clean d n rest memo new on k x y r =
+    omega (
+      arith,
+      live-one (d ∷ n ∷ rest) memo new on r k,
+      live-true memo r (d ∷ n ∷ rest),
+      live-cons (λ _. true) memo r d (n ∷ rest),
+      live-cons (λ _. true) memo r n rest,
+      clean-live memo d r x,
+      clean-live memo n r y,
+    )
+
+pub live-join : (d n j : Cell) (rest : List Cell) (memo : Rows Line) (new on : ℕ → Bool) → Books (d ∷ n ∷ rest) memo new on → Clean memo d → Clean memo n
+    → j .entries ≡ merge (n .entries) (d .entries) → (t : Place → Bool) (r : ℕ) → liveBy t memo r (j ∷ rest) ≡ liveBy t memo r (d ∷ n ∷ rest)
+live-join d n j rest memo new on k x y e t r =
+    let f : find (j .entries) r ≡ orElse (find (n .entries) r) (find (d .entries) r) =
+    ap (λ es. find es r) e ∙ find-merge 0 r (n .entries) (d .entries) (k .cells-rowed .1 .0 .rising) (k .cells-rowed .0 .rising) in
+    omega (
+      arith,
+      live-cons t memo r j rest,
+      ap (countLive t (find memo r)) f,
+      join-count t (find memo r) (find (d .entries) r) (find (n .entries) r) (apart-clean d n rest memo new on k x y r),
+      live-cons t memo r d (n ∷ rest),
+      live-cons t memo r n rest,
+    )

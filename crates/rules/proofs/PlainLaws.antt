@@ -1,0 +1,354 @@
+-- The link between the store and the plain rule is kept by every call.
+use mathlib.Core.Bool.{Bool, true, false, not, cond}
+use mathlib.Core.List.{List, [], _∷_, _++_, map}
+use mathlib.Core.Option.{Option, none, some}
+use mathlib.Core.Path.{_≡_, refl, sym, ap, _∙_, subst}
+use Prim.Native.Nat.{ℕ, zero, suc, _+_, _-_, _*_, _≤_, _<_}
+use native.Mathlib.Omega.{arith}
+use lib.Dec.{eqb, leb, ltb}
+use lib.ListN.{length}
+use borrow.Author.Tests.{ltb-true, ltb-false, eqb-true, eqb-false, ne-eqb, eq-eqb}
+use Rattle.terms.specs.Terms.{Place, maxRadio}
+use Rattle.lists.specs.Rows.{Row, Rows, Rising, find, alter, passed}
+use Rattle.lists.specs.Sums.{sumBy, filter, count}
+use Rattle.lists.specs.Tests.{one-if, both, Each, isSome, orElse}
+use Rattle.lists.specs.Words.{Bytes}
+use Rattle.lists.proofs.Cases.{by-cases, option-cases, list-cases}
+use Rattle.lists.proofs.SumsLaws.{sum-cons}
+use Rattle.lists.proofs.TestsLaws.{both-right}
+use Rattle.lists.proofs.RowsLaws.{find-alter, find-filter, rising-filter}
+use Rattle.rules.specs.Limits.{sweepEvery}
+use Rattle.rules.specs.Grid.{Cuts, Box, sameBox, boxOf, cornerOf, inside}
+use Rattle.rules.specs.Store.{Report, Line, Cell, Store, others, settled, freeAfter}
+use Rattle.rules.specs.Sweep.{sweptEntries, swept, sweptMemo, sweepFront, tick}
+use Rattle.rules.specs.Cut.{Cut, chosenCut}
+use Rattle.rules.specs.Flush.{raised, entered, enterEach, inBox, Flushed, flushedInto, grown, lowCell, highCell, unusedNumber, splitAt, beside, joinedWith, reshaped, named, neighbours, cellOfBox, flush}
+use Rattle.rules.specs.Records.{Request, signOn, report, signOff, range, requestOf, refusal}
+use Rattle.rules.specs.Carry.{isOn, onCount, wasNew, placeOf, storedIn, signedOn, reported, signedOff, flushDue, afterReport, answered, found, carriedOut, carry}
+use Rattle.rules.specs.Plain.{Plain, plainOn, putAt, waitsIn, plainIn, plainDue, plainFlush, plainPlace, plainAfter, plainOff, plainDone, plainRefusal, plainStep}
+use Rattle.rules.specs.WellFormed.{WellFormed}
+use Rattle.rules.proofs.Parts.{Books, Clean, Core, marks, onSet}
+use Rattle.rules.proofs.WellLaws.{well-core}
+use Rattle.rules.proofs.LiveLaws.{liveBy, stored-none, stored-at, stored-same, live-one, live-append, live-cons, live-order, live-back, live-swap, live-settled, live-sweep, live-off, live-off-other, live-split, live-join, live-flushed, live-flushed-other, find-enterEach-memo, sweptMemo-last}
+use Rattle.rules.proofs.BooksLaws.{books-front, books-swap, books-sweep, clean-swept, stale-sweep}
+use Rattle.rules.proofs.TilingLaws.{none-some, Among, sum-among, cellAt-split, home-some, others-among, round-others, named-neighbour}
+use Rattle.rules.proofs.CutLaws.{reshaped-cases}
+use Rattle.rules.proofs.PagedLaws.{joinedCell}
+use Rattle.rules.proofs.FlushLaws.{rest-is, tiled, books-before, books-flushed, clean-flushed, report-found, report-enters}
+use Rattle.rules.proofs.LinkLaws.{Link, link-on, link-report, refusal-same, due-same}
+
+none-is : {A : Type 0} (o : Option A) → not (isSome o) ≡ true → o ≡ none
+none-is none e = refl
+none-is (some a) e = let z : _≡_ {A = ℕ} 0 1 = cc in absurd (omega arith)
+
+-- ---- sign-off
+
+-- a report marked new: nothing of its radio was flushed
+unflushed : (s : Store) (x : Plain) → Link s x → (r : ℕ) → wasNew (find (s .waiting) r) ≡ true → x .flushed r ≡ none
+unflushed s x k r u = none-is (x .flushed r) (both-right (x .waits r) (not (isSome (x .flushed r))) (sym (k .marked r) ∙ u))
+
+raised-last : (o : Option Line) (l : Line) → raised none o ≡ some l → l .last ≡ none
+raised-last none l e = let z : record { missed = 1; last = none } ≡ l = cc in sym (ap (λ (y : Line). y .last) z)
+raised-last (some k) l e = let z : record { missed = k .missed + 1; last = none } ≡ l = cc in sym (ap (λ (y : Line). y .last) z)
+
+pub link-off : (s : Store) (x : Plain) → Link s x → (r : ℕ) → 1 ≤ r → WellFormed s → Link (signedOff r s) (plainOff r x)
+unfolding signedOff plainOff isOn plainOn
+link-off s x k r h w = record {
+  on = λ q. rw (find-alter (λ _. none) 0 r q (s .on) h (w .rising-on)) (by-cases (eqb q r) (λ t. rw t) (λ t. rw t (k .on q)));
+  waiting = λ q. rw (find-alter (λ _. none) 0 r q (s .waiting) h (w .waiting-rises)) (by-cases (eqb q r) (λ t. rw t) (λ t. rw t (k .waiting q)));
+  marked = λ q. unfold both in rw (find-alter (λ _. none) 0 r q (s .waiting) h (w .waiting-rises)) (by-cases (eqb q r) (λ t. rw t) (λ t. rw t (k .marked q)));
+  stored = λ q. by-cases (wasNew (find (s .waiting) r))
+      (λ u. rw u (by-cases (eqb q r)
+      (λ t. rw (t, eqb-true q r t) (k .stored r ∙ unflushed s x k r u))
+      (λ t. rw t (k .stored q))))
+      (λ u. rw u (by-cases (eqb q r)
+      (λ t. rw (t, eqb-true q r t) (stored-none (alter (raised none) r (s .memo)) r (s .cells) (live-off (s .memo) r h (w .memo-rises) (s .cells))))
+      (λ t. rw t (stored-same (s .memo) (alter (raised none) r (s .memo)) q (s .cells) (s .cells) (live-off-other (s .memo) r h (w .memo-rises) (s .cells) q (eqb-false q r t))
+      (live-one (s .cells) (s .memo) (marks (s .waiting)) (onSet (s .on)) q (well-core s w .books)) ∙ k .stored q))));
+  lines = λ q l. by-cases (wasNew (find (s .waiting) r))
+      (λ u. rw u (λ e. k .lines q l e ∙ by-cases (eqb q r) (λ t. rw (t, eqb-true q r t) (unflushed s x k r u)) (λ t. rw t)))
+      (λ u. rw (u, find-alter (raised none) 0 r q (s .memo) h (w .memo-rises)) (by-cases (eqb q r)
+      (λ t. rw t (raised-last (find (s .memo) q) l))
+      (λ t. rw t (λ e. k .lines q l e))));
+  quiet = λ q. by-cases (eqb q r) (λ t. rw t (λ e. refl)) (λ t. rw t (k .quiet q));
+  waits-on = λ q. by-cases (eqb q r) (λ t. rw t (λ e. cc)) (λ t. rw t (k .waits-on q));
+}
+
+-- ---- the tally
+
+module _ (s : Store) (x : Plain) (k : Link s x) (b : Books (s .cells) (s .memo) (marks (s .waiting)) (onSet (s .on))) (d : Cell) (cs : List Cell) (e : s .cells ≡ d ∷ cs) where
+  front-books : Books (d ∷ cs) (s .memo) (marks (s .waiting)) (onSet (s .on))
+  front-books = subst (λ (l : List Cell). Books l (s .memo) (marks (s .waiting)) (onSet (s .on))) e b
+
+  -- the live entries stay
+  front-live : (t : Place → Bool) (q : ℕ) → liveBy t (sweptMemo (s .memo) (d .entries)) q (cs ++ (settled (s .free) (swept (s .memo) d) ∷ [])) ≡ liveBy t (s .memo) q (d ∷ cs)
+  front-live t q =
+      live-back t (sweptMemo (s .memo) (d .entries)) q cs (settled (s .free) (swept (s .memo) d) ∷ [])
+      ∙ live-settled t (sweptMemo (s .memo) (d .entries)) q (s .free) (swept (s .memo) d) cs
+      ∙ live-sweep d cs (s .memo) (marks (s .waiting)) (onSet (s .on)) front-books t q
+
+  link-front : Link (sweepFront (d ∷ cs) s) x
+  unfolding sweepFront isOn
+  link-front = record {
+    on = k .on;
+    waiting = k .waiting;
+    marked = k .marked;
+    stored = λ q.
+        stored-same (s .memo) (sweptMemo (s .memo) (d .entries)) q (d ∷ cs) _ (λ t. front-live t q) (live-one (d ∷ cs) (s .memo) (marks (s .waiting)) (onSet (s .on)) q front-books)
+        ∙ ap (storedIn (s .memo) q) (sym e) ∙ k .stored q;
+    lines = λ q l z.
+        let o = sweptMemo-last q (s .memo) (d .entries) (front-books .cells-rowed .0 .rising) (b .memo-rises) l z in
+        sym (o .2) ∙ k .lines q (o .0) (o .1);
+    quiet = k .quiet;
+    waits-on = k .waits-on;
+  }
+
+pub link-tick : (s : Store) (x : Plain) → Link s x → Books (s .cells) (s .memo) (marks (s .waiting)) (onSet (s .on)) → Link (tick s) x
+unfolding tick isOn
+link-tick s x k b =
+    by-cases (ltb (s .tally + 1) sweepEvery)
+    (λ t. rw t (record { on = k .on; waiting = k .waiting; marked = k .marked; stored = k .stored; lines = k .lines; quiet = k .quiet; waits-on = k .waits-on }))
+    (λ t. rw t (list-cases (s .cells)
+    (λ e. subst (λ (l : List Cell). Link (sweepFront l s) x) (sym e) (unfold sweepFront in k))
+    (λ d cs e. subst (λ (l : List Cell). Link (sweepFront l s) x) (sym e) (link-front s x k b d cs e))))
+
+-- ---- a flush: what follows the entering leaves the live entries and the lines' places
+
+-- d and the other cells, once the reports are in, and the store that a step makes of them
+pub record Leaves (f : Flushed) (s : Store) : Type 0 where
+  pub live : (t : Place → Bool) (q : ℕ) → liveBy t (s .memo) q (s .cells) ≡ liveBy t (f .store .memo) q (f .cell ∷ f .rest)
+  pub lines : (q : ℕ) (l : Line) → find (s .memo) q ≡ some l → (k : Line) × (find (f .store .memo) q ≡ some k) × (k .last ≡ l .last)
+  pub waiting : s .waiting ≡ f .store .waiting
+  pub on : s .on ≡ f .store .on
+
+module _ (f : Flushed) (b : Books (f .cell ∷ f .rest) (f .store .memo) (marks (f .store .waiting)) (onSet (f .store .on))) (clean : Clean (f .store .memo) (f .cell)) where
+  leaves-grown : Leaves f (grown f)
+  unfolding grown
+  leaves-grown = record {
+    live = λ t q. live-back t (f .store .memo) q (f .rest) (settled (f .store .free) (f .cell) ∷ []) ∙ live-settled t (f .store .memo) q (f .store .free) (f .cell) (f .rest);
+    lines = λ q l e. (l, e, refl);
+    waiting = refl;
+    on = refl;
+  }
+
+  leaves-split : (c : Cut) → Leaves f (splitAt c f)
+  unfolding splitAt
+  leaves-split c =
+      let low : Cell = lowCell c (f .cell) in
+      let high : Cell = highCell c (unusedNumber (f .store .cells)) (f .cell) in
+      let laid : Cell = settled (freeAfter (f .store .free) low) high in
+      record {
+        live = λ t q.
+            live-back t (f .store .memo) q (f .rest) (settled (f .store .free) low ∷ laid ∷ [])
+            ∙ live-settled t (f .store .memo) q (f .store .free) low (laid ∷ f .rest)
+            ∙ live-swap t (f .store .memo) q low laid (f .rest)
+            ∙ live-settled t (f .store .memo) q (freeAfter (f .store .free) low) high (low ∷ f .rest)
+            ∙ live-swap t (f .store .memo) q high low (f .rest)
+            ∙ live-split (f .cell) (f .rest) (f .store .memo) c (unusedNumber (f .store .cells)) (b .cells-rowed .0 .rising) t q;
+        lines = λ q l e. (l, e, refl);
+        waiting = refl;
+        on = refl;
+      }
+
+  -- m stands among the others; it is swept, d being one of the others, and joined
+  module _ (m : Cell) (a : Among (f .rest) m) (adjoin : beside (f .cell .edges) (m .edges) ≡ true) (left-is : others (m .number) (f .rest) ≡ a .before ++ a .after) where
+    abbrev left : List Cell
+    left = a .before ++ a .after
+
+    books-apart : Books (m ∷ f .cell ∷ left) (f .store .memo) (marks (f .store .waiting)) (onSet (f .store .on))
+    books-apart =
+        books-front (f .cell ∷ a .before) m (a .after)
+        (subst (λ (l : List Cell). Books (f .cell ∷ l) (f .store .memo) (marks (f .store .waiting)) (onSet (f .store .on))) (a .split) b)
+
+    abbrev memoThen : Rows Line
+    memoThen = sweptMemo (f .store .memo) (m .entries)
+
+    join-live : (t : Place → Bool) (q : ℕ) → liveBy t memoThen q (joinedCell f m ∷ left) ≡ liveBy t (f .store .memo) q (f .cell ∷ f .rest)
+    unfolding settled swept
+    join-live t q =
+        live-join (f .cell) (swept (f .store .memo) m) (joinedCell f m) left memoThen (marks (f .store .waiting)) (onSet (f .store .on))
+        (books-swap (swept (f .store .memo) m) (f .cell) left (books-sweep m (f .cell ∷ left) books-apart)) (stale-sweep m (f .cell ∷ left) books-apart .0 ∙ clean) (clean-swept m (f .cell ∷ left) books-apart) refl t q
+        ∙ live-swap t memoThen q (f .cell) (swept (f .store .memo) m) left
+        ∙ live-sweep m (f .cell ∷ left) (f .store .memo) (marks (f .store .waiting)) (onSet (f .store .on)) books-apart t q
+        ∙ live-order t (f .store .memo) q (m ∷ f .cell ∷ left) (f .cell ∷ f .rest) (λ g. omega (arith, sum-cons g m (f .cell ∷ left), sum-cons g (f .cell) left, sum-cons g (f .cell) (f .rest), sum-among g a))
+
+    leaves-join : Leaves f (joinedWith f m)
+    unfolding joinedWith
+    leaves-join = record {
+      live = λ t q.
+          subst (λ (l : List Cell). liveBy t memoThen q (l ++ (joinedCell f m ∷ [])) ≡ liveBy t (f .store .memo) q (f .cell ∷ f .rest)) (sym left-is)
+          (live-back t memoThen q left (joinedCell f m ∷ []) ∙ join-live t q);
+      lines = λ q l e. sweptMemo-last q (f .store .memo) (m .entries) (books-apart .cells-rowed .0 .rising) (b .memo-rises) l e;
+      waiting = refl;
+      on = refl;
+    }
+
+  leaves-reshaped : (pick : ℕ) → ((n : ℕ) → count n (map (λ c. c .number) (f .rest)) ≤ 1) → Leaves f (reshaped pick f)
+  leaves-reshaped pick round =
+      reshaped-cases (Leaves f) pick f leaves-grown (λ c h i e. leaves-split c)
+      (λ n h e. let q = named-neighbour pick f n e in leaves-join n (q .3) (q .1) (others-among (f .rest) n (q .3) round))
+
+-- ---- a flush: the reports of m
+
+-- what a plain flush does to one radio, from its waiting report
+module _ (s : Store) (x : Plain) (k : Link s x) (m : Box) where
+  -- its report waits in m
+  report-in : (r : ℕ) (w : Report) → find (s .waiting) r ≡ some w → (x .waits r ≡ true) × (x .latest r ≡ some (w .place)) × (plainIn (s .cuts) x m r ≡ inBox (s .cuts) m (record { key = r; val = w }))
+  unfolding plainIn inBox plainOn both
+  report-in r w e =
+      let p : some (w .place) ≡ cond (x .waits r) (x .latest r) none = sym (ap placeOf e) ∙ k .waiting r in
+      by-cases (x .waits r)
+      (λ t. let l : x .latest r ≡ some (w .place) = sym (p ∙ rw t refl) in (t, l, rw (t, l)))
+      (λ t. none-some (sym (p ∙ rw t refl)))
+
+  -- none of its waits in m
+  report-out : (r : ℕ) → find (s .waiting) r ≡ none → x .waits r ≡ false
+  unfolding plainOn
+  report-out r e =
+      by-cases (x .waits r)
+      (λ t. let l : x .latest r ≡ none = sym (sym (ap placeOf e) ∙ k .waiting r ∙ rw t refl) in let o = k .waits-on r t in absurd (let z : _≡_ {A = ℕ} 0 1 = cc in omega arith))
+      (λ t. t)
+
+entered-last : (b n : Bool) (p : Place) (o : Option Line) (l : Line) → entered b n p o ≡ some l → l .last ≡ some p
+entered-last true n p none l e = none-some e
+entered-last true n p (some k) l e = let z : record { missed = k .missed; last = some p } ≡ l = cc in sym (ap (λ (y : Line). y .last) z)
+entered-last false true p none l e = none-some e
+entered-last false true p (some k) l e = let z : record { missed = k .missed; last = some p } ≡ l = cc in sym (ap (λ (y : Line). y .last) z)
+entered-last false false p none l e = let z : record { missed = 1; last = some p } ≡ l = cc in sym (ap (λ (y : Line). y .last) z)
+entered-last false false p (some k) l e = let z : record { missed = k .missed + 1; last = some p } ≡ l = cc in sym (ap (λ (y : Line). y .last) z)
+
+module _ (s : Store) (x : Plain) (k : Link s x) (m : Box) (d : Cell) (c : Core s) (a : Among (s .cells) d) (home : inside (d .edges) (cornerOf (s .cuts) m) ≡ true) where
+  abbrev flushedHere : Flushed
+  flushedHere = flushedInto m s d
+
+  rises : Rising 0 (s .waiting)
+  rises = c .waits .waiting-rises
+
+  -- no report of the radio goes in
+  stays-out : (r : ℕ) → find (filter (inBox (s .cuts) m) (s .waiting)) r ≡ none → plainIn (s .cuts) x m r ≡ false
+  stays-out r e =
+      option-cases (find (s .waiting) r)
+      (λ n. unfold plainIn both in rw (report-out s x k m r n))
+      (λ w n. report-in s x k m r w n .2 ∙ by-cases (inBox (s .cuts) m (record { key = r; val = w }))
+      (λ t. none-some {a = w} (sym e ∙ find-filter (inBox (s .cuts) m) 0 r (s .waiting) rises ∙ rw (n, t) refl))
+      (λ t. t))
+
+  goes-in : (r : ℕ) (w : Report) → find (filter (inBox (s .cuts) m) (s .waiting)) r ≡ some w → (plainIn (s .cuts) x m r ≡ true) × (x .latest r ≡ some (w .place))
+  goes-in r w e =
+      let q = report-found m s d c a home r w e in
+      let i = report-in s x k m r w (q .0) in
+      (i .2 ∙ q .1, i .1)
+
+  -- ---- the waiting
+
+  kept-place : (r : ℕ) → placeOf (find (filter (λ w. not (inBox (s .cuts) m w)) (s .waiting)) r) ≡ cond (cond (plainIn (s .cuts) x m r) false (x .waits r)) (x .latest r) none
+  kept-place r =
+      rw (find-filter (λ w. not (inBox (s .cuts) m w)) 0 r (s .waiting) rises) (option-cases (find (s .waiting) r)
+      (λ n. rw (n, report-out s x k m r n) (never (plainIn (s .cuts) x m r) (x .latest r)))
+      (λ w n. let i = report-in s x k m r w n in rw (n, i .2, i .0, i .1) (by-cases (inBox (s .cuts) m (record { key = r; val = w })) (λ t. rw t) (λ t. rw t))))
+    where
+      never : (b : Bool) (o : Option Place) → none ≡ cond (cond b false false) o none
+      never true o = refl
+      never false o = refl
+
+  kept-mark : (r : ℕ) → wasNew (find (filter (λ w. not (inBox (s .cuts) m w)) (s .waiting)) r)
+      ≡ both (cond (plainIn (s .cuts) x m r) false (x .waits r)) (not (isSome (cond (plainIn (s .cuts) x m r) (x .latest r) (x .flushed r))))
+  kept-mark r =
+      rw (find-filter (λ w. not (inBox (s .cuts) m w)) 0 r (s .waiting) rises) (option-cases (find (s .waiting) r)
+      (λ n. rw (n, report-out s x k m r n) (never (plainIn (s .cuts) x m r) _))
+      (λ w n. let i = report-in s x k m r w n in rw (n, i .2) (by-cases (inBox (s .cuts) m (record { key = r; val = w }))
+      (λ t. unfold both in rw t)
+      (λ t. rw t (sym (ap wasNew n) ∙ k .marked r)))))
+    where
+      never : (b c : Bool) → false ≡ both (cond b false false) c
+      never true c = unfold both in refl
+      never false c = unfold both in refl
+
+  -- ---- the entries and the lines
+
+  books-others : Books (d ∷ others (d .number) (s .cells)) (s .memo) (marks (s .waiting)) (onSet (s .on))
+  books-others =
+      subst (λ (l : List Cell). Books (d ∷ l) (s .memo) (marks (s .waiting)) (onSet (s .on))) (sym (others-among (s .cells) d a (c .tiling .round)))
+      (books-before m s d c a home)
+
+  swept-others : Books (swept (s .memo) d ∷ others (d .number) (s .cells)) (sweptMemo (s .memo) (d .entries)) (marks (s .waiting)) (onSet (s .on))
+  swept-others = books-sweep d (others (d .number) (s .cells)) books-others
+
+  others-live : (t : Place → Bool) (q : ℕ) → liveBy t (s .memo) q (d ∷ others (d .number) (s .cells)) ≡ liveBy t (s .memo) q (s .cells)
+  others-live t q =
+      live-order t (s .memo) q (d ∷ others (d .number) (s .cells)) (s .cells)
+      (λ g. omega (arith, sum-cons g d (others (d .number) (s .cells)), ap (sumBy g) (others-among (s .cells) d a (c .tiling .round)), sum-among g a))
+
+  flushed-stored : (t : Store) → Leaves flushedHere t → (q : ℕ) → storedIn (t .memo) q (t .cells) ≡ cond (plainIn (s .cuts) x m q) (x .latest q) (x .flushed q)
+  flushed-stored t v q =
+      option-cases (find (filter (inBox (s .cuts) m) (s .waiting)) q)
+      (λ n. rw (stays-out q n)
+      (stored-same (s .memo) (t .memo) q (s .cells) (t .cells)
+      (λ p. v .live p q ∙ live-flushed-other m s d (marks (s .waiting)) (onSet (s .on)) swept-others books-others rises q n p ∙ others-live p q)
+      (live-one (s .cells) (s .memo) (marks (s .waiting)) (onSet (s .on)) q (c .books))
+      ∙ k .stored q))
+      (λ w n.
+      let g = goes-in q w n in
+      let f = report-found m s d c a home q w n in
+      rw (g .0, g .1)
+      (stored-at (t .memo) q (t .cells) (w .place)
+      (λ p. v .live p q ∙ live-flushed m s d (marks (s .waiting)) (onSet (s .on)) swept-others rises q w n (report-enters m s d c a home q w (f .0) (f .1) .here) (ap wasNew (f .0)) p)))
+
+  flushed-line : (q : ℕ) (l : Line) → find (flushedHere .store .memo) q ≡ some l → l .last ≡ cond (plainIn (s .cuts) x m q) (x .latest q) (x .flushed q)
+  unfolding flushedInto
+  flushed-line q l e =
+      let ws = filter (inBox (s .cuts) m) (s .waiting) in
+      let b = swept-others .cells-rowed .0 .rising in
+      let z = sym (find-enterEach-memo q 0 ws (record { entries = sweptEntries (s .memo) (d .entries); memo = sweptMemo (s .memo) (d .entries) }) (rising-filter (inBox (s .cuts) m) 0 (s .waiting) rises)
+      (unfold swept in b) (swept-others .memo-rises)) ∙ e in
+      option-cases (find ws q)
+      (λ n. rw (stays-out q n)
+      (let o = sweptMemo-last q (s .memo) (d .entries) (books-others .cells-rowed .0 .rising) (c .books .memo-rises) l (rw n at z) in
+      sym (o .2) ∙ k .lines q (o .0) (o .1)))
+      (λ w n. let g = goes-in q w n in rw (g .0, g .1) (entered-last (isSome (find (sweptEntries (s .memo) (d .entries)) q)) (w .new) (w .place) (find (sweptMemo (s .memo) (d .entries)) q) l (rw n at z)))
+
+  pub link-leaves : (t : Store) → Leaves flushedHere t → Link t (plainFlush (s .cuts) (some m) x)
+  unfolding isOn plainOn
+  link-leaves t v = record {
+    on = λ q. ap (λ (l : Rows (Unit {0})). isSome (find l q)) (v .on ∙ flushed-on) ∙ k .on q;
+    waiting = λ q. ap (λ (l : Rows Report). placeOf (find l q)) (v .waiting ∙ flushed-waiting) ∙ kept-place q;
+    marked = λ q. ap (λ (l : Rows Report). wasNew (find l q)) (v .waiting ∙ flushed-waiting) ∙ kept-mark q;
+    stored = flushed-stored t v;
+    lines = λ q l e. let o = v .lines q l e in sym (o .2) ∙ flushed-line q (o .0) (o .1);
+    quiet = λ q. by-cases (plainIn (s .cuts) x m q) (λ u. rw u (λ e. refl)) (λ u. rw u (k .quiet q));
+    waits-on = λ q. by-cases (plainIn (s .cuts) x m q) (λ u. rw u (λ e. no-truth e)) (λ u. rw u (k .waits-on q));
+  }
+    where
+      no-truth : {P : Type 0} → _≡_ {A = Bool} false true → P
+      no-truth e = let z : _≡_ {A = ℕ} 0 1 = cc in absurd (omega arith)
+
+      flushed-on : flushedHere .store .on ≡ s .on
+      flushed-on = unfold flushedInto in refl
+
+      flushed-waiting : flushedHere .store .waiting ≡ filter (λ w. not (inBox (s .cuts) m w)) (s .waiting)
+      flushed-waiting = unfold flushedInto in refl
+
+books-here : (m : Box) (s : Store) (d : Cell) (c : Core s) (a : Among (s .cells) d) → inside (d .edges) (cornerOf (s .cuts) m) ≡ true
+    → Books (flushedInto m s d .cell ∷ flushedInto m s d .rest) (flushedInto m s d .store .memo) (marks (flushedInto m s d .store .waiting)) (onSet (flushedInto m s d .store .on))
+books-here m s d c a home =
+    subst (λ (l : List Cell). Books (flushedInto m s d .cell ∷ l) (flushedInto m s d .store .memo) (marks (flushedInto m s d .store .waiting)) (onSet (flushedInto m s d .store .on)))
+    (sym (rest-is m s d c a home)) (unfold flushedInto in books-flushed m s d c a home)
+
+pub link-flush : (pick : ℕ) (m : Box) (s : Store) (x : Plain) → Link s x → Core s → Link (flush pick m s) (plainFlush (s .cuts) (some m) x)
+unfolding flush cellOfBox
+link-flush pick m s x k c =
+    let h = home-some (s .cuts) (s .cells) m (c .tiling) in
+    let at = cellAt-split (s .cells) (cornerOf (s .cuts) m) (h .0) (h .1) in
+    rw (h .1) (link-leaves s x k m (h .0) c (at .0) (at .1) (reshaped pick (flushedInto m s (h .0)))
+    (leaves-reshaped (flushedInto m s (h .0)) (books-here m s (h .0) c (at .0) (at .1)) (clean-flushed m s (h .0) c (at .0) (at .1)) pick
+    (subst (λ (l : List Cell). (n : ℕ) → count n (map (λ y. y .number) l) ≤ 1) (sym (rest-is m s (h .0) c (at .0) (at .1)))
+    (round-others (at .0 .before) (h .0) (at .0 .after) (tiled m s (h .0) c (at .0) (at .1) .round)))))
+
+-- ---- any call
+
+pub link-after : (pick : ℕ) (p : Place) (s : Store) (x : Plain) → Link s x → Core s → Link (afterReport pick p s) (plainAfter (s .cuts) p x)
+unfolding afterReport plainAfter
+link-after pick p s x k c =
+    rw (← due-same s x k (c .waits) p) (option-cases (flushDue s p)
+    (λ e. rw e k)
+    (λ m e. rw e (link-flush pick m s x k c)))

@@ -1,0 +1,151 @@
+-- What a record that passes the checks asks, and what its own effect does to who is on and to what waits.
+use mathlib.Core.Bool.{Bool, true, false, not, cond}
+use mathlib.Core.List.{List, [], _∷_, _++_}
+use mathlib.Core.Logic.{_≢_}
+use mathlib.Core.Option.{Option, none, some}
+use mathlib.Core.Path.{_≡_, refl, sym, ap, _∙_, fun-ext}
+use Prim.Native.Nat.{ℕ, zero, suc, _+_, _-_, _*_, _≤_, _<_}
+use native.Mathlib.Omega.{arith}
+use lib.Dec.{eqb, leb, ltb}
+use lib.ListN.{length, getD}
+use borrow.Author.Tests.{lt-ltb, ltb-true, ltb-false, leb-true, leb-false, eqb-true, eqb-false, ne-eqb, eq-eqb, not-true, not-false}
+use Rattle.terms.specs.Terms.{Place, maxRadio, maxOn}
+use Rattle.lists.specs.Rows.{Row, Rows, Rising, UpTo, find, alter, insert}
+use Rattle.lists.specs.Tests.{one-if, both, either, Each, isSome}
+use Rattle.lists.specs.Words.{word, Bytes}
+use Rattle.lists.proofs.Cases.{by-cases, option-cases}
+use Rattle.lists.proofs.RowsLaws.{find-alter, rising-alter, length-alter, length-alter-le, each-find, find-each}
+use Rattle.lists.proofs.TestsLaws.{either-left, either-right}
+use Rattle.lists.proofs.WordsLaws.{word-small}
+use Rattle.rules.specs.Limits.{lastMetre}
+use Rattle.rules.specs.Grid.{Rect}
+use Rattle.rules.specs.Store.{Report, Line, Store}
+use Rattle.rules.specs.Records.{Request, signOn, report, signOff, range, requestOf, kindField, radioField, placeField, rectField, kindSignOn, kindReport, kindSignOff, kindRange, notAtHand, unknownKind, wrongLength, noRadio, reversed, onAlready, notOn, noRoom, refusal}
+use Rattle.rules.specs.Carry.{isOn, onCount, wasNew, signedOn, reported, signedOff}
+use Rattle.rules.specs.Plain.{putAt}
+use Rattle.rules.specs.WellFormed.{InSquare}
+use Rattle.rules.proofs.Parts.{Signed, Waits, marks, onSet}
+
+-- ---- the checks passed
+
+-- what an accepted record asks, with what the checks showed of it
+pub data Accepted (on : ℕ → Bool) (howMany : ℕ) : Request → Type 0 where
+  on-passed : (r : ℕ) (p : Place) → 1 ≤ r → r ≤ maxRadio → InSquare p → on r ≡ false → howMany < maxOn → Accepted on howMany (signOn r p)
+  report-passed : (r : ℕ) (p : Place) → 1 ≤ r → r ≤ maxRadio → InSquare p → on r ≡ true → Accepted on howMany (report r p)
+  off-passed : (r : ℕ) → 1 ≤ r → r ≤ maxRadio → on r ≡ true → Accepted on howMany (signOff r)
+  range-passed : (rect : Rect) → Accepted on howMany (range rect)
+
+-- eight tests in a row, none of which failed
+none-failed : (a b c d e f g h : Bool) → _≡_ {A = ℕ} (cond a 3 (cond b 4 (cond c 5 (cond d 6 (cond e 7 (cond f 8 (cond g 9 (cond h 10 0)))))))) 0
+    → (d ≡ false) × (f ≡ false) × (g ≡ false) × (h ≡ false)
+none-failed true b c d e f g h z = absurd (omega arith)
+none-failed false true c d e f g h z = absurd (omega arith)
+none-failed false false true d e f g h z = absurd (omega arith)
+none-failed false false false true e f g h z = absurd (omega arith)
+none-failed false false false false true f g h z = absurd (omega arith)
+none-failed false false false false false true g h z = absurd (omega arith)
+none-failed false false false false false false true h z = absurd (omega arith)
+none-failed false false false false false false false true z = absurd (omega arith)
+none-failed false false false false false false false false z = (refl, refl, refl, refl)
+
+either-false : (a b : Bool) → either a b ≡ false → (a ≡ false) × (b ≡ false)
+unfolding either
+either-false true b e = let z : _≡_ {A = ℕ} 0 1 = cc in absurd (omega arith)
+either-false false b e = (refl, e)
+
+both-false : (a b : Bool) → a ≡ true → both a b ≡ false → b ≡ false
+unfolding both
+both-false true b t e = e
+both-false false b t e = cc
+
+place-small : (b : List ℕ) → Bytes b → InSquare (placeField b)
+unfolding placeField
+place-small b small = (let h = word-small b 6 small in omega arith, let h = word-small b 8 small in omega arith)
+
+module _ (on : ℕ → Bool) (howMany : ℕ) (b : List ℕ) (small : Bytes b) where
+  radio-small : kindField b < kindRange → noRadio b ≡ false → (1 ≤ radioField b) × (radioField b ≤ maxRadio)
+  unfolding noRadio
+  radio-small h e =
+      let t = either-false _ _ (both-false _ _ (lt-ltb (kindField b) kindRange h) e) in
+      (let u = eqb-false (radioField b) 0 (t .0) in omega (arith, u), ltb-false maxRadio (radioField b) (t .1))
+
+  passed : refusal on howMany b ≡ 0 → (noRadio b ≡ false) × (onAlready on b ≡ false) × (notOn on b ≡ false) × (noRoom howMany b ≡ false)
+  unfolding refusal
+  passed e = none-failed (notAtHand b) (unknownKind b) (wrongLength b) (noRadio b) (reversed b) (onAlready on b) (notOn on b) (noRoom howMany b) e
+
+  pub accepted : refusal on howMany b ≡ 0 → Accepted on howMany (requestOf b)
+  unfolding requestOf onAlready notOn noRoom
+  accepted e =
+      let t = passed e in
+      by-cases (eqb (kindField b) kindSignOn)
+      (λ k. let z = eqb-true (kindField b) kindSignOn k in
+      let r = radio-small (omega arith) (t .0) in
+      rw k (on-passed (radioField b) (placeField b) (r .0) (r .1) (place-small b small) (both-false _ _ k (t .1)) (leb-false maxOn howMany (both-false _ _ k (t .3)))))
+      (λ k. by-cases (eqb (kindField b) kindReport)
+      (λ l. let z = eqb-true (kindField b) kindReport l in
+      let r = radio-small (omega arith) (t .0) in
+      rw (k, l) (report-passed (radioField b) (placeField b) (r .0) (r .1) (place-small b small) (not-false _ (both-false _ _ (either-left _ l) (t .2)))))
+      (λ l. by-cases (eqb (kindField b) kindSignOff)
+      (λ m. let z = eqb-true (kindField b) kindSignOff m in
+      let r = radio-small (omega arith) (t .0) in
+      rw (k, l, m) (off-passed (radioField b) (r .0) (r .1) (not-false _ (both-false _ _ (either-right _ m) (t .2)))))
+      (λ m. rw (k, l, m) (range-passed (rectField b)))))
+
+-- ---- rows with one changed
+
+module _ {Val : Type 0} where
+  -- what holds of each row still does, if it holds of the new one
+  pub each-alter : (P : ℕ → Val → Type 0) (f : Option Val → Option Val) (r : ℕ) (l : Rows Val) → 0 < r → Rising 0 l
+      → Each (λ x. P (x .key) (x .val)) l → ((v : Val) → f (find l r) ≡ some v → P r v) → Each (λ x. P (x .key) (x .val)) (alter f r l)
+  each-alter P f r l h a e g =
+      find-each P 0 (alter f r l) (rising-alter f 0 r l h a) (λ q v k. changed q v (sym (find-alter f 0 r q l h a) ∙ k))
+    where
+      changed : (q : ℕ) (v : Val) → cond (eqb q r) (f (find l q)) (find l q) ≡ some v → P q v
+      changed q v =
+          by-cases (eqb q r)
+          (λ t. rw (t, eqb-true q r t) (λ k. g v k))
+          (λ t. rw t (λ k. each-find P q v l e k))
+
+  pub upTo-alter : (n : ℕ) (f : Option Val → Option Val) (r : ℕ) (l : Rows Val) → 0 < r → r ≤ n → Rising 0 l → UpTo n l → UpTo n (alter f r l)
+  upTo-alter n f r l h k a u = each-alter (λ q v. q ≤ n) f r l h a u (λ v e. k)
+
+  pub some-alter : (f : Option Val → Option Val) (b : Bool) (r q : ℕ) (l : Rows Val) → 0 < r → Rising 0 l → ((o : Option Val) → isSome (f o) ≡ b)
+      → isSome (find (alter f r l) q) ≡ putAt r b (λ k. isSome (find l k)) q
+  some-alter f b r q l h a g = rw (find-alter f 0 r q l h a) (by-cases (eqb q r) (λ t. rw t (g (find l q))) (λ t. rw t))
+
+-- ---- who is on
+
+pub signed-on : (r : ℕ) (on : Rows (Unit {0})) → 1 ≤ r → r ≤ maxRadio → length on < maxOn → Signed on → Signed (insert r tt on)
+signed-on r on h k few s = record {
+  few-on = let t = length-alter-le (λ _. some tt) 0 r on h (s .rising-on) in omega arith;
+  radios-on = upTo-alter maxRadio (λ _. some tt) r on h k (s .rising-on) (s .radios-on);
+  rising-on = rising-alter (λ _. some tt) 0 r on h (s .rising-on);
+}
+
+pub signed-off : (r : ℕ) (on : Rows (Unit {0})) → 1 ≤ r → r ≤ maxRadio → Signed on → Signed (alter (λ _. none) r on)
+signed-off r on h k s = record {
+  few-on = let t = length-alter (λ _. none) 0 r on h (s .rising-on) in let f = s .few-on in omega arith;
+  radios-on = upTo-alter maxRadio (λ _. none) r on h k (s .rising-on) (s .radios-on);
+  rising-on = rising-alter (λ _. none) 0 r on h (s .rising-on);
+}
+
+-- ---- what waits: one report put, or taken
+
+module _ (waiting : Rows Report) (on : Rows (Unit {0})) (s : Waits waiting on) (r : ℕ) (h : 1 ≤ r) (k : r ≤ maxRadio) (f : Option Report → Option Report) where
+  waiting-changed : (q : ℕ) (w : Report) (P : Type 0) → find (alter f r waiting) q ≡ some w → (q ≡ r → f (find waiting r) ≡ some w → P) → ((q ≡ r → ⊥) → find waiting q ≡ some w → P) → P
+  waiting-changed q w P e same other =
+      by-cases (eqb q r)
+      (λ t. same (eqb-true q r t) (rw (find-alter f 0 r q waiting h (s .waiting-rises), t, eqb-true q r t) at e))
+      (λ t. other (eqb-false q r t) (rw (find-alter f 0 r q waiting h (s .waiting-rises), t) at e))
+
+  -- the new report's place is in the square, and it is marked or its radio on; every other radio is on as before
+  pub waits-alter : (on′ : Rows (Unit {0})) → ((w : Report) → f (find waiting r) ≡ some w → InSquare (w .place))
+      → ((w : Report) → f (find waiting r) ≡ some w → w .new ≡ false → isSome (find on′ r) ≡ true)
+      → ((q : ℕ) → (q ≡ r → ⊥) → isSome (find on′ q) ≡ isSome (find on q))
+      → Waits (alter f r waiting) on′
+  waits-alter on′ placed marked kept = record {
+    waiting-rises = rising-alter f 0 r waiting h (s .waiting-rises);
+    waiting-radios = upTo-alter maxRadio f r waiting h k (s .waiting-rises) (s .waiting-radios);
+    waiting-placed = λ q w e. waiting-changed q w (InSquare (w .place)) e (λ z g. placed w g) (λ z g. s .waiting-placed q w g);
+    unmarked = λ q w e u. waiting-changed q w (isSome (find on′ q) ≡ true) e (λ z g. rw z (marked w g u)) (λ z g. kept q z ∙ s .unmarked q w g u);
+  }

@@ -1,0 +1,359 @@
+-- Every call, with any bytes and any name of a neighbour, leaves a well-formed store where it found one, linked to the plain rule where it was.
+use mathlib.Core.Bool.{Bool, true, false, not, cond}
+use mathlib.Core.List.{List, [], _∷_, _++_}
+use mathlib.Core.Option.{Option, none, some}
+use mathlib.Core.Path.{_≡_, refl, sym, ap, _∙_, subst}
+use Prim.Native.Nat.{ℕ, zero, suc, _+_, _-_, _*_, _≤_, _<_}
+use native.Mathlib.Omega.{arith}
+use lib.Dec.{eqb, leb, ltb}
+use lib.ListN.{length, drop}
+use borrow.Author.Tests.{ltb-true, ltb-false, eqb-true, eqb-false, eq-eqb, ne-eqb}
+use Rattle.terms.specs.Terms.{Place, maxRadio, maxOn, pageEntries}
+use Rattle.lists.specs.Rows.{Row, Rows, Rising, find, alter, insert, countFound}
+use Rattle.lists.specs.Sums.{sumBy, filter}
+use Rattle.lists.specs.Tests.{one-if, both, Each, isSome}
+use Rattle.lists.specs.Words.{Bytes}
+use Rattle.lists.proofs.Cases.{by-cases, option-cases, list-cases}
+use Rattle.lists.proofs.RowsLaws.{find-alter, sum-alter, length-alter, length-alter-le}
+use Rattle.lists.proofs.SumsLaws.{sum-nil, sum-cons}
+use Rattle.lists.proofs.TestsLaws.{both-left, both-right, both-intro}
+use Rattle.rules.specs.Limits.{maxCells, fullBox, fullMemory, sweepEvery}
+use Rattle.rules.specs.Grid.{Cuts, Box, sameBox, boxOf, cornerOf, inside}
+use Rattle.rules.specs.Store.{Report, Line, Cell, Store, settled}
+use Rattle.rules.specs.Sweep.{swept, sweptMemo, sweepFront, tick}
+use Rattle.rules.specs.Flush.{raised, inBox, Flushed, flushedInto, grown, splitAt, splitOr, joinedWith, joinOr, reshaped, named, neighbours, cellOfBox, flush}
+use Rattle.rules.specs.Cut.{Cut, chosenCut}
+use Rattle.rules.specs.Records.{Request, signOn, report, signOff, range, requestOf, refusal}
+use Rattle.rules.specs.Carry.{isOn, onCount, wasNew, signedOn, reported, signedOff, waitingIn, boxToFlush, flushDue, afterReport, found, listBytes, answered, carriedOut, carry}
+use Rattle.rules.specs.Plain.{Plain, plainPlace, plainAfter, plainOff, plainDone, plainStep}
+use Rattle.rules.specs.WellFormed.{InSquare, staleIn, WellFormed}
+use Rattle.rules.proofs.Parts.{Tiling, Books, Paged, Bounded, Signed, Waits, Core, marks, onSet}
+use Rattle.rules.proofs.WellLaws.{well-core, well-bounded, core-well}
+use Rattle.rules.proofs.RecordLaws.{Accepted, on-passed, report-passed, off-passed, range-passed, accepted, signed-on, signed-off, waits-alter}
+use Rattle.rules.proofs.BooksLaws.{books-ext, books-on, books-off, stale-off, books-sweep, clean-swept, stale-sweep, books-same, books-back, marks-signedOn, marks-reported, marks-signedOff, on-signedOn, on-signedOff}
+use Rattle.rules.proofs.TilingLaws.{none-some, cellAt-split, home-some, tiling-move, cutsWith}
+use Rattle.rules.proofs.CutLaws.{box-same, waiting-new, waiting-less, length-cleared, waiting-cleared, most-some, due-none, due-some, reshaped-waiting, reshaped-tally, waiting-reshaped, flush-cases}
+use Rattle.rules.proofs.PagedLaws.{sweepFront-paged}
+use Rattle.rules.proofs.RoundLaws.{bounded-record, sweepFront-bounded}
+use Rattle.rules.proofs.LinkLaws.{Link, link-on, link-report, refusal-same}
+use Rattle.rules.proofs.PlainLaws.{link-off, link-tick, link-after}
+use Rattle.rules.proofs.FlushLaws.{Staged, ready, reshaped-staged}
+
+-- room for the next report: what holds of the waiting between two calls
+pub record Roomy (s : Store) : Type 0 where
+  pub few : length (s .waiting) < fullMemory
+  pub boxes : (m : Box) → waitingIn (s .cuts) (s .waiting) m < fullBox
+
+-- ---- a flush
+
+-- the parts, the bound, and room: what holds once the flush is done
+pub record Done (s : Store) (c : ℕ) : Type 0 where
+  pub staged : Staged s c
+  pub roomy : Roomy s
+
+-- the reports of m wait no longer; no other memory cell was full
+module _ (pick : ℕ) (m : Box) (s : Store) (c : ℕ) (k : Core s) (b : Bounded (s .memo) (s .cells) (length (s .waiting)) c) (late : c ≤ sweepEvery)
+    (few : length (s .waiting) ≤ fullMemory) (some-wait : 1 ≤ waitingIn (s .cuts) (s .waiting) m)
+    (others-few : (n : Box) → sameBox n m ≡ false → waitingIn (s .cuts) (s .waiting) n < fullBox) where
+  flushed-few : (d : Cell) → length (flushedInto m s d .store .waiting) < fullMemory
+  unfolding flushedInto
+  flushed-few d = omega (arith, length-cleared (s .cuts) (s .waiting) m)
+
+  flushed-boxes : (d : Cell) (n : Box) → waitingIn (flushedInto m s d .store .cuts) (flushedInto m s d .store .waiting) n < fullBox
+  unfolding flushedInto
+  flushed-boxes d n = waiting-cleared (s .cuts) (s .waiting) m fullBox (omega arith) others-few n
+
+  flushed-done : (d : Cell) → cellOfBox s m ≡ some d → Done (reshaped pick (flushedInto m s d)) c
+  unfolding cellOfBox
+  flushed-done d e =
+      let at = cellAt-split (s .cells) (cornerOf (s .cuts) m) d e in
+      record {
+        staged = reshaped-staged (flushedInto m s d) d (at .0 .before) (at .0 .after) (s .memo) _ c (ready m s d k (at .0) (at .1) c b late (omega (arith, flushed-few d))) pick;
+        roomy = record {
+          few = rw (reshaped-waiting pick (flushedInto m s d)) (flushed-few d);
+          boxes = waiting-reshaped pick fullBox (flushedInto m s d) (flushed-boxes d);
+        };
+      }
+
+  pub flush-done : Done (flush pick m s) c
+  unfolding flush cellOfBox
+  flush-done =
+      let h = home-some (s .cuts) (s .cells) m (k .tiling) in
+      rw (h .1) (flushed-done (h .0) (h .1))
+
+-- ---- after a sign-on or report at p
+
+module _ (pick : ℕ) (p : Place) (s : Store) (c : ℕ) (k : Core s) (b : Bounded (s .memo) (s .cells) (length (s .waiting)) c) (late : c ≤ sweepEvery)
+    (few : length (s .waiting) ≤ fullMemory) (others-few : (n : Box) → sameBox n (boxOf (s .cuts) p) ≡ false → waitingIn (s .cuts) (s .waiting) n < fullBox) where
+  none-due : flushDue s p ≡ none → Roomy s
+  unfolding flushDue
+  none-due e =
+      let q = due-none (s .cuts) (waitingIn (s .cuts) (s .waiting)) (length (s .waiting)) p e in
+      record {
+        few = q .1;
+        boxes = λ n. by-cases (sameBox n (boxOf (s .cuts) p)) (λ t. rw (box-same n (boxOf (s .cuts) p) t) (q .0)) (others-few n);
+      }
+
+  all-few : waitingIn (s .cuts) (s .waiting) (boxOf (s .cuts) p) < fullBox → (n : Box) → waitingIn (s .cuts) (s .waiting) n < fullBox
+  all-few h n = by-cases (sameBox n (boxOf (s .cuts) p)) (λ t. rw (box-same n (boxOf (s .cuts) p) t) h) (others-few n)
+
+  some-due : (m : Box) → flushDue s p ≡ some m → Done (flush pick m s) c
+  unfolding flushDue
+  some-due m e =
+      due-some (s .cuts) (waitingIn (s .cuts) (s .waiting)) (length (s .waiting)) p m e
+      (λ z h. flush-done pick m s c k b late few (omega (arith, h)) (λ n t. others-few n (rw z t)))
+      (λ h i g.
+      let q = most-some (s .cuts) (s .waiting) (omega (arith, i)) in
+      let z : q .0 ≡ m = cc (q .1) in
+      flush-done pick m s c k b late few (rw (← z) (q .2)) (λ n t. all-few h n))
+
+  pub report-done : Done (afterReport pick p s) c
+  unfolding afterReport
+  report-done =
+      option-cases (flushDue s p)
+      (λ e. rw e (record { staged = record { core = k; bounded = b }; roomy = none-due e }))
+      (λ m e. rw e (some-due m e))
+
+-- ---- the tally
+
+-- the front of the round is swept and goes to the end
+module _ (s : Store) (d : Cell) (cs : List Cell) (e : s .cells ≡ d ∷ cs) (x : Done s sweepEvery) where
+  front-books : Books (d ∷ cs) (s .memo) (marks (s .waiting)) (onSet (s .on))
+  front-books = subst (λ (l : List Cell). Books l (s .memo) (marks (s .waiting)) (onSet (s .on))) e (x .staged .core .books)
+
+  front-tiling : Tiling (s .cuts) (d ∷ cs)
+  front-tiling = subst (Tiling (s .cuts)) e (x .staged .core .tiling)
+
+  front-kept : Tiling (s .cuts) (cs ++ (settled (s .free) (swept (s .memo) d) ∷ []))
+  unfolding settled swept
+  front-kept = tiling-move (s .cuts) [] d cs _ front-tiling refl refl
+
+  front-swept : Books (cs ++ (settled (s .free) (swept (s .memo) d) ∷ [])) (sweptMemo (s .memo) (d .entries)) (marks (s .waiting)) (onSet (s .on))
+  unfolding settled
+  front-swept = books-back _ cs (books-same (swept (s .memo) d) _ cs refl refl (books-sweep d cs front-books))
+
+  front-core : Core (sweepFront (d ∷ cs) s)
+  unfolding sweepFront
+  front-core = record {
+    tiling = front-kept;
+    books = front-swept;
+    paged = sweepFront-paged d cs s (subst (λ (l : List Cell). Paged l (s .free)) e (x .staged .core .paged));
+    signed = x .staged .core .signed;
+    waits = x .staged .core .waits;
+  }
+
+  pub front-well : WellFormed (sweepFront (d ∷ cs) s)
+  unfolding sweepFront
+  front-well =
+      core-well (sweepFront (d ∷ cs) s) front-core
+      (sweepFront-bounded d cs s (length (s .waiting)) sweepEvery (subst (λ (l : List Cell). Bounded (s .memo) l (length (s .waiting)) sweepEvery) e (x .staged .bounded)) (omega arith)
+      (omega (arith, x .roomy .few)) (front-tiling .few-cells) (stale-sweep d cs front-books) (clean-swept d cs front-books))
+      (x .roomy .few) (x .roomy .boxes) (omega arith)
+
+-- the square is tiled, so there is a cell
+some-cell : (s : Store) → Tiling (s .cuts) (s .cells) → s .cells ≡ [] → ⊥
+some-cell s t e =
+    let corner : Place = record { east = 0; north = 0 } in
+    omega (arith, t .tiled corner (omega arith, omega arith), ap (λ (l : List Cell). sumBy (λ c. one-if (inside (c .edges) corner)) l) e, sum-nil (λ (c : Cell). one-if (inside (c .edges) corner)))
+
+pub tick-well : (s : Store) → s .tally < sweepEvery → Done s (s .tally + 1) → WellFormed (tick s)
+unfolding tick
+tick-well s t x =
+    by-cases (ltb (s .tally + 1) sweepEvery)
+    (λ u. let h = ltb-true (s .tally + 1) sweepEvery u in rw u (core-well _ (counted-core (x .staged .core)) (x .staged .bounded) (x .roomy .few) (x .roomy .boxes) h))
+    (λ u. let h = ltb-false (s .tally + 1) sweepEvery u in
+    let z : s .tally + 1 ≡ sweepEvery = omega arith in
+    rw u (list-cases (s .cells)
+    (λ e. absurd (some-cell s (x .staged .core .tiling) e))
+    (λ d cs e. subst (λ (l : List Cell). WellFormed (sweepFront l s)) (sym e) (front-well s d cs e (subst (Done s) z x)))))
+  where
+    counted-core : Core s → Core (record { cuts = s .cuts; cells = s .cells; free = s .free; waiting = s .waiting; memo = s .memo; on = s .on; tally = s .tally + 1 })
+    counted-core k = record { tiling = k .tiling; books = k .books; paged = k .paged; signed = k .signed; waits = k .waits }
+
+-- ---- a record's own effect
+
+box-other : (n m : Box) → sameBox n m ≡ false → sameBox m n ≡ false
+box-other n m t =
+    by-cases (sameBox m n)
+    (λ u. let same : sameBox n m ≡ true = subst (λ (k : Box). sameBox n k ≡ true) (sym (box-same m n u)) (both-intro (eq-eqb (n .east) (n .east) refl) (eq-eqb (n .north) (n .north) refl)) in
+    absurd (let z : _≡_ {A = Bool} true false = sym same ∙ t in let v : _≡_ {A = ℕ} 0 1 = cc in omega arith))
+    (λ u. u)
+
+-- a report is put among the waiting: one more waits, in the memory cell of its place
+module _ (s : Store) (w : WellFormed s) (r : ℕ) (h : 1 ≤ r) (f : Option Report → Option Report) (p : Place) (b : Bool)
+    (put : f (find (s .waiting) r) ≡ some (record { place = p; new = b })) where
+  put-few : length (alter f r (s .waiting)) ≤ fullMemory
+  put-few = omega (arith, length-alter-le f 0 r (s .waiting) h (w .waiting-rises), w .few-wait)
+
+  put-boxes : (n : Box) → sameBox n (boxOf (s .cuts) p) ≡ false → waitingIn (s .cuts) (alter f r (s .waiting)) n < fullBox
+  put-boxes n t =
+      omega (
+        arith,
+        waiting-new (s .cuts) f r (s .waiting) (record { place = p; new = b }) n h (w .waiting-rises) put,
+        w .few-in-box n,
+        ap one-if (box-other n (boxOf (s .cuts) p) t),
+      )
+
+  put-bounded : Bounded (s .memo) (s .cells) (length (alter f r (s .waiting))) (s .tally + 1)
+  put-bounded =
+      bounded-record (s .memo) (s .memo) (s .cells) (length (s .waiting)) (length (alter f r (s .waiting))) (s .tally) (well-bounded s w)
+      (λ k. omega (arith, length-alter-le f 0 r (s .waiting) h (w .waiting-rises)))
+
+on-core : (s : Store) (w : WellFormed s) (r : ℕ) (p : Place) → 1 ≤ r → r ≤ maxRadio → InSquare p → isOn s r ≡ false → onCount s < maxOn → Core (signedOn r p s)
+unfolding signedOn isOn onCount
+on-core s w r p h k q off room =
+    let c = well-core s w in
+    record {
+      tiling = c .tiling;
+      books = books-ext (marks-signedOn r p (s .waiting) h (w .waiting-rises)) (on-signedOn r (s .on) h (w .rising-on)) (books-on r off (c .books));
+      paged = c .paged;
+      signed = signed-on r (s .on) h k room (c .signed);
+      waits = waits-alter (s .waiting) (s .on) (c .waits) r h k (λ _. some (record { place = p; new = true })) (insert r tt (s .on))
+          (λ v e. subst (λ (z : Report). InSquare (z .place)) (some-inj e) q)
+          (λ v e u. absurd (not-marked v e u))
+          (λ n z. rw (find-alter (λ _. some tt) 0 r n (s .on) h (w .rising-on), ne-eqb n r z));
+    }
+  where
+    some-inj : {A : Type 0} {x y : A} → some x ≡ some y → x ≡ y
+    some-inj e = cc
+
+    not-marked : (v : Report) → some (record { place = p; new = true }) ≡ some v → v .new ≡ false → ⊥
+    not-marked v e u = let z : true ≡ v .new = ap (λ (x : Report). x .new) (some-inj e) in let y : _≡_ {A = ℕ} 0 1 = cc in omega arith
+
+report-core : (s : Store) (w : WellFormed s) (r : ℕ) (p : Place) → 1 ≤ r → r ≤ maxRadio → InSquare p → isOn s r ≡ true → Core (reported r p s)
+unfolding reported isOn
+report-core s w r p h k q on =
+    let c = well-core s w in
+    record {
+      tiling = c .tiling;
+      books = books-ext (marks-reported r p (s .waiting) h (w .waiting-rises)) (λ n. refl) (c .books);
+      paged = c .paged;
+      signed = c .signed;
+      waits = waits-alter (s .waiting) (s .on) (c .waits) r h k (λ o. some (record { place = p; new = wasNew o })) (s .on)
+          (λ v e. subst (λ (z : Report). InSquare (z .place)) (some-inj e) q)
+          (λ v e u. on)
+          (λ n z. refl);
+    }
+  where
+    some-inj : {A : Type 0} {x y : A} → some x ≡ some y → x ≡ y
+    some-inj e = cc
+
+off-core : (s : Store) (w : WellFormed s) (r : ℕ) → 1 ≤ r → r ≤ maxRadio → isOn s r ≡ true → Core (signedOff r s)
+unfolding signedOff isOn
+off-core s w r h k on =
+    let c = well-core s w in
+    record {
+      tiling = c .tiling;
+      books = books-ext (marks-signedOff r (s .waiting) h (w .waiting-rises)) (on-signedOff r (s .on) h (w .rising-on)) (books-off r h k on (c .books));
+      paged = c .paged;
+      signed = signed-off r (s .on) h k (c .signed);
+      waits = waits-alter (s .waiting) (s .on) (c .waits) r h k (λ _. none) (alter (λ _. none) r (s .on))
+          (λ v e. none-some e)
+          (λ v e u. none-some e)
+          (λ n z. rw (find-alter (λ _. none) 0 r n (s .on) h (w .rising-on), ne-eqb n r z));
+    }
+
+-- ---- sign-on, report, sign-off
+
+-- a flush leaves the tally
+after-tally : (pick : ℕ) (p : Place) (s : Store) → afterReport pick p s .tally ≡ s .tally
+unfolding afterReport
+after-tally pick p s =
+    option-cases (flushDue s p)
+    (λ e. rw e)
+    (λ m e. rw e (flush-cases (λ t. t .tally ≡ s .tally) pick m s (λ n. refl) (λ d n. reshaped-tally pick (flushedInto m s d) ∙ flushed-tally m d)))
+  where
+    flushed-tally : (m : Box) (d : Cell) → flushedInto m s d .store .tally ≡ s .tally
+    flushed-tally m d = unfold flushedInto in refl
+
+report-well : (pick : ℕ) (p : Place) (s : Store) → Core s → Bounded (s .memo) (s .cells) (length (s .waiting)) (s .tally + 1) → s .tally < sweepEvery → length (s .waiting) ≤ fullMemory
+    → ((n : Box) → sameBox n (boxOf (s .cuts) p) ≡ false → waitingIn (s .cuts) (s .waiting) n < fullBox) → WellFormed (tick (afterReport pick p s))
+report-well pick p s k b t few boxes =
+    tick-well (afterReport pick p s) (subst (λ (c : ℕ). c < sweepEvery) (sym (after-tally pick p s)) t)
+    (subst (λ (c : ℕ). Done (afterReport pick p s) (c + 1)) (sym (after-tally pick p s)) (report-done pick p s (s .tally + 1) k b (omega arith) few boxes))
+
+on-well : (pick : ℕ) (s : Store) (w : WellFormed s) (r : ℕ) (p : Place) → 1 ≤ r → r ≤ maxRadio → InSquare p → isOn s r ≡ false → onCount s < maxOn
+    → WellFormed (tick (afterReport pick p (signedOn r p s)))
+unfolding signedOn
+on-well pick s w r p h k q off room =
+    let f : Option Report → Option Report = λ _. some (record { place = p; new = true }) in
+    report-well pick p (signedOn r p s) (on-core s w r p h k q off room) (put-bounded s w r h f p true refl) (w .tallied) (put-few s w r h f p true refl) (put-boxes s w r h f p true refl)
+
+report-on-well : (pick : ℕ) (s : Store) (w : WellFormed s) (r : ℕ) (p : Place) → 1 ≤ r → r ≤ maxRadio → InSquare p → isOn s r ≡ true → WellFormed (tick (afterReport pick p (reported r p s)))
+unfolding reported
+report-on-well pick s w r p h k q on =
+    let f : Option Report → Option Report = λ o. some (record { place = p; new = wasNew o }) in
+    let b = wasNew (find (s .waiting) r) in
+    report-well pick p (reported r p s) (report-core s w r p h k q on) (put-bounded s w r h f p b refl) (w .tallied) (put-few s w r h f p b refl) (put-boxes s w r h f p b refl)
+
+off-well : (s : Store) (w : WellFormed s) (r : ℕ) → 1 ≤ r → r ≤ maxRadio → isOn s r ≡ true → WellFormed (tick (signedOff r s))
+unfolding signedOff isOn
+off-well s w r h k on =
+    let less = length-alter (λ _. none) 0 r (s .waiting) h (w .waiting-rises) in
+    tick-well (signedOff r s) (w .tallied) (record {
+      staged = record {
+        core = off-core s w r h k on;
+        bounded =
+            bounded-record (s .memo) _ (s .cells) (length (s .waiting)) (length (alter (λ _. none) r (s .waiting))) (s .tally) (well-bounded s w)
+            (λ j. omega (arith, stale-off r h k on (well-core s w .books) j, less, one-if-le (not (wasNew (find (s .waiting) r)))));
+      };
+      roomy = record {
+        few = omega (arith, less, w .few-wait);
+        boxes = λ n. omega (arith, waiting-less (s .cuts) (λ _. none) r (s .waiting) n h (w .waiting-rises) refl, w .few-in-box n);
+      };
+    })
+  where
+    one-if-le : (b : Bool) → one-if b ≤ 1
+    one-if-le true = omega arith
+    one-if-le false = omega arith
+
+-- ---- any call
+
+answered-store : (l : Rows Place) (s : Store) (buffer : List ℕ) → answered l s buffer .store ≡ s
+unfolding answered
+answered-store l s buffer = by-cases (ltb (length buffer) (listBytes * length l)) (λ t. rw t) (λ t. rw t)
+
+done-well : (pick : ℕ) (q : Request) (s : Store) (buffer : List ℕ) → WellFormed s → Accepted (isOn s) (onCount s) q → WellFormed (carriedOut pick q s buffer .store)
+unfolding carriedOut
+done-well pick q s buffer w (on-passed r p h k i off room) = on-well pick s w r p h k i off room
+done-well pick q s buffer w (report-passed r p h k i on) = report-on-well pick s w r p h k i on
+done-well pick q s buffer w (off-passed r h k on) = off-well s w r h k on
+done-well pick q s buffer w (range-passed rect) = subst WellFormed (sym (answered-store (found s rect) s buffer)) w
+
+pub step-well : (pick : ℕ) (s : Store) (bytes buffer : List ℕ) → Bytes bytes → WellFormed s → WellFormed (carry pick s bytes buffer .store)
+unfolding carry
+step-well pick s bytes buffer small w =
+    by-cases (eqb (refusal (isOn s) (onCount s) bytes) 0)
+    (λ t. rw t (done-well pick (requestOf bytes) s buffer w (accepted (isOn s) (onCount s) bytes small (eqb-true (refusal (isOn s) (onCount s) bytes) 0 t))))
+    (λ t. rw t w)
+
+-- ---- beside the plain rule
+
+report-link : (pick : ℕ) (p : Place) (s : Store) (x : Plain) → Link s x → Core s → Bounded (s .memo) (s .cells) (length (s .waiting)) (s .tally + 1) → s .tally < sweepEvery
+    → length (s .waiting) ≤ fullMemory → ((n : Box) → sameBox n (boxOf (s .cuts) p) ≡ false → waitingIn (s .cuts) (s .waiting) n < fullBox)
+    → Link (tick (afterReport pick p s)) (plainAfter (s .cuts) p x)
+report-link pick p s x l k b t few boxes =
+    link-tick (afterReport pick p s) (plainAfter (s .cuts) p x) (link-after pick p s x l k) (report-done pick p s (s .tally + 1) k b (omega arith) few boxes .staged .core .books)
+
+done-link : (pick : ℕ) (q : Request) (s : Store) (x : Plain) (buffer : List ℕ) → WellFormed s → Link s x → Accepted (isOn s) (onCount s) q
+    → Link (carriedOut pick q s buffer .store) (plainDone (s .cuts) q x)
+unfolding carriedOut plainDone signedOn reported
+done-link pick q s x buffer w l (on-passed r p h k i off room) =
+    let f : Option Report → Option Report = λ _. some (record { place = p; new = true }) in
+    report-link pick p (signedOn r p s) (plainPlace r p x) (link-on s x l r p h (well-core s w .signed) (well-core s w .waits) off)
+    (on-core s w r p h k i off room) (put-bounded s w r h f p true refl) (w .tallied) (put-few s w r h f p true refl) (put-boxes s w r h f p true refl)
+done-link pick q s x buffer w l (report-passed r p h k i on) =
+    let f : Option Report → Option Report = λ o. some (record { place = p; new = wasNew o }) in
+    let b = wasNew (find (s .waiting) r) in
+    report-link pick p (reported r p s) (plainPlace r p x) (link-report s x l r p h (well-core s w .waits) on)
+    (report-core s w r p h k i on) (put-bounded s w r h f p b refl) (w .tallied) (put-few s w r h f p b refl) (put-boxes s w r h f p b refl)
+done-link pick q s x buffer w l (off-passed r h k on) = link-tick (signedOff r s) (plainOff r x) (link-off s x l r h w) (off-core s w r h k on .books)
+done-link pick q s x buffer w l (range-passed rect) = subst (λ (t : Store). Link t x) (sym (answered-store (found s rect) s buffer)) l
+
+pub step-link : (pick : ℕ) (s : Store) (x : Plain) (bytes buffer : List ℕ) → Bytes bytes → WellFormed s → Link s x
+    → Link (carry pick s bytes buffer .store) (plainStep (s .cuts) bytes x)
+unfolding carry plainStep
+step-link pick s x bytes buffer small w l =
+    rw (← refusal-same s x l (well-core s w .signed) bytes) (by-cases (eqb (refusal (isOn s) (onCount s) bytes) 0)
+    (λ t. rw t (done-link pick (requestOf bytes) s x buffer w l (accepted (isOn s) (onCount s) bytes small (eqb-true (refusal (isOn s) (onCount s) bytes) 0 t))))
+    (λ t. rw t l))

@@ -1,0 +1,184 @@
+-- How a record is carried out (01, the heading of that name), and what is answered (01, "Turned down, in checking order").
+use mathlib.Core.Bool.{Bool, true, false, not, cond}
+use mathlib.Core.List.{List, [], _∷_, _++_}
+use mathlib.Core.Option.{Option, none, some}
+use Prim.Native.Nat.{ℕ, _+_, _*_}
+use lib.Dec.{eqb, leb, ltb}
+use lib.ListN.{length}
+use Rattle.terms.specs.Terms.{Place, fieldBytes}
+use Rattle.lists.specs.Parts.{put}
+use Rattle.lists.specs.Rows.{Row, Rows, find, alter, insert, passed}
+use Rattle.lists.specs.Sums.{sumBy, keep}
+use Rattle.lists.specs.Tests.{one-if, isSome, orElse, best}
+use Rattle.lists.specs.Words.{le}
+use Rattle.rules.specs.Limits.{fullBox, fullMemory}
+use Rattle.rules.specs.Grid.{Rect, inside, Cuts, Box, boxOf, boxes}
+use Rattle.rules.specs.Store.{Report, Line, Cell, Store}
+use Rattle.rules.specs.Sweep.{stale, tick}
+use Rattle.rules.specs.Flush.{raised, inBox, flush, allowedFlush}
+use Rattle.rules.specs.Records.{Request, signOn, report, signOff, range, requestOf, refusal}
+
+-- ---- who is on
+
+unfoldable pub isOn : Store → ℕ → Bool
+isOn s r = isSome (find (s .on) r)
+
+unfoldable pub onCount : Store → ℕ
+onCount s = length (s .on)
+
+-- ---- the record's own effect
+
+abbrev pub wasNew : Option Report → Bool
+wasNew none = false
+wasNew (some w) = w .new
+
+abbrev withWaiting : Rows Report → Rows Line → Rows (Unit {0}) → Store → Store
+withWaiting waiting memo on s = record {
+  cuts = s .cuts;
+  cells = s .cells;
+  free = s .free;
+  waiting = waiting;
+  memo = memo;
+  on = on;
+  tally = s .tally;
+}
+
+-- "Sign-on puts a report marked new among the waiting."
+unfoldable pub signedOn : ℕ → Place → Store → Store
+signedOn r p s = withWaiting (insert r (record { place = p; new = true }) (s .waiting)) (s .memo) (insert r tt (s .on)) s
+
+-- "Report replaces a waiting report of that radio, keeping its mark new; otherwise it waits unmarked."
+unfoldable pub reported : ℕ → Place → Store → Store
+reported r p s = withWaiting (alter (λ w. some (record { place = p; new = wasNew w })) r (s .waiting)) (s .memo) (s .on) s
+
+-- "Sign-off discards a waiting report. If the discarded one was not marked new, or none waited, the memo's missed count for the radio grows by 1 (made as
+-- 1 if absent) and its place becomes none."
+unfoldable pub signedOff : ℕ → Store → Store
+signedOff r s =
+    withWaiting (alter (λ _. none) r (s .waiting))
+    (cond (wasNew (find (s .waiting) r)) (s .memo) (alter (raised none) r (s .memo)))
+    (alter (λ _. none) r (s .on))
+    s
+
+-- ---- "After sign-on or report"
+
+-- "the memory cell with most waiting; ties go to the southern, then the western"
+abbrev pub mostOf : (Box → ℕ) → List Box → Option Box
+mostOf howMany [] = none
+mostOf howMany (m ∷ ms) = some (best (λ y x. ltb (howMany x) (howMany y)) m ms)
+
+abbrev boxIf : Bool → Box → Option Box
+boxIf true m = some m
+boxIf false m = none
+
+-- "if the memory cell of that place has 8 waiting, flush it. If 128 still wait in all, flush the memory cell with most waiting": the memory cell to flush,
+-- from how many wait in each and in all. It serves the desk and the plain rule.
+unfoldable pub boxToFlush : Cuts → (Box → ℕ) → ℕ → Place → Option Box
+boxToFlush cuts howMany inAll p =
+    orElse (boxIf (leb fullBox (howMany (boxOf cuts p))) (boxOf cuts p))
+    (cond (leb fullMemory inAll) (mostOf howMany (boxes cuts)) none)
+
+-- how many wait in a memory cell
+unfoldable pub waitingIn : Cuts → Rows Report → Box → ℕ
+waitingIn cuts waiting m = sumBy (λ w. one-if (inBox cuts m w)) waiting
+
+unfoldable pub flushDue : Store → Place → Option Box
+flushDue s p = boxToFlush (s .cuts) (waitingIn (s .cuts) (s .waiting)) (length (s .waiting)) p
+
+abbrev flushIf : ℕ → Option Box → Store → Store
+flushIf pick none s = s
+flushIf pick (some m) s = flush pick m s
+
+unfoldable pub afterReport : ℕ → Place → Store → Store
+afterReport pick p s = flushIf pick (flushDue s p) s
+
+-- ---- range
+
+-- the entry of a radio in a cell that isn't stale
+unfoldable pub liveIn : Rows Line → ℕ → Cell → Option Place
+liveIn memo r c = passed (λ e. not (stale memo e)) r (find (c .entries) r)
+
+unfoldable pub storedIn : Rows Line → ℕ → List Cell → Option Place
+storedIn memo r [] = none
+storedIn memo r (c ∷ cs) = orElse (liveIn memo r c) (storedIn memo r cs)
+
+abbrev pub placeOf : Option Report → Option Place
+placeOf none = none
+placeOf (some w) = some (w .place)
+
+-- "latest place, a waiting report's before a stored one's"
+unfoldable pub latest : Store → ℕ → Option Place
+latest s r = orElse (placeOf (find (s .waiting) r)) (storedIn (s .memo) r (s .cells))
+
+-- "All four edges count as inside."
+abbrev pub inRange : Rect → Option Place → Bool
+inRange rect none = false
+inRange rect (some p) = inside rect p
+
+abbrev pub listIf : Rect → ℕ → Option Place → Rows Place → Rows Place
+listIf rect r none l = l
+listIf rect r (some p) l = keep (inside rect p) (record { key = r; val = p }) l
+
+-- "the radios on whose latest place .. lies in the rectangle, by rising number"
+unfoldable pub listOf : Rect → (ℕ → Option Place) → Rows (Unit {0}) → Rows Place
+listOf rect latestOf [] = []
+listOf rect latestOf (x ∷ xs) = listIf rect (x .key) (latestOf (x .key)) (listOf rect latestOf xs)
+
+unfoldable pub found : Store → Rect → Rows Place
+found s rect = listOf rect (latest s) (s .on)
+
+-- "6 × n bytes (radio, east, north)"
+abbrev pub listBytes : ℕ
+listBytes = 6
+
+unfoldable pub bytesOf : Rows Place → List ℕ
+bytesOf [] = []
+bytesOf (x ∷ xs) = le fieldBytes (x .key) ++ (le fieldBytes (x .val .east) ++ (le fieldBytes (x .val .north) ++ bytesOf xs))
+
+-- ---- the whole
+
+-- "The answer carries the number and 0; number 11 carries n. .. An accepted record carries number 0 and, for a range, n, else 0."
+pub record Outcome : Type 0 where
+  pub number : ℕ
+  pub count : ℕ
+  pub buffer : List ℕ
+  pub store : Store
+
+-- 11: "The answer buffer has fewer than 6 × n bytes for n radios found."; "An accepted range writes 6 × n bytes .. at the buffer's start and nothing else."
+unfoldable pub answered : Rows Place → Store → List ℕ → Outcome
+answered l s buffer =
+    cond (ltb (length buffer) (listBytes * length l))
+    (record { number = 11; count = length l; buffer = buffer; store = s })
+    (record { number = 0; count = length l; buffer = put buffer 0 (bytesOf l); store = s })
+
+abbrev accepted : Store → List ℕ → Outcome
+accepted s buffer = record { number = 0; count = 0; buffer = buffer; store = s }
+
+unfoldable pub carriedOut : ℕ → Request → Store → List ℕ → Outcome
+carriedOut pick (signOn r p) s buffer = accepted (tick (afterReport pick p (signedOn r p s))) buffer
+carriedOut pick (report r p) s buffer = accepted (tick (afterReport pick p (reported r p s))) buffer
+carriedOut pick (signOff r) s buffer = accepted (tick (signedOff r s)) buffer
+carriedOut pick (range rect) s buffer = answered (found s rect) s buffer
+
+-- from the named neighbour, a sound store, a record's bytes and an answer buffer
+unfoldable pub carry : ℕ → Store → List ℕ → List ℕ → Outcome
+carry pick s bytes buffer =
+    cond (eqb (refusal (isOn s) (onCount s) bytes) 0)
+    (carriedOut pick (requestOf bytes) s buffer)
+    (record { number = refusal (isOn s) (onCount s) bytes; count = 0; buffer = buffer; store = s })
+
+-- ---- what is allowed of the neighbour's name
+
+abbrev allowedIf : ℕ → Option Box → Store → Bool
+allowedIf pick none s = true
+allowedIf pick (some m) s = allowedFlush pick m s
+
+unfoldable pub allowedIn : ℕ → Request → Store → Bool
+allowedIn pick (signOn r p) s = allowedIf pick (flushDue (signedOn r p s) p) (signedOn r p s)
+allowedIn pick (report r p) s = allowedIf pick (flushDue (reported r p s) p) (reported r p s)
+allowedIn pick (signOff r) s = true
+allowedIn pick (range rect) s = true
+
+-- "the joined neighbour: a cell beside d, a rectangle with it, at most 24 entries together, counted as Join says"
+unfoldable pub allowed : ℕ → Store → List ℕ → Bool
+allowed pick s bytes = cond (eqb (refusal (isOn s) (onCount s) bytes) 0) (allowedIn pick (requestOf bytes) s) true

@@ -1,0 +1,244 @@
+-- Flush, with the split or the join that follows it (01, "How a record is carried out").
+use mathlib.Core.Bool.{Bool, true, false, not, cond}
+use mathlib.Core.List.{List, [], _∷_, _++_, map}
+use mathlib.Core.Option.{Option, none, some}
+use Prim.Native.Nat.{ℕ, zero, suc, _+_, _-_, min, max}
+use lib.Dec.{eqb, leb, ltb}
+use lib.ListN.{length}
+use Rattle.terms.specs.Terms.{Place, pageEntries}
+use Rattle.lists.specs.Chains.{settledFree}
+use Rattle.lists.specs.Parts.{tab}
+use Rattle.lists.specs.Rows.{Row, Rows, find, alter, insert, merge}
+use Rattle.lists.specs.Sort.{sortIn}
+use Rattle.lists.specs.Sums.{filter, count}
+use Rattle.lists.specs.Tests.{both, either, isSome, firstAt}
+use Rattle.rules.specs.Limits.{maxCells, joinEntries}
+use Rattle.rules.specs.Grid.{Axis, eastward, northward, across, Span, sameSpan, Rect, spanOf, withSpan, Cuts, cutsOf, withCuts, Box, sameBox, boxOf, cornerOf}
+use Rattle.rules.specs.Store.{Report, Line, Cell, Store, cellAt, others, settled, freeAfter}
+use Rattle.rules.specs.Sweep.{sweptEntries, sweptMemo, swept}
+use Rattle.rules.specs.Cut.{Cut, lowSide, chosenCut}
+
+-- ---- "For each waiting report of m"
+
+-- "any memo line takes the new place"
+abbrev pub placed : Option Place → Option Line → Option Line
+placed p none = none
+placed p (some l) = some (record { missed = l .missed; last = p })
+
+-- "add 1 to the missed count (made as 1 if absent)"
+abbrev pub raised : Option Place → Option Line → Option Line
+raised p none = some (record { missed = 1; last = p })
+raised p (some l) = some (record { missed = l .missed + 1; last = p })
+
+-- the memo line of a radio whose report is entered: an entry was found, or the report is new, or neither
+abbrev pub entered : Bool → Bool → Place → Option Line → Option Line
+entered true new p = placed (some p)
+entered false true p = placed (some p)
+entered false false p = raised (some p)
+
+-- d's entries and the memo, as the reports come in
+pub record Work : Type 0 where
+  pub entries : Rows Place
+  pub memo : Rows Line
+
+-- "if d has an entry of that radio, it and any memo line take the new place; else add the entry, and, if not marked new, add 1 to the missed count"
+unfoldable pub enter : Row Report → Work → Work
+enter w k = record {
+  entries = insert (w .key) (w .val .place) (k .entries);
+  memo = alter (entered (isSome (find (k .entries) (w .key))) (w .val .new) (w .val .place)) (w .key) (k .memo);
+}
+
+unfoldable pub enterEach : Rows Report → Work → Work
+enterEach [] k = k
+enterEach (w ∷ ws) k = enterEach ws (enter w k)
+
+-- the waiting reports of a memory cell, and the others
+unfoldable pub inBox : Cuts → Box → Row Report → Bool
+inBox cuts m w = sameBox (boxOf cuts (w .val .place)) m
+
+-- ---- d once the reports are in
+
+-- "sweep d. For each waiting report of m ..": d, not yet settled, the other cells in the order of the round, and the store but for these
+pub record Flushed : Type 0 where
+  pub cell : Cell
+  pub rest : List Cell
+  pub store : Store
+
+unfoldable pub flushedInto : Box → Store → Cell → Flushed
+flushedInto m s d =
+    let k : Work = enterEach (filter (inBox (s .cuts) m) (s .waiting)) (record { entries = sweptEntries (s .memo) (d .entries); memo = sweptMemo (s .memo) (d .entries) }) in
+    record {
+      cell = record { number = d .number; edges = d .edges; chain = d .chain; entries = k .entries };
+      rest = others (d .number) (s .cells);
+      store = record {
+        cuts = s .cuts;
+        cells = s .cells;
+        free = s .free;
+        waiting = filter (λ w. not (inBox (s .cuts) m w)) (s .waiting);
+        memo = k .memo;
+        on = s .on;
+        tally = s .tally;
+      };
+    }
+
+-- the store with these cuts, cells, free chain and memo
+abbrev pub withCells : Cuts → List Cell → List ℕ → Rows Line → Store → Store
+withCells cuts cells free memo s = record {
+  cuts = cuts;
+  cells = cells;
+  free = free;
+  waiting = s .waiting;
+  memo = memo;
+  on = s .on;
+  tally = s .tally;
+}
+
+-- ---- "d goes to the end of the round", with the pages that it needs
+
+unfoldable pub grown : Flushed → Store
+grown f =
+    withCells (f .store .cuts) (f .rest ++ (settled (f .store .free) (f .cell) ∷ [])) (freeAfter (f .store .free) (f .cell)) (f .store .memo) (f .store)
+
+-- ---- split
+
+-- a cut that is there already is not made again
+unfoldable pub addCut : ℕ → List ℕ → List ℕ
+addCut c cuts = cond (ltb 0 (count c cuts)) cuts (sortIn c cuts)
+
+abbrev orZero : Option ℕ → ℕ
+orZero none = 0
+orZero (some n) = n
+
+-- "the smallest unused number"
+unfoldable pub unusedNumber : List Cell → ℕ
+unusedNumber cells = orZero (firstAt (λ n. eqb (count n (map (λ c. c .number) cells)) 0) (tab maxCells (λ n. n)))
+
+-- "The low side keeps d's number; the other takes the smallest unused number"
+unfoldable pub lowCell : Cut → Cell → Cell
+lowCell c d = record {
+  number = d .number;
+  edges = withSpan (c .axis) (record { low = spanOf (c .axis) (d .edges) .low; high = c .at - 1 }) (d .edges);
+  chain = d .chain;
+  entries = filter (lowSide c) (d .entries);
+}
+
+unfoldable pub highCell : Cut → ℕ → Cell → Cell
+highCell c n d = record {
+  number = n;
+  edges = withSpan (c .axis) (record { low = c .at; high = spanOf (c .axis) (d .edges) .high }) (d .edges);
+  chain = [];
+  entries = filter (λ e. not (lowSide c e)) (d .entries);
+}
+
+-- "in a split d's chain is settled before the new cell takes"; the other "goes last in the round"
+unfoldable pub splitAt : Cut → Flushed → Store
+splitAt c f =
+    let low : Cell = lowCell c (f .cell) in
+    let high : Cell = highCell c (unusedNumber (f .store .cells)) (f .cell) in
+    let free : List ℕ = freeAfter (f .store .free) low in
+    withCells
+    (withCuts (c .axis) (addCut (c .at) (cutsOf (c .axis) (f .store .cuts))) (f .store .cuts))
+    (f .rest ++ (settled (f .store .free) low ∷ settled free high ∷ []))
+    (freeAfter free high)
+    (f .store .memo)
+    (f .store)
+
+-- "If neither side gives one, d grows its chain."
+abbrev pub splitOr : Option Cut → Flushed → Store
+splitOr none f = grown f
+splitOr (some c) f = splitAt c f
+
+-- ---- join
+
+-- side by side in one direction, without a gap
+abbrev pub touch : Span → Span → Bool
+touch s t = either (eqb (s .high + 1) (t .low)) (eqb (t .high + 1) (s .low))
+
+-- "some cell beside d makes a rectangle with it"
+unfoldable pub beside : Rect → Rect → Bool
+beside d n =
+    either (both (touch (d .easts) (n .easts)) (sameSpan (d .norths) (n .norths)))
+    (both (touch (d .norths) (n .norths)) (sameSpan (d .easts) (n .easts)))
+
+-- "and the two have at most 24 entries together, counted before this sweep"
+unfoldable pub joinable : Cell → Cell → Bool
+joinable d n = both (beside (d .edges) (n .edges)) (leb (length (d .entries) + length (n .entries)) joinEntries)
+
+-- the cells that may be joined
+unfoldable pub neighbours : Flushed → List Cell
+neighbours f = filter (joinable (f .cell)) (f .rest)
+
+-- the one of them with this number
+unfoldable pub named : ℕ → List Cell → Option Cell
+named n [] = none
+named n (c ∷ cs) = cond (eqb n (c .number)) (some c) (named n cs)
+
+abbrev pub hull : Span → Span → Span
+hull s t = record { low = min (s .low) (t .low); high = max (s .high) (t .high) }
+
+abbrev pub joinedEdges : Rect → Rect → Rect
+joinedEdges d n = record { easts = hull (d .easts) (n .easts); norths = hull (d .norths) (n .norths) }
+
+abbrev pub smaller : Cell → Cell → Cell
+smaller d n = cond (ltb (d .number) (n .number)) d n
+
+abbrev pub larger : Cell → Cell → Cell
+larger d n = cond (ltb (d .number) (n .number)) n d
+
+-- "sweep that cell and join it. The smaller number survives and goes last in the round; pages of the other are freed." d is settled first.
+unfoldable pub joinedWith : Flushed → Cell → Store
+joinedWith f n =
+    let d : Cell = settled (f .store .free) (f .cell) in
+    let free : List ℕ = freeAfter (f .store .free) (f .cell) in
+    withCells
+    (f .store .cuts)
+    (others (n .number) (f .rest)
+    ++ (record {
+      number = smaller d n .number;
+      edges = joinedEdges (d .edges) (n .edges);
+      chain = smaller d n .chain;
+      entries = merge (sweptEntries (f .store .memo) (n .entries)) (d .entries);
+    }
+    ∷ []))
+    (settledFree 0 (larger d n .chain) free)
+    (sweptMemo (f .store .memo) (n .entries))
+    (f .store)
+
+-- "Any such neighbour may be taken": the one named
+abbrev pub joinOr : Option Cell → Flushed → Store
+joinOr none f = grown f
+joinOr (some n) f = joinedWith f n
+
+-- ---- the whole
+
+-- "Split, at most once a flush, when d has more than 32 entries and there are fewer than 64 cells."; "Join, after a flush that left d at most 32 entries"
+unfoldable pub reshaped : ℕ → Flushed → Store
+reshaped pick f =
+    cond (ltb pageEntries (length (f .cell .entries)))
+    (cond (ltb (length (f .store .cells)) maxCells) (splitOr (chosenCut (f .store .cuts) (f .cell .edges) (f .cell .entries)) f) (grown f))
+    (joinOr (named pick (neighbours f)) f)
+
+-- what is allowed of the neighbour's name: where cells may be joined, it is one of theirs
+unfoldable pub allowedAt : ℕ → Flushed → Bool
+allowedAt pick f =
+    either (ltb pageEntries (length (f .cell .entries)))
+    (either (eqb (length (neighbours f)) 0) (isSome (named pick (neighbours f))))
+
+-- the cell in which a memory cell lies
+unfoldable pub cellOfBox : Store → Box → Option Cell
+cellOfBox s m = cellAt (s .cells) (cornerOf (s .cuts) m)
+
+abbrev flushOr : ℕ → Box → Store → Option Cell → Store
+flushOr pick m s none = s
+flushOr pick m s (some d) = reshaped pick (flushedInto m s d)
+
+-- "Flush memory cell m with cell d"
+unfoldable pub flush : ℕ → Box → Store → Store
+flush pick m s = flushOr pick m s (cellOfBox s m)
+
+abbrev allowedOr : ℕ → Box → Store → Option Cell → Bool
+allowedOr pick m s none = true
+allowedOr pick m s (some d) = allowedAt pick (flushedInto m s d)
+
+unfoldable pub allowedFlush : ℕ → Box → Store → Bool
+allowedFlush pick m s = allowedOr pick m s (cellOfBox s m)

@@ -1,0 +1,11 @@
+pub mod Carry
+pub mod Cut
+pub mod Flush
+pub mod Grid
+pub mod Limits
+pub mod Plain
+pub mod Records
+pub mod Store
+pub mod Sweep
+pub mod WellFormed
+pub mod Worked

@@ -1,0 +1,109 @@
+-- Records, and what they are turned down for (01, "Records and pages", "Turned down, in checking order").
+use mathlib.Core.Bool.{Bool, true, false, not, cond}
+use mathlib.Core.List.{List, [], _∷_}
+use Prim.Native.Nat.{ℕ, _+_}
+use lib.Dec.{eqb, leb, ltb}
+use lib.ListN.{length}
+use Rattle.terms.specs.Terms.{Place, fieldBytes, maxRadio, maxOn}
+use Rattle.lists.specs.Tests.{both, either}
+use Rattle.lists.specs.Words.{word}
+use Rattle.rules.specs.Grid.{Rect}
+
+-- "A record is its length in bytes, its kind, its body."
+abbrev field : List ℕ → ℕ → ℕ
+field b at = word fieldBytes b at
+
+unfoldable pub lengthField : List ℕ → ℕ
+lengthField b = field b 0
+
+unfoldable pub kindField : List ℕ → ℕ
+kindField b = field b 2
+
+-- "Kind 1 sign-on", "Kind 2 report", "Kind 3 sign-off", "Kind 4 range"
+abbrev pub kindSignOn : ℕ
+kindSignOn = 1
+
+abbrev pub kindReport : ℕ
+kindReport = 2
+
+abbrev pub kindSignOff : ℕ
+kindSignOff = 3
+
+abbrev pub kindRange : ℕ
+kindRange = 4
+
+-- "length 10", "the same", "length 6", "length 12"
+unfoldable pub lengthOf : ℕ → ℕ
+lengthOf kind = cond (eqb kind kindRange) 12 (cond (eqb kind kindSignOff) 6 10)
+
+-- "radio, east, north"
+unfoldable pub radioField : List ℕ → ℕ
+radioField b = field b 4
+
+unfoldable pub placeField : List ℕ → Place
+placeField b = record { east = field b 6; north = field b 8 }
+
+-- "west, east, south, north"
+unfoldable pub rectField : List ℕ → Rect
+rectField b = record { easts = record { low = field b 4; high = field b 6 }; norths = record { low = field b 8; high = field b 10 } }
+
+-- what is asked
+pub data Request : Type 0 where
+  signOn : ℕ → Place → Request
+  report : ℕ → Place → Request
+  signOff : ℕ → Request
+  range : Rect → Request
+
+unfoldable pub requestOf : List ℕ → Request
+requestOf b =
+    cond (eqb (kindField b) kindSignOn) (signOn (radioField b) (placeField b))
+    (cond (eqb (kindField b) kindReport) (report (radioField b) (placeField b))
+    (cond (eqb (kindField b) kindSignOff) (signOff (radioField b)) (range (rectField b))))
+
+-- ---- the checks on a record's bytes and on who is on
+
+-- 3: "Fewer than 4 bytes are at hand, or the length is below 4 or above what is at hand."
+unfoldable pub notAtHand : List ℕ → Bool
+notAtHand b = either (ltb (length b) 4) (either (ltb (lengthField b) 4) (ltb (length b) (lengthField b)))
+
+-- 4: "The kind isn't 1 to 4."
+unfoldable pub unknownKind : List ℕ → Bool
+unknownKind b = either (ltb (kindField b) 1) (ltb 4 (kindField b))
+
+-- 5: "The length isn't the one for its kind."
+unfoldable pub wrongLength : List ℕ → Bool
+wrongLength b = not (eqb (lengthField b) (lengthOf (kindField b)))
+
+-- 6: "A radio is 0 or above 4,095."
+unfoldable pub noRadio : List ℕ → Bool
+noRadio b = both (ltb (kindField b) kindRange) (either (eqb (radioField b) 0) (ltb maxRadio (radioField b)))
+
+-- 7: "A range has west above east or south above north."
+unfoldable pub reversed : List ℕ → Bool
+reversed b =
+    both (eqb (kindField b) kindRange)
+    (either (ltb (rectField b .easts .high) (rectField b .easts .low)) (ltb (rectField b .norths .high) (rectField b .norths .low)))
+
+-- 8: "A sign-on names a radio that is on."
+unfoldable pub onAlready : (ℕ → Bool) → List ℕ → Bool
+onAlready isOn b = both (eqb (kindField b) kindSignOn) (isOn (radioField b))
+
+-- 9: "A report or sign-off names a radio that isn't on."
+unfoldable pub notOn : (ℕ → Bool) → List ℕ → Bool
+notOn isOn b = both (either (eqb (kindField b) kindReport) (eqb (kindField b) kindSignOff)) (not (isOn (radioField b)))
+
+-- 10: "A sign-on comes while 512 are on."
+unfoldable pub noRoom : ℕ → List ℕ → Bool
+noRoom howMany b = both (eqb (kindField b) kindSignOn) (leb maxOn howMany)
+
+-- the number of the first check that fails, 0 if none does: it serves the desk and the plain rule, each with who is on there
+unfoldable pub refusal : (ℕ → Bool) → ℕ → List ℕ → ℕ
+refusal isOn howMany b =
+    cond (notAtHand b) 3
+    (cond (unknownKind b) 4
+    (cond (wrongLength b) 5
+    (cond (noRadio b) 6
+    (cond (reversed b) 7
+    (cond (onAlready isOn b) 8
+    (cond (notOn isOn b) 9
+    (cond (noRoom howMany b) 10 0)))))))
