@@ -92,11 +92,11 @@ pub walking-start : (b : List ℕ) (first : ℕ) (ps : List ℕ) → length ps �
 walking-start b first ps l = record { bound = omega arith; size = l; met = refl; end = refl }
 
 abbrev Read : List ℕ → ℕ → List ℕ → ℕ → ChainEnd → Type 0
-Read b first ps n e = (take n ps ≡ chainFrom pages b first) × (e ≡ endFrom pages b first)
+Read b first ps n e = (take n ps ≡ chainFrom pages b first) × (e ≡ endFrom pages b first) × (n ≤ pages)
 
 module _ {b : List ℕ} {first : ℕ} {ps : List ℕ} {p n : ℕ} (w : Walking b first ps p n) where
   walking-stop : {e : ChainEnd} → chainFrom (pages - n) b p ≡ [] → endFrom (pages - n) b p ≡ e → Read b first ps n e
-  walking-stop h k = (sym (append-nil (take n ps)) ∙ rw h at (w .met), sym k ∙ w .end)
+  walking-stop h k = (sym (append-nil (take n ps)) ∙ rw h at (w .met), sym k ∙ w .end, w .bound)
 
   pub walking-ended : p ≡ noPage → Read b first ps n Ended
   walking-ended e = let t = chain-ended b p (pages - n) e in walking-stop (t .0) (t .1)
@@ -134,6 +134,15 @@ module _ (b : List ℕ) where
   -- the page after a page
   abbrev pub following : ℕ → ℕ
   following q = next (pageAt b q)
+
+  -- every page that a chain names is there, however it ends
+  pub chain-all-there : (fuel p : ℕ) → Each (λ q. there b q ≡ true) (chainFrom fuel b p)
+  unfolding chainFrom
+  chain-all-there zero p = tt
+  chain-all-there (suc fuel) p =
+      by-cases (eqb p noPage)
+      (λ e. rw e tt)
+      (λ e. rw e (by-cases (there b p) (λ t. rw t (t, chain-all-there fuel (next (pageAt b p)))) (λ t. rw t tt)))
 
   pub record Chained (fuel p : ℕ) : Type 0 where
     pub first : firstOf noPage (chainFrom fuel b p) ≡ p

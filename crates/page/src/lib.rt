@@ -20,6 +20,8 @@ use terms::PAGES;
 
 pub const PAGE_BYTES: usize = 200;
 
+pub const BUFFER_BYTES: usize = PAGE_BYTES * PAGES;
+
 pub const HEAD_BYTES: usize = 8;
 
 pub const ENTRY_BYTES: usize = 6;
@@ -296,7 +298,8 @@ pub struct Chain {
     pub pages: [u16; 128],
 }
 
-fn is_there(buffer: &[u8], p: u16) -> bool
+// Whether p is one of the pages, and the buffer reaches to its end.
+pub fn is_there(buffer: &[u8], p: u16) -> bool
     ensures { λ r. ⌜ r ≡ there (now (buffer .entry)) p ⌝ }
 {
     let at = p as usize;
@@ -317,7 +320,7 @@ pub fn next_page(buffer: &[u8], p: u16) -> u16
 
 // The chain from `first` on, by next page, on any bytes whatever.
 pub fn read_chain(buffer: &[u8], first: u16) -> Chain
-    ensures { λ r. ⌜ (pagesOf r ≡ chainFrom pages (now (buffer .entry)) first) × (r .end ≡ endFrom pages (now (buffer .entry)) first) ⌝ }
+    ensures { λ r. ⌜ (pagesOf r ≡ chainFrom pages (now (buffer .entry)) first) × (r .end ≡ endFrom pages (now (buffer .entry)) first) × (r .n ≤ pages) ⌝ }
 {
     let mut pages = [0u16; 128];
     let mut p = first;
