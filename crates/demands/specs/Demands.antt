@@ -8,7 +8,7 @@ use lib.Dec.{eqb, ltb}
 use lib.ListN.{take}
 use Rattle.terms.specs.Terms.{Place, maxRadio, pages, noPage}
 use Rattle.lists.specs.Chains.{walk}
-use Rattle.lists.specs.Rows.{Row, Rows}
+use Rattle.lists.specs.Rows.{Row}
 use Rattle.lists.specs.Sums.{sumBy, sumTo, concat, count}
 use Rattle.lists.specs.Tests.{one-if, both, either}
 use Rattle.page.specs.Page.{next, entries}
@@ -16,11 +16,11 @@ use Rattle.page.specs.Buffer.{pageAt}
 use Rattle.rules.specs.Records.{kindField, kindSignOn, kindReport}
 use Rattle.rules.specs.Sweep.{isAt}
 use Rattle.rules.specs.Plain.{Plain, plainRefusal}
+use Rattle.rules.specs.Told.{told}
 use Rattle.desk.specs.declared.Desk.{Desk}
 use Rattle.desk.specs.declared.Line.{Line}
 use Rattle.desk.specs.declared.Report.{Report}
 use Rattle.desk.specs.Call.{After}
-use Rattle.demands.specs.Plain.{told}
 use Rattle.demands.specs.Trace.{Trace, EveryState, EveryCall}
 
 -- ---- Demand 2

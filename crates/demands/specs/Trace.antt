@@ -9,7 +9,7 @@ use Rattle.rules.specs.Store.{fresh}
 use Rattle.rules.specs.Plain.{Plain, plainFresh, plainStep}
 use Rattle.desk.specs.declared.Desk.{Desk}
 use Rattle.desk.specs.Layout.{deskOf, freshPages}
-use Rattle.desk.specs.Call.{Before, After, Answers}
+use Rattle.desk.specs.Call.{After, Answers}
 
 -- "A fresh store has no cut, one cell (0) on page 0, and pages 1 to 127 free in that order."
 abbrev pub freshDesk : Desk

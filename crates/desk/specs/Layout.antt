@@ -1,5 +1,5 @@
 -- How a store is laid out: the desk's fields, and the bytes of the pages (01, "What the desk holds", "Records and pages").
-use mathlib.Core.Bool.{Bool, true, false, cond}
+use mathlib.Core.Bool.{cond}
 use mathlib.Core.List.{List, [], _∷_, _++_, map}
 use mathlib.Core.Option.{Option, none, some}
 use mathlib.Core.Path.{_≡_}

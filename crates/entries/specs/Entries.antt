@@ -1,5 +1,5 @@
 -- The work table as rows by rising radio (01, "Records and pages": "entries of radio, east, north", "entries by rising radio").
-use mathlib.Core.List.{List, map}
+use mathlib.Core.List.{map}
 use mathlib.Core.Option.{Option, none, some}
 use Prim.Native.Nat.{ℕ}
 use lib.Dec.{eqb}

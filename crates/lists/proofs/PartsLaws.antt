@@ -1,12 +1,12 @@
 -- Laws of parts, of writes at an offset, and of tables.
 use mathlib.Core.Path.{_≡_, refl, sym, ap, ap₂, _∙_}
-use Prim.Native.Nat.{ℕ, zero, suc, _+_, _-_, _≤_, _<_, suc-le-suc}
+use Prim.Native.Nat.{ℕ, zero, suc, _+_, _-_, _≤_, _<_}
 use native.Mathlib.Nat.{not-suc-le-zero, le-of-suc-le-suc, suc-inj, suc-add, add-assoc, add-zero, zero-add}
 use mathlib.Core.List.{List, [], _∷_, _++_, append-assoc, append-nil}
 use native.Mathlib.Omega.{arith}
 use native.Mathlib.Numerals.{add-one}
-use lib.ListN.{take, drop, length, replicate, length-replicate, replicate-append-replicate, getD, set, length-take, length-drop, length-append, length-set, List·getD-append, take-append-drop, drop-of-length-le}
-use lib.Seq.{getD-take, getD-drop, take-at, drop-at, drop-drop, set-split, length-take-le, take-append-le, drop-append-le, take-all, take-take, take-suc, drop-cons, take-append-seam, getD-append-add, take-add, ext-getD}
+use lib.ListN.{take, drop, length, replicate, length-replicate, replicate-append-replicate, getD, set, length-take, length-drop, length-append, List·getD-append, take-append-drop, drop-of-length-le}
+use lib.Seq.{getD-take, getD-drop, take-at, drop-at, drop-drop, set-split, length-take-le, take-append-le, drop-append-le, take-take, take-suc, drop-cons, take-append-seam, getD-append-add, take-add, ext-getD}
 use mathlib.Core.Logic.{_≢_}
 use Rattle.lists.specs.Parts.{part, put, tab}
 

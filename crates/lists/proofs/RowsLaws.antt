@@ -1,14 +1,14 @@
 -- Laws of rows by rising key.
 use mathlib.Core.Path.{_≡_, refl, sym, ap, ap₂, _∙_}
 use mathlib.Core.Bool.{Bool, true, false, not, cond}
-use mathlib.Core.List.{List, [], _∷_, _++_, map}
+use mathlib.Core.List.{[], _∷_, map}
 use mathlib.Core.Option.{Option, none, some, Option·map}
-use Prim.Native.Nat.{ℕ, zero, suc, _+_, _-_, _≤_, _<_}
+use Prim.Native.Nat.{ℕ, suc, _+_, _≤_, _<_}
 use native.Mathlib.Omega.{arith}
-use lib.Dec.{eqb, leb, ltb}
-use borrow.Author.Tests.{lt-ltb, ltb-true, ltb-false, eqb-true, eqb-false, ne-eqb, eq-eqb}
+use lib.Dec.{eqb, ltb}
+use borrow.Author.Tests.{ltb-true, ltb-false, eqb-true, eqb-false, ne-eqb, eq-eqb}
 use lib.ListN.{length}
-use Rattle.lists.specs.Tests.{one-if, orElse, Each}
+use Rattle.lists.specs.Tests.{orElse, Each}
 use Rattle.lists.specs.Sums.{sumBy, sumTo, filter, keep}
 use Rattle.lists.specs.Rows.{Row, Rows, Rising, UpTo, find, putRow, alter, insert, merge, countFound, passed}
 use Rattle.lists.proofs.Cases.{by-cases}

@@ -1,21 +1,20 @@
 -- A binary search among rows by rising key: the place that it ends at, and what changes of a row at that place are.
-use mathlib.Core.Path.{_≡_, refl, sym, ap, _∙_}
-use mathlib.Core.Bool.{Bool, true, false}
-use mathlib.Core.List.{List, [], _∷_, _++_}
+use mathlib.Core.Path.{_≡_, refl, sym, ap}
+use mathlib.Core.List.{[], _∷_}
 use mathlib.Core.Logic.{_≢_}
 use mathlib.Core.Option.{Option, none, some}
-use Prim.Native.Nat.{ℕ, zero, suc, _+_, _-_, _≤_, _<_}
+use Prim.Native.Nat.{ℕ, zero, suc, _+_, _≤_, _<_}
 use native.Mathlib.Nat.{le-of-suc-le-suc, not-suc-le-zero}
 use native.Mathlib.Omega.{arith}
 use lib.Dec.{eqb, ltb}
-use lib.ListN.{length, getD, set, take, drop}
+use lib.ListN.{length, getD, set}
 use borrow.Author.Tests.{lt-ltb, le-ltb, ltb-true, ltb-false, eqb-true, eqb-false, ne-eqb, eq-eqb}
 use Rattle.lists.specs.Tests.{one-if, firstAt}
 use Rattle.lists.specs.Sums.{sumBy}
 use Rattle.lists.specs.Parts.{insertAt, removeAt}
-use Rattle.lists.specs.Rows.{Row, Rows, Rising, find, putRow, alter, rank}
+use Rattle.lists.specs.Rows.{Row, Rows, Rising, find, alter, rank}
 use Rattle.lists.proofs.Cases.{by-cases}
-use Rattle.lists.proofs.RowsLaws.{find-below, rising-less}
+use Rattle.lists.proofs.RowsLaws.{find-below}
 
 rank-nil : (Val : Type 0) (r : ℕ) → rank {Val = Val} r [] ≡ 0
 unfolding rank sumBy

@@ -1,15 +1,14 @@
 -- Laws of numbers in bytes, over the width.
 use mathlib.Core.Path.{_≡_, refl, sym, ap, ap₂, _∙_}
 use mathlib.Core.List.{List, [], _∷_, _++_}
-use Prim.Native.Nat.{ℕ, zero, suc, _+_, _-_, _*_, _/_, _%_, _≤_, _<_}
-use native.Mathlib.Nat.{add-assoc, add-zero, not-suc-le-zero}
+use Prim.Native.Nat.{ℕ, zero, suc, _+_, _*_, _/_, _%_, _≤_, _<_}
+use native.Mathlib.Nat.{add-assoc, not-suc-le-zero}
 use native.Mathlib.Omega.{arith}
-use native.Mathlib.Numerals.{add-one}
-use lib.ListN.{length, getD, List·getD-append}
+use lib.ListN.{length, List·getD-append}
 use lib.Seq.{getD-append-add}
-use Rattle.lists.specs.Parts.{part, put}
+use Rattle.lists.specs.Parts.{part}
 use Rattle.lists.specs.Words.{le, word, Bytes}
-use Rattle.lists.proofs.PartsLaws.{getD-part, part-zero, part-cons, length-part}
+use Rattle.lists.proofs.PartsLaws.{getD-part, part-zero, part-cons}
 
 pub length-le : (n v : ℕ) → length (le n v) ≡ n
 unfolding le

@@ -1,5 +1,5 @@
 -- Rows by rising key: a cell's entries, the memo, the waiting reports and who is on are all such lists.
-use mathlib.Core.Bool.{Bool, true, false, cond}
+use mathlib.Core.Bool.{Bool, cond}
 use mathlib.Core.List.{List, [], _∷_}
 use mathlib.Core.Option.{Option, none, some}
 use Prim.Native.Nat.{ℕ, _<_, _≤_}

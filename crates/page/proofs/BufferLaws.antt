@@ -1,15 +1,15 @@
 -- Pages of the buffer: the page written is read back, other pages keep every byte.
-use mathlib.Core.List.{List, [], _∷_, _++_}
+use mathlib.Core.List.{List}
 use mathlib.Core.Logic.{_≢_}
-use mathlib.Core.Path.{_≡_, refl, sym, ap, _∙_}
-use Prim.Native.Nat.{ℕ, zero, suc, _+_, _-_, _*_, _≤_, _<_}
+use mathlib.Core.Path.{_≡_}
+use Prim.Native.Nat.{ℕ, _+_, _*_, _≤_}
 use native.Mathlib.Decide.{decLt}
 use native.Mathlib.Omega.{arith}
 use lib.ListN.{length}
 use Rattle.terms.specs.Terms.{pages}
 use Rattle.lists.proofs.PartsLaws.{length-put, part-put, part-put-before, part-put-after, length-part}
 use Rattle.page.specs.Page.{pageBytes}
-use Rattle.page.specs.Buffer.{bufferBytes, pageAt, putPage}
+use Rattle.page.specs.Buffer.{pageAt, putPage}
 
 pub length-pageAt : (b : List ℕ) (p : ℕ) → pageBytes * p + pageBytes ≤ length b → length (pageAt b p) ≡ pageBytes
 unfolding pageAt

@@ -2,32 +2,31 @@
 use mathlib.Core.Bool.{Bool, true, false, not, cond}
 use mathlib.Core.List.{List, [], _∷_, _++_, map}
 use mathlib.Core.Option.{Option, none, some}
-use mathlib.Core.Path.{_≡_, refl, sym, ap, ap₂, _∙_, subst}
-use Prim.Native.Nat.{ℕ, zero, suc, _+_, _-_, _*_, _≤_, _<_, min}
+use mathlib.Core.Path.{_≡_, refl, sym, ap, _∙_, subst}
+use Prim.Native.Nat.{ℕ, suc, _+_, _-_, _≤_, _<_, min}
 use native.Mathlib.Omega.{arith}
-use lib.Dec.{eqb, leb, ltb}
+use lib.Dec.{ltb}
 use lib.ListN.{length, drop}
-use borrow.Author.Tests.{ltb-true, ltb-false}
-use Rattle.terms.specs.Terms.{Place, maxRadio, maxOn, pageEntries}
-use Rattle.lists.specs.Rows.{Row, Rows, Rising, UpTo, find, insert, merge, passed}
+use borrow.Author.Tests.{ltb-true}
+use Rattle.terms.specs.Terms.{maxRadio, pageEntries}
+use Rattle.lists.specs.Rows.{Rows, Rising, find, insert, merge, passed}
 use Rattle.lists.specs.Sums.{sumBy, filter, count}
 use Rattle.lists.specs.Tests.{one-if, Each, isSome}
-use Rattle.lists.proofs.Cases.{by-cases, option-cases}
-use Rattle.lists.proofs.RowsLaws.{length-alter-le, rising-alter, find-filter, rising-filter, find-each, each-find, passed-true, find-below}
+use Rattle.lists.proofs.Cases.{by-cases}
+use Rattle.lists.proofs.RowsLaws.{length-alter-le, rising-alter, find-filter, rising-filter, find-each, each-find, passed-true}
 use Rattle.lists.proofs.SumsLaws.{sum-cons, length-filter-not}
-use Rattle.lists.proofs.TestsLaws.{each-append, each-split}
-use Rattle.rules.specs.Limits.{maxCells, fullBox, fullMemory, sweepEvery, joinEntries}
-use Rattle.rules.specs.Grid.{Rect, inside, Cuts, Box, boxOf, cornerOf}
+use Rattle.rules.specs.Limits.{maxCells, fullMemory, sweepEvery, joinEntries}
+use Rattle.rules.specs.Grid.{Rect, inside, Cuts, Box, cornerOf}
 use Rattle.rules.specs.Store.{Report, Line, Cell, Store, others, settled, freeAfter}
 use Rattle.rules.specs.Sweep.{stale, sweptEntries, sweptMemo, swept}
 use Rattle.rules.specs.Cut.{Cut, chosenCut}
-use Rattle.rules.specs.Flush.{Work, enterEach, inBox, Flushed, flushedInto, grown, lowCell, highCell, unusedNumber, splitAt, splitOr, beside, neighbours, named, smaller, larger, joinedEdges, joinedWith, joinOr, reshaped}
-use Rattle.rules.specs.Carry.{wasNew, waitingIn}
-use Rattle.rules.specs.WellFormed.{staleIn, InSquare}
+use Rattle.rules.specs.Flush.{inBox, Flushed, flushedInto, grown, lowCell, highCell, unusedNumber, splitAt, splitOr, beside, neighbours, named, joinedEdges, joinedWith, joinOr, reshaped}
+use Rattle.rules.specs.Carry.{wasNew}
+use Rattle.rules.specs.WellFormed.{staleIn}
 use Rattle.rules.proofs.Parts.{Edged, Tiling, Rowed, Books, Clean, Paged, Bounded, Signed, Waits, Core, marks, onSet}
-use Rattle.rules.proofs.BooksLaws.{books-front, books-back, books-back2, books-same, books-swap, books-ext, books-sweep, clean-swept, stale-sweep, stale-sweep-sum, Enters, withEntries, workOf, marksWithout, books-enterEach, clean-enterEach, stale-enterEach, books-split, clean-low, clean-high, books-join, clean-join, entries-total}
-use Rattle.rules.proofs.TilingLaws.{Among, each-among, cellAt-split, inside-home, tiling-among, others-among, others-split, tiling-move, GoodCut, cutsWith, lowEdges, highEdges, tiling-split, tiling-join, named-neighbour, smaller-number, round-others}
-use Rattle.rules.proofs.CutLaws.{inBox-box, chosen-good, waiting-length, waiting-drop, length-cleared, waiting-finer}
+use Rattle.rules.proofs.BooksLaws.{books-front, books-back, books-back2, books-same, books-swap, books-ext, books-sweep, clean-swept, stale-sweep, stale-sweep-sum, Enters, marksWithout, books-enterEach, clean-enterEach, stale-enterEach, books-split, books-join, clean-join, entries-total}
+use Rattle.rules.proofs.TilingLaws.{Among, each-among, inside-home, tiling-among, others-among, others-split, tiling-move, GoodCut, cutsWith, lowEdges, highEdges, tiling-split, tiling-join, named-neighbour, smaller-number, round-others}
+use Rattle.rules.proofs.CutLaws.{inBox-box, chosen-good, waiting-length, length-cleared}
 use Rattle.rules.proofs.PagedLaws.{size, mostEntries, joinedCell as joined, sum-middle, grown-paged, splitAt-paged, joinedWith-paged}
 use Rattle.rules.proofs.RoundLaws.{bounded-total, grown-bounded, splitAt-bounded, joinedWith-bounded}
 

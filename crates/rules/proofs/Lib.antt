@@ -11,4 +11,5 @@ pub mod RoundLaws
 pub mod Starred
 pub mod StepLaws
 pub mod TilingLaws
+pub mod ToldLaws
 pub mod WellLaws

@@ -1,29 +1,27 @@
 -- The store beside the plain rule: what each says of a radio, and that they answer alike.
 use mathlib.Core.Bool.{Bool, true, false, not, cond}
-use mathlib.Core.List.{List, [], _∷_, _++_}
+use mathlib.Core.List.{List, [], _∷_}
 use mathlib.Core.Option.{Option, none, some}
 use mathlib.Core.Path.{_≡_, refl, sym, ap, ap₂, _∙_, fun-ext}
-use Prim.Native.Nat.{ℕ, zero, suc, _+_, _-_, _*_, _≤_, _<_}
+use Prim.Native.Nat.{ℕ, zero, suc, _+_, _≤_, _<_}
 use native.Mathlib.Omega.{arith}
-use native.Mathlib.Nat.{le-of-suc-le-suc, not-suc-le-zero}
-use lib.Dec.{eqb, leb, ltb}
+use lib.Dec.{eqb}
 use lib.ListN.{length}
-use borrow.Author.Tests.{lt-ltb, le-ltb, ltb-true, ltb-false, eqb-true, eqb-false, ne-eqb, eq-eqb}
-use Rattle.terms.specs.Terms.{Place, maxRadio, maxOn}
+use borrow.Author.Tests.{eqb-true, eqb-false, eq-eqb}
+use Rattle.terms.specs.Terms.{Place, maxRadio}
 use Rattle.lists.specs.Parts.{tab}
-use Rattle.lists.specs.Rows.{Row, Rows, Rising, UpTo, find, alter, insert, countFound}
-use Rattle.lists.specs.Sums.{sumBy, sumTo, keep}
-use Rattle.lists.specs.Tests.{one-if, both, Each, isSome, orElse}
+use Rattle.lists.specs.Rows.{Rows, Rising, UpTo, find, alter, insert, countFound}
+use Rattle.lists.specs.Sums.{sumTo}
+use Rattle.lists.specs.Tests.{one-if, both, isSome}
 use Rattle.lists.proofs.Cases.{by-cases, option-cases}
 use Rattle.lists.proofs.RowsLaws.{find-below, rising-less, find-alter, ext-find, sum-rows}
-use Rattle.lists.proofs.SumsLaws.{sum-const, sum-ext, sumTo-ext}
-use Rattle.rules.specs.Limits.{fullBox, fullMemory}
+use Rattle.lists.proofs.SumsLaws.{sum-const, sumTo-ext}
 use Rattle.rules.specs.Grid.{Rect, inside, Cuts, Box, sameBox, boxOf}
-use Rattle.rules.specs.Store.{Report, Line, Cell, Store, fresh}
-use Rattle.rules.specs.Flush.{raised, inBox}
+use Rattle.rules.specs.Store.{Report, Line, Store, fresh}
+use Rattle.rules.specs.Flush.{inBox}
 use Rattle.rules.specs.Records.{refusal}
-use Rattle.rules.specs.Carry.{isOn, onCount, wasNew, placeOf, liveIn, storedIn, latest, listIf, listOf, found, waitingIn, boxToFlush, flushDue, signedOn, reported, signedOff}
-use Rattle.rules.specs.Plain.{Plain, plainFresh, plainOn, plainOnCount, putAt, waitsIn, plainIn, plainDue, plainPlace, plainOff, plainRefusal, plainFound}
+use Rattle.rules.specs.Carry.{isOn, onCount, wasNew, placeOf, liveIn, storedIn, latest, listIf, listOf, found, waitingIn, boxToFlush, flushDue, signedOn, reported}
+use Rattle.rules.specs.Plain.{Plain, plainFresh, plainOn, plainOnCount, putAt, waitsIn, plainIn, plainDue, plainPlace, plainRefusal, plainFound}
 use Rattle.rules.proofs.Parts.{Signed, Waits}
 
 pub record Link (s : Store) (x : Plain) : Type 0 where

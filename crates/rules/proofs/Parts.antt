@@ -1,21 +1,21 @@
 -- A well-formed store by its parts, so that each step is shown part by part: the tiling, the radios' books, the pages, the round, and what waits.
-use mathlib.Core.Bool.{Bool, true, false, not}
-use mathlib.Core.List.{List, [], _∷_, _++_, map}
+use mathlib.Core.Bool.{Bool, true, false}
+use mathlib.Core.List.{List, _++_, map}
 use mathlib.Core.Option.{Option, none, some}
-use mathlib.Core.Path.{_≡_, refl}
-use Prim.Native.Nat.{ℕ, suc, _+_, _-_, _*_, _≤_, _<_}
+use mathlib.Core.Path.{_≡_}
+use Prim.Native.Nat.{ℕ, _+_, _-_, _*_, _≤_, _<_}
 use lib.Dec.{ltb}
 use lib.ListN.{length, drop}
 use Rattle.terms.specs.Terms.{Place, maxRadio, maxOn, pages}
-use Rattle.lists.specs.Rows.{Row, Rows, Rising, UpTo, find}
+use Rattle.lists.specs.Rows.{Rows, Rising, UpTo, find}
 use Rattle.lists.specs.Sums.{sumBy, concat, count}
 use Rattle.lists.specs.Tests.{one-if, Each, isSome}
-use Rattle.rules.specs.Limits.{lastMetre, maxCells, maxCuts, fullBox, fullMemory, sweepEvery}
-use Rattle.rules.specs.Grid.{Axis, Span, Rect, spanOf, inside, Cuts, cutsOf, Box}
+use Rattle.rules.specs.Limits.{lastMetre, maxCells, maxCuts, fullMemory, sweepEvery}
+use Rattle.rules.specs.Grid.{Axis, spanOf, inside, Cuts, cutsOf}
 use Rattle.rules.specs.Store.{Report, Line, Cell, Store, pagesFor}
-use Rattle.rules.specs.Sweep.{isAt, stale, staleBy}
-use Rattle.rules.specs.Carry.{isOn, wasNew, waitingIn}
-use Rattle.rules.specs.WellFormed.{RisingCuts, OnCuts, countIf, liveOf, staleOf, staleIn, chains, InSquare, InSquareIf, GoodCell, GoodLine, WellFormed}
+use Rattle.rules.specs.Sweep.{stale, staleBy}
+use Rattle.rules.specs.Carry.{wasNew}
+use Rattle.rules.specs.WellFormed.{RisingCuts, OnCuts, countIf, liveOf, staleIn, InSquare, InSquareIf}
 
 -- ---- the tiling: cuts, edges and numbers of the cells
 

@@ -3,39 +3,37 @@ use mathlib.Core.Bool.{Bool, true, false, not, cond}
 use mathlib.Core.List.{List, [], _∷_, _++_, map}
 use mathlib.Core.Option.{Option, none, some}
 use mathlib.Core.Path.{_≡_, refl, sym, ap, _∙_, subst}
-use Prim.Native.Nat.{ℕ, zero, suc, _+_, _-_, _*_, _≤_, _<_}
+use Prim.Native.Nat.{ℕ, _+_, _≤_}
 use native.Mathlib.Omega.{arith}
-use lib.Dec.{eqb, leb, ltb}
-use lib.ListN.{length}
-use borrow.Author.Tests.{ltb-true, ltb-false, eqb-true, eqb-false, ne-eqb, eq-eqb}
-use Rattle.terms.specs.Terms.{Place, maxRadio}
-use Rattle.lists.specs.Rows.{Row, Rows, Rising, find, alter, passed}
+use lib.Dec.{eqb, ltb}
+use borrow.Author.Tests.{eqb-true, eqb-false}
+use Rattle.terms.specs.Terms.{Place}
+use Rattle.lists.specs.Rows.{Rows, Rising, find, alter}
 use Rattle.lists.specs.Sums.{sumBy, filter, count}
-use Rattle.lists.specs.Tests.{one-if, both, Each, isSome, orElse}
-use Rattle.lists.specs.Words.{Bytes}
+use Rattle.lists.specs.Tests.{both, isSome}
 use Rattle.lists.proofs.Cases.{by-cases, option-cases, list-cases}
 use Rattle.lists.proofs.SumsLaws.{sum-cons}
 use Rattle.lists.proofs.TestsLaws.{both-right}
 use Rattle.lists.proofs.RowsLaws.{find-alter, find-filter, rising-filter}
 use Rattle.rules.specs.Limits.{sweepEvery}
-use Rattle.rules.specs.Grid.{Cuts, Box, sameBox, boxOf, cornerOf, inside}
+use Rattle.rules.specs.Grid.{Box, cornerOf, inside}
 use Rattle.rules.specs.Store.{Report, Line, Cell, Store, others, settled, freeAfter}
 use Rattle.rules.specs.Sweep.{sweptEntries, swept, sweptMemo, sweepFront, tick}
-use Rattle.rules.specs.Cut.{Cut, chosenCut}
-use Rattle.rules.specs.Flush.{raised, entered, enterEach, inBox, Flushed, flushedInto, grown, lowCell, highCell, unusedNumber, splitAt, beside, joinedWith, reshaped, named, neighbours, cellOfBox, flush}
-use Rattle.rules.specs.Records.{Request, signOn, report, signOff, range, requestOf, refusal}
-use Rattle.rules.specs.Carry.{isOn, onCount, wasNew, placeOf, storedIn, signedOn, reported, signedOff, flushDue, afterReport, answered, found, carriedOut, carry}
-use Rattle.rules.specs.Plain.{Plain, plainOn, putAt, waitsIn, plainIn, plainDue, plainFlush, plainPlace, plainAfter, plainOff, plainDone, plainRefusal, plainStep}
+use Rattle.rules.specs.Cut.{Cut}
+use Rattle.rules.specs.Flush.{raised, entered, inBox, Flushed, flushedInto, grown, lowCell, highCell, unusedNumber, splitAt, beside, joinedWith, reshaped, cellOfBox, flush}
+use Rattle.rules.specs.Records.{report}
+use Rattle.rules.specs.Carry.{isOn, wasNew, placeOf, storedIn, signedOff, flushDue, afterReport}
+use Rattle.rules.specs.Plain.{Plain, plainOn, plainIn, plainFlush, plainAfter, plainOff}
 use Rattle.rules.specs.WellFormed.{WellFormed}
 use Rattle.rules.proofs.Parts.{Books, Clean, Core, marks, onSet}
 use Rattle.rules.proofs.WellLaws.{well-core}
-use Rattle.rules.proofs.LiveLaws.{liveBy, stored-none, stored-at, stored-same, live-one, live-append, live-cons, live-order, live-back, live-swap, live-settled, live-sweep, live-off, live-off-other, live-split, live-join, live-flushed, live-flushed-other, find-enterEach-memo, sweptMemo-last}
+use Rattle.rules.proofs.LiveLaws.{liveBy, stored-none, stored-at, stored-same, live-one, live-order, live-back, live-swap, live-settled, live-sweep, live-off, live-off-other, live-split, live-join, live-flushed, live-flushed-other, find-enterEach-memo, sweptMemo-last}
 use Rattle.rules.proofs.BooksLaws.{books-front, books-swap, books-sweep, clean-swept, stale-sweep}
 use Rattle.rules.proofs.TilingLaws.{none-some, Among, sum-among, cellAt-split, home-some, others-among, round-others, named-neighbour}
 use Rattle.rules.proofs.CutLaws.{reshaped-cases}
 use Rattle.rules.proofs.PagedLaws.{joinedCell}
 use Rattle.rules.proofs.FlushLaws.{rest-is, tiled, books-before, books-flushed, clean-flushed, report-found, report-enters}
-use Rattle.rules.proofs.LinkLaws.{Link, link-on, link-report, refusal-same, due-same}
+use Rattle.rules.proofs.LinkLaws.{Link, due-same}
 
 none-is : {A : Type 0} (o : Option A) → not (isSome o) ≡ true → o ≡ none
 none-is none e = refl

@@ -1,30 +1,27 @@
 -- What a record that passes the checks asks, and what its own effect does to who is on and to what waits.
-use mathlib.Core.Bool.{Bool, true, false, not, cond}
-use mathlib.Core.List.{List, [], _∷_, _++_}
-use mathlib.Core.Logic.{_≢_}
+use mathlib.Core.Bool.{Bool, true, false, cond}
+use mathlib.Core.List.{List}
 use mathlib.Core.Option.{Option, none, some}
-use mathlib.Core.Path.{_≡_, refl, sym, ap, _∙_, fun-ext}
-use Prim.Native.Nat.{ℕ, zero, suc, _+_, _-_, _*_, _≤_, _<_}
+use mathlib.Core.Path.{_≡_, refl, sym, _∙_}
+use Prim.Native.Nat.{ℕ, _≤_, _<_}
 use native.Mathlib.Omega.{arith}
-use lib.Dec.{eqb, leb, ltb}
-use lib.ListN.{length, getD}
-use borrow.Author.Tests.{lt-ltb, ltb-true, ltb-false, leb-true, leb-false, eqb-true, eqb-false, ne-eqb, eq-eqb, not-true, not-false}
+use lib.Dec.{eqb}
+use lib.ListN.{length}
+use borrow.Author.Tests.{lt-ltb, ltb-false, leb-false, eqb-true, eqb-false, not-false}
 use Rattle.terms.specs.Terms.{Place, maxRadio, maxOn}
-use Rattle.lists.specs.Rows.{Row, Rows, Rising, UpTo, find, alter, insert}
-use Rattle.lists.specs.Tests.{one-if, both, either, Each, isSome}
-use Rattle.lists.specs.Words.{word, Bytes}
-use Rattle.lists.proofs.Cases.{by-cases, option-cases}
+use Rattle.lists.specs.Rows.{Rows, Rising, UpTo, find, alter, insert}
+use Rattle.lists.specs.Tests.{both, either, Each, isSome}
+use Rattle.lists.specs.Words.{Bytes}
+use Rattle.lists.proofs.Cases.{by-cases}
 use Rattle.lists.proofs.RowsLaws.{find-alter, rising-alter, length-alter, length-alter-le, each-find, find-each}
 use Rattle.lists.proofs.TestsLaws.{either-left, either-right}
 use Rattle.lists.proofs.WordsLaws.{word-small}
-use Rattle.rules.specs.Limits.{lastMetre}
 use Rattle.rules.specs.Grid.{Rect}
-use Rattle.rules.specs.Store.{Report, Line, Store}
+use Rattle.rules.specs.Store.{Report}
 use Rattle.rules.specs.Records.{Request, signOn, report, signOff, range, requestOf, kindField, radioField, placeField, rectField, kindSignOn, kindReport, kindSignOff, kindRange, notAtHand, unknownKind, wrongLength, noRadio, reversed, onAlready, notOn, noRoom, refusal}
-use Rattle.rules.specs.Carry.{isOn, onCount, wasNew, signedOn, reported, signedOff}
 use Rattle.rules.specs.Plain.{putAt}
 use Rattle.rules.specs.WellFormed.{InSquare}
-use Rattle.rules.proofs.Parts.{Signed, Waits, marks, onSet}
+use Rattle.rules.proofs.Parts.{Signed, Waits}
 
 -- ---- the checks passed
 

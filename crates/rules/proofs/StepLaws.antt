@@ -1,37 +1,36 @@
 -- Every call, with any bytes and any name of a neighbour, leaves a well-formed store where it found one, linked to the plain rule where it was.
-use mathlib.Core.Bool.{Bool, true, false, not, cond}
+use mathlib.Core.Bool.{Bool, true, false, not}
 use mathlib.Core.List.{List, [], _∷_, _++_}
 use mathlib.Core.Option.{Option, none, some}
 use mathlib.Core.Path.{_≡_, refl, sym, ap, _∙_, subst}
-use Prim.Native.Nat.{ℕ, zero, suc, _+_, _-_, _*_, _≤_, _<_}
+use Prim.Native.Nat.{ℕ, _+_, _*_, _≤_, _<_}
 use native.Mathlib.Omega.{arith}
-use lib.Dec.{eqb, leb, ltb}
-use lib.ListN.{length, drop}
-use borrow.Author.Tests.{ltb-true, ltb-false, eqb-true, eqb-false, eq-eqb, ne-eqb}
-use Rattle.terms.specs.Terms.{Place, maxRadio, maxOn, pageEntries}
-use Rattle.lists.specs.Rows.{Row, Rows, Rising, find, alter, insert, countFound}
-use Rattle.lists.specs.Sums.{sumBy, filter}
-use Rattle.lists.specs.Tests.{one-if, both, Each, isSome}
+use lib.Dec.{eqb, ltb}
+use lib.ListN.{length}
+use borrow.Author.Tests.{ltb-true, ltb-false, eqb-true, eq-eqb, ne-eqb}
+use Rattle.terms.specs.Terms.{Place, maxRadio, maxOn}
+use Rattle.lists.specs.Rows.{Rows, find, alter, insert}
+use Rattle.lists.specs.Sums.{sumBy}
+use Rattle.lists.specs.Tests.{one-if}
 use Rattle.lists.specs.Words.{Bytes}
 use Rattle.lists.proofs.Cases.{by-cases, option-cases, list-cases}
-use Rattle.lists.proofs.RowsLaws.{find-alter, sum-alter, length-alter, length-alter-le}
-use Rattle.lists.proofs.SumsLaws.{sum-nil, sum-cons}
-use Rattle.lists.proofs.TestsLaws.{both-left, both-right, both-intro}
-use Rattle.rules.specs.Limits.{maxCells, fullBox, fullMemory, sweepEvery}
-use Rattle.rules.specs.Grid.{Cuts, Box, sameBox, boxOf, cornerOf, inside}
-use Rattle.rules.specs.Store.{Report, Line, Cell, Store, settled}
+use Rattle.lists.proofs.RowsLaws.{find-alter, length-alter, length-alter-le}
+use Rattle.lists.proofs.SumsLaws.{sum-nil}
+use Rattle.lists.proofs.TestsLaws.{both-intro}
+use Rattle.rules.specs.Limits.{fullBox, fullMemory, sweepEvery}
+use Rattle.rules.specs.Grid.{Box, sameBox, boxOf, cornerOf, inside}
+use Rattle.rules.specs.Store.{Report, Cell, Store, settled}
 use Rattle.rules.specs.Sweep.{swept, sweptMemo, sweepFront, tick}
-use Rattle.rules.specs.Flush.{raised, inBox, Flushed, flushedInto, grown, splitAt, splitOr, joinedWith, joinOr, reshaped, named, neighbours, cellOfBox, flush}
-use Rattle.rules.specs.Cut.{Cut, chosenCut}
-use Rattle.rules.specs.Records.{Request, signOn, report, signOff, range, requestOf, refusal}
-use Rattle.rules.specs.Carry.{isOn, onCount, wasNew, signedOn, reported, signedOff, waitingIn, boxToFlush, flushDue, afterReport, found, listBytes, answered, carriedOut, carry}
+use Rattle.rules.specs.Flush.{flushedInto, reshaped, cellOfBox, flush}
+use Rattle.rules.specs.Records.{Request, report, requestOf, refusal}
+use Rattle.rules.specs.Carry.{isOn, onCount, wasNew, signedOn, reported, signedOff, waitingIn, flushDue, afterReport, found, listBytes, answered, carriedOut, carry}
 use Rattle.rules.specs.Plain.{Plain, plainPlace, plainAfter, plainOff, plainDone, plainStep}
-use Rattle.rules.specs.WellFormed.{InSquare, staleIn, WellFormed}
-use Rattle.rules.proofs.Parts.{Tiling, Books, Paged, Bounded, Signed, Waits, Core, marks, onSet}
+use Rattle.rules.specs.WellFormed.{InSquare, WellFormed}
+use Rattle.rules.proofs.Parts.{Tiling, Books, Paged, Bounded, Core, marks, onSet}
 use Rattle.rules.proofs.WellLaws.{well-core, well-bounded, core-well}
 use Rattle.rules.proofs.RecordLaws.{Accepted, on-passed, report-passed, off-passed, range-passed, accepted, signed-on, signed-off, waits-alter}
 use Rattle.rules.proofs.BooksLaws.{books-ext, books-on, books-off, stale-off, books-sweep, clean-swept, stale-sweep, books-same, books-back, marks-signedOn, marks-reported, marks-signedOff, on-signedOn, on-signedOff}
-use Rattle.rules.proofs.TilingLaws.{none-some, cellAt-split, home-some, tiling-move, cutsWith}
+use Rattle.rules.proofs.TilingLaws.{none-some, cellAt-split, home-some, tiling-move}
 use Rattle.rules.proofs.CutLaws.{box-same, waiting-new, waiting-less, length-cleared, waiting-cleared, most-some, due-none, due-some, reshaped-waiting, reshaped-tally, waiting-reshaped, flush-cases}
 use Rattle.rules.proofs.PagedLaws.{sweepFront-paged}
 use Rattle.rules.proofs.RoundLaws.{bounded-record, sweepFront-bounded}

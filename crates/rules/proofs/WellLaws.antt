@@ -1,25 +1,22 @@
 -- A well-formed store and its parts: one is the other with the limits that hold between two calls.
-use mathlib.Core.Bool.{Bool, true, false, not}
-use mathlib.Core.List.{List, [], _∷_, _++_, map}
+use mathlib.Core.Bool.{false}
+use mathlib.Core.List.{List, [], _∷_}
 use mathlib.Core.Option.{Option, none, some}
 use mathlib.Core.Path.{_≡_, refl, sym, ap, _∙_}
-use Prim.Native.Nat.{ℕ, suc, _+_, _-_, _*_, _≤_, _<_}
-use native.Mathlib.Omega.{arith}
-use lib.ListN.{length, drop}
-use Rattle.terms.specs.Terms.{Place, maxRadio}
-use Rattle.lists.specs.Rows.{Row, Rows, find}
-use Rattle.lists.specs.Sums.{sumBy, count}
-use Rattle.lists.specs.Tests.{one-if, Each}
+use Prim.Native.Nat.{ℕ, _<_}
+use lib.ListN.{length}
+use Rattle.terms.specs.Terms.{Place}
+use Rattle.lists.specs.Rows.{Rows, find}
+use Rattle.lists.specs.Tests.{Each}
 use Rattle.lists.proofs.Cases.{option-cases}
 use Rattle.lists.proofs.SumsLaws.{sum-zero}
 use Rattle.lists.proofs.TestsLaws.{each-map}
 use Rattle.rules.specs.Limits.{fullBox, fullMemory, sweepEvery}
-use Rattle.rules.specs.Grid.{inside, Cuts, Box}
+use Rattle.rules.specs.Grid.{Cuts, Box}
 use Rattle.rules.specs.Store.{Line, Cell, Store, pagesFor}
-use Rattle.rules.specs.Sweep.{staleBy}
 use Rattle.rules.specs.Carry.{isOn, waitingIn}
-use Rattle.rules.specs.WellFormed.{countIf, staleOf, liveOf, staleIn, chains, GoodCell, GoodLine, WellFormed}
-use Rattle.rules.proofs.Parts.{Edged, Tiling, staleR, missedOf, Rowed, Books, Paged, Bounded, Signed, Waits, Core, marks, onSet}
+use Rattle.rules.specs.WellFormed.{countIf, staleOf, chains, GoodCell, WellFormed}
+use Rattle.rules.proofs.Parts.{Edged, Tiling, staleR, missedOf, Rowed, Books, Paged, Bounded, Core, marks, onSet}
 use Rattle.rules.proofs.TilingLaws.{apart}
 
 -- a radio with a line: its stale entries by the line's place; one without: none

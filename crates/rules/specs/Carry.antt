@@ -2,12 +2,12 @@
 use mathlib.Core.Bool.{Bool, true, false, not, cond}
 use mathlib.Core.List.{List, [], _∷_, _++_}
 use mathlib.Core.Option.{Option, none, some}
-use Prim.Native.Nat.{ℕ, _+_, _*_}
+use Prim.Native.Nat.{ℕ, _*_}
 use lib.Dec.{eqb, leb, ltb}
 use lib.ListN.{length}
 use Rattle.terms.specs.Terms.{Place, fieldBytes}
 use Rattle.lists.specs.Parts.{put}
-use Rattle.lists.specs.Rows.{Row, Rows, find, alter, insert, passed}
+use Rattle.lists.specs.Rows.{Rows, find, alter, insert, passed}
 use Rattle.lists.specs.Sums.{sumBy, keep}
 use Rattle.lists.specs.Tests.{one-if, isSome, orElse, best}
 use Rattle.lists.specs.Words.{le}

@@ -2,7 +2,7 @@
 use mathlib.Core.Bool.{Bool, true, false, not, cond}
 use mathlib.Core.List.{List, [], _∷_, _++_, map}
 use mathlib.Core.Option.{Option, none, some}
-use Prim.Native.Nat.{ℕ, zero, suc, _+_, _-_, min, max}
+use Prim.Native.Nat.{ℕ, _+_, _-_, min, max}
 use lib.Dec.{eqb, leb, ltb}
 use lib.ListN.{length}
 use Rattle.terms.specs.Terms.{Place, pageEntries}
@@ -13,9 +13,9 @@ use Rattle.lists.specs.Sort.{sortIn}
 use Rattle.lists.specs.Sums.{filter, count}
 use Rattle.lists.specs.Tests.{both, either, isSome, firstAt}
 use Rattle.rules.specs.Limits.{maxCells, joinEntries}
-use Rattle.rules.specs.Grid.{Axis, eastward, northward, across, Span, sameSpan, Rect, spanOf, withSpan, Cuts, cutsOf, withCuts, Box, sameBox, boxOf, cornerOf}
+use Rattle.rules.specs.Grid.{Span, sameSpan, Rect, spanOf, withSpan, Cuts, cutsOf, withCuts, Box, sameBox, boxOf, cornerOf}
 use Rattle.rules.specs.Store.{Report, Line, Cell, Store, cellAt, others, settled, freeAfter}
-use Rattle.rules.specs.Sweep.{sweptEntries, sweptMemo, swept}
+use Rattle.rules.specs.Sweep.{sweptEntries, sweptMemo}
 use Rattle.rules.specs.Cut.{Cut, lowSide, chosenCut}
 
 -- ---- "For each waiting report of m"

@@ -7,5 +7,6 @@ pub mod Plain
 pub mod Records
 pub mod Store
 pub mod Sweep
+pub mod Told
 pub mod WellFormed
 pub mod Worked

@@ -1,12 +1,12 @@
 -- The plain rule (01, the heading of that name). It is fed the bytes of each call and the cuts that the call finds, and nothing else of desk or pages.
 use mathlib.Core.Bool.{Bool, true, false, cond}
-use mathlib.Core.List.{List, [], _∷_}
+use mathlib.Core.List.{List}
 use mathlib.Core.Option.{Option, none, some}
 use Prim.Native.Nat.{ℕ, suc}
 use lib.Dec.{eqb}
 use Rattle.terms.specs.Terms.{Place, maxRadio}
 use Rattle.lists.specs.Parts.{tab}
-use Rattle.lists.specs.Rows.{Row, Rows}
+use Rattle.lists.specs.Rows.{Rows}
 use Rattle.lists.specs.Sums.{sumTo}
 use Rattle.lists.specs.Tests.{one-if, both, isSome}
 use Rattle.rules.specs.Grid.{Rect, Cuts, Box, sameBox, boxOf}

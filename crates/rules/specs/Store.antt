@@ -1,14 +1,14 @@
 -- The store, and a fresh one (01, "What the desk holds", "Records and pages").
-use mathlib.Core.Bool.{Bool, true, false, not, cond}
-use mathlib.Core.List.{List, [], _∷_, _++_}
+use mathlib.Core.Bool.{Bool, not, cond}
+use mathlib.Core.List.{List, [], _∷_}
 use mathlib.Core.Option.{Option, none, some}
-use Prim.Native.Nat.{ℕ, zero, suc, _+_, _-_, _/_, max}
+use Prim.Native.Nat.{ℕ, suc, _+_, _-_, _/_, max}
 use lib.Dec.{eqb}
 use lib.ListN.{length}
 use Rattle.terms.specs.Terms.{Place, pages, pageEntries}
 use Rattle.lists.specs.Chains.{settledChain, settledFree}
 use Rattle.lists.specs.Parts.{tab}
-use Rattle.lists.specs.Rows.{Row, Rows, find}
+use Rattle.lists.specs.Rows.{Rows}
 use Rattle.lists.specs.Sums.{filter}
 use Rattle.rules.specs.Grid.{Rect, Cuts, inside, square}
 

@@ -1,8 +1,8 @@
 -- Sweep (01, "How a record is carried out").
-use mathlib.Core.Bool.{Bool, true, false, not, cond}
+use mathlib.Core.Bool.{Bool, false, not, cond}
 use mathlib.Core.List.{List, [], _∷_, _++_}
 use mathlib.Core.Option.{Option, none, some}
-use Prim.Native.Nat.{ℕ, _-_, _+_}
+use Prim.Native.Nat.{_-_, _+_}
 use lib.Dec.{ltb}
 use Rattle.terms.specs.Terms.{Place}
 use Rattle.lists.specs.Rows.{Row, Rows, find, alter}

@@ -3,15 +3,15 @@ use mathlib.Core.Bool.{Bool, true, false, not}
 use mathlib.Core.List.{List, [], _∷_, _++_, map}
 use mathlib.Core.Option.{Option, none, some}
 use mathlib.Core.Path.{_≡_}
-use Prim.Native.Nat.{ℕ, suc, _+_, _-_, _*_, _≤_, _<_}
+use Prim.Native.Nat.{ℕ, _+_, _-_, _*_, _≤_, _<_}
 use lib.Dec.{ltb}
 use lib.ListN.{length, drop}
 use Rattle.terms.specs.Terms.{Place, maxRadio, maxOn, pages}
-use Rattle.lists.specs.Rows.{Row, Rows, Rising, UpTo, find}
+use Rattle.lists.specs.Rows.{Rows, Rising, UpTo, find}
 use Rattle.lists.specs.Sums.{sumBy, concat, count}
 use Rattle.lists.specs.Tests.{one-if, Each}
 use Rattle.rules.specs.Limits.{lastMetre, maxCells, maxCuts, fullBox, fullMemory, sweepEvery}
-use Rattle.rules.specs.Grid.{Axis, Span, Rect, spanOf, inside, square, Cuts, cutsOf, Box}
+use Rattle.rules.specs.Grid.{Axis, Span, spanOf, inside, Cuts, cutsOf, Box}
 use Rattle.rules.specs.Store.{Report, Line, Cell, Store, pagesFor}
 use Rattle.rules.specs.Sweep.{isAt, stale, staleBy}
 use Rattle.rules.specs.Carry.{isOn, wasNew, waitingIn}

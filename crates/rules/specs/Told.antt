@@ -1,15 +1,15 @@
 -- What the plain rule answers a call with (01, "The plain rule", "Turned down, in checking order").
 use mathlib.Core.Bool.{cond}
-use mathlib.Core.List.{List, []}
+use mathlib.Core.List.{List}
 use Prim.Native.Nat.{ℕ, _*_}
 use lib.Dec.{eqb, ltb}
 use lib.ListN.{length}
 use Rattle.terms.specs.Terms.{Place}
 use Rattle.lists.specs.Parts.{put}
 use Rattle.lists.specs.Rows.{Rows}
 use Rattle.rules.specs.Records.{Request, signOn, report, signOff, range, requestOf}
 use Rattle.rules.specs.Carry.{listBytes, bytesOf}
 use Rattle.rules.specs.Plain.{Plain, plainRefusal, plainFound}
 
 pub record Told : Type 0 where
   pub number : ℕ

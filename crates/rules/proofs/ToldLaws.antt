@@ -1,0 +1,90 @@
+-- Each call is answered as the plain rule says, and never under number 2.
+use mathlib.Core.Bool.{Bool, true, false, cond}
+use mathlib.Core.List.{List}
+use mathlib.Core.Path.{_≡_, refl}
+use Prim.Native.Nat.{ℕ, _*_}
+use native.Mathlib.Omega.{arith}
+use lib.Dec.{eqb, ltb}
+use lib.ListN.{length}
+use borrow.Author.Tests.{eq-eqb}
+use Rattle.lists.specs.Tests.{either}
+use Rattle.lists.proofs.Cases.{by-cases}
+use Rattle.lists.proofs.TestsLaws.{either-cases}
+use Rattle.rules.specs.Grid.{Rect}
+use Rattle.rules.specs.Records.{Request, signOn, report, signOff, range, requestOf, refusal, kindField, kindSignOn, kindReport, notAtHand, unknownKind, wrongLength, noRadio, reversed, onAlready, notOn, noRoom}
+use Rattle.rules.specs.Store.{Store}
+use Rattle.rules.specs.Carry.{carry, carriedOut, answered, found, listBytes}
+use Rattle.rules.specs.Plain.{Plain, plainOn, plainOnCount, plainRefusal, plainFound}
+use Rattle.rules.specs.Told.{toldList, toldDone, told}
+use Rattle.rules.proofs.Parts.{Signed}
+use Rattle.rules.proofs.LinkLaws.{Link, refusal-same, found-same}
+
+-- ---- the desk's answer is the plain rule's
+
+told-list : (s : Store) (x : Plain) (buffer : List ℕ) (rect : Rect) → found s rect ≡ plainFound x rect
+    → (answered (found s rect) s buffer .number ≡ toldList (plainFound x rect) buffer .number) × (answered (found s rect) s buffer .count ≡ toldList (plainFound x rect) buffer .count)
+    × (answered (found s rect) s buffer .buffer ≡ toldList (plainFound x rect) buffer .buffer)
+unfolding answered toldList
+told-list s x buffer rect e =
+    rw e (by-cases (ltb (length buffer) (listBytes * length (plainFound x rect))) (λ t. rw t (refl, refl, refl)) (λ t. rw t (refl, refl, refl)))
+
+told-done : (pick : ℕ) (q : Request) (s : Store) (x : Plain) (buffer : List ℕ) → Signed (s .on) → Link s x
+    → (carriedOut pick q s buffer .number ≡ toldDone q x buffer .number) × (carriedOut pick q s buffer .count ≡ toldDone q x buffer .count)
+    × (carriedOut pick q s buffer .buffer ≡ toldDone q x buffer .buffer)
+unfolding carriedOut toldDone
+told-done pick (signOn r p) s x buffer g k = (refl, refl, refl)
+told-done pick (report r p) s x buffer g k = (refl, refl, refl)
+told-done pick (signOff r) s x buffer g k = (refl, refl, refl)
+told-done pick (range rect) s x buffer g k = told-list s x buffer rect (found-same s x k g rect)
+
+pub told-same : (pick : ℕ) (s : Store) (x : Plain) (bytes buffer : List ℕ) → Signed (s .on) → Link s x
+    → (carry pick s bytes buffer .number ≡ told x bytes buffer .number) × (carry pick s bytes buffer .count ≡ told x bytes buffer .count)
+    × (carry pick s bytes buffer .buffer ≡ told x bytes buffer .buffer)
+unfolding carry told
+told-same pick s x bytes buffer g k =
+    rw (refusal-same s x k g bytes) (by-cases (eqb (plainRefusal x bytes) 0)
+    (λ t. rw t (told-done pick (requestOf bytes) s x buffer g k))
+    (λ t. rw t (refl, refl, refl)))
+
+-- ---- numbers that the plain rule tells
+
+refusal-not-2 : (a b c d e f g h : Bool) → _≡_ {A = ℕ} (cond a 3 (cond b 4 (cond c 5 (cond d 6 (cond e 7 (cond f 8 (cond g 9 (cond h 10 0)))))))) 2 → ⊥
+refusal-not-2 true b c d e f g h z = omega arith
+refusal-not-2 false true c d e f g h z = omega arith
+refusal-not-2 false false true d e f g h z = omega arith
+refusal-not-2 false false false true e f g h z = omega arith
+refusal-not-2 false false false false true f g h z = omega arith
+refusal-not-2 false false false false false true g h z = omega arith
+refusal-not-2 false false false false false false true h z = omega arith
+refusal-not-2 false false false false false false false true z = omega arith
+refusal-not-2 false false false false false false false false z = omega arith
+
+plain-not-2 : (x : Plain) (bytes : List ℕ) → plainRefusal x bytes ≡ 2 → ⊥
+unfolding plainRefusal refusal
+plain-not-2 x bytes e =
+    refusal-not-2 (notAtHand bytes) (unknownKind bytes) (wrongLength bytes) (noRadio bytes) (reversed bytes) (onAlready (plainOn x) bytes) (notOn (plainOn x) bytes)
+    (noRoom (plainOnCount x) bytes) e
+
+done-not-2 : (q : Request) (x : Plain) (buffer : List ℕ) → toldDone q x buffer .number ≡ 2 → ⊥
+unfolding toldDone toldList
+done-not-2 (signOn r p) x buffer = λ e. omega arith
+done-not-2 (report r p) x buffer = λ e. omega arith
+done-not-2 (signOff r) x buffer = λ e. omega arith
+done-not-2 (range rect) x buffer =
+    by-cases (ltb (length buffer) (listBytes * length (plainFound x rect))) (λ t. rw t (λ e. omega arith)) (λ t. rw t (λ e. omega arith))
+
+pub told-not-2 : (x : Plain) (bytes buffer : List ℕ) → told x bytes buffer .number ≡ 2 → ⊥
+unfolding told
+told-not-2 x bytes buffer =
+    by-cases (eqb (plainRefusal x bytes) 0)
+    (λ t. rw t (λ e. done-not-2 (requestOf bytes) x buffer e))
+    (λ t. rw t (λ e. plain-not-2 x bytes e))
+
+-- a sign-on or report that the plain rule carries out is told 0
+pub told-zero : (x : Plain) (bytes buffer : List ℕ) → either (eqb (kindField bytes) kindSignOn) (eqb (kindField bytes) kindReport) ≡ true → plainRefusal x bytes ≡ 0
+    → told x bytes buffer .number ≡ 0
+unfolding told requestOf toldDone
+told-zero x bytes buffer q e =
+    rw (eq-eqb (plainRefusal x bytes) 0 e) (either-cases (eqb (kindField bytes) kindSignOn) (eqb (kindField bytes) kindReport) q
+    (λ t. rw t)
+    (λ t. by-cases (eqb (kindField bytes) kindSignOn) (λ u. rw u) (λ u. rw (u, t))))
