@@ -943,12 +943,6 @@ pub stale-split : (c : Cut) (n : ℕ) (d : Cell) (memo : Rows Line) → staleIn 
 unfolding staleIn lowCell highCell
 stale-split c n d memo = sum-filter (λ e. one-if (stale memo e)) (lowSide c) (d .entries)
 
-pub clean-low : (c : Cut) (d : Cell) (memo : Rows Line) → Clean memo d → Clean memo (lowCell c d)
-clean-low c d memo h = omega (arith, stale-split c 0 d memo)
-
-pub clean-high : (c : Cut) (n : ℕ) (d : Cell) (memo : Rows Line) → Clean memo d → Clean memo (highCell c n d)
-clean-high c n d memo h = omega (arith, stale-split c n d memo)
-
 -- ---- join
 
 hull-left : (s t : Span) (x : ℕ) → within s x ≡ true → within (hull s t) x ≡ true
@@ -1084,14 +1078,6 @@ on-signedOn r rows pos a q = rw (find-alter (λ _. some tt) 0 r q rows pos a) (b
 
 pub on-signedOff : (r : ℕ) (rows : Rows (Unit {0})) → 0 < r → Rising 0 rows → (q : ℕ) → putAt r false (onSet rows) q ≡ onSet (alter (λ _. none) r rows) q
 on-signedOff r rows pos a q = rw (find-alter (λ _. none) 0 r q rows pos a) (by-cases (eqb q r) (λ t. rw t) (λ t. rw t))
-
--- the reports that pass go in, the others wait on
-pub marks-flushed : (t : Row Report → Bool) (waiting : Rows Report) → Rising 0 waiting → (q : ℕ) → marksWithout (filter t waiting) (marks waiting) q ≡ marks (filter (λ w. not (t w)) waiting) q
-marks-flushed t waiting a q = rw (find-filter t 0 q waiting a, find-filter (λ w. not (t w)) 0 q waiting a) (left t q (find waiting q))
-  where
-    left : (t : Row Report → Bool) (q : ℕ) (x : Option Report) → cond (isSome (passed t q x)) false (wasNew x) ≡ wasNew (passed (λ w. not (t w)) q x)
-    left t q none = refl
-    left t q (some w) = by-cases (t (record { key = q; val = w })) (λ e. rw e) (λ e. rw e)
 
 -- ---- totals
 

@@ -21,15 +21,14 @@ use Rattle.lists.proofs.RowsLaws.{sum-alter}
 use Rattle.lists.proofs.SortLaws.{length-sort, count-sort, sorted-sort, sorted-order, below-length, firstAbove-some}
 use Rattle.lists.proofs.SumsLaws.{sum-cons, sum-const, sum-le, sum-filter, sum-filter-ext, length-filter, length-filter-not, count-at}
 use Rattle.lists.proofs.TestsLaws.{both-left, both-right, both-intro, either-left, each-map, each-append, each-split, each-getD, getD-each, best-holds, best-none-better, not-true}
-use Rattle.rules.specs.Limits.{maxCells, maxCuts, fullBox, fullMemory, sweepEvery}
-use Rattle.rules.specs.Grid.{Axis, eastward, northward, along, across, Span, within, Rect, spanOf, inside, Cuts, cutsOf, stripe, Box, sameBox, boxOf, cornerOf, boxes}
-use Rattle.rules.specs.Store.{Report, Cell, Store, others, settled}
-use Rattle.rules.specs.Sweep.{swept, sweepFront, tick}
+use Rattle.rules.specs.Limits.{maxCells, maxCuts, fullBox, fullMemory}
+use Rattle.rules.specs.Grid.{Axis, eastward, northward, along, across, Span, within, Rect, spanOf, inside, Cuts, cutsOf, stripe, Box, sameBox, boxOf, boxes}
+use Rattle.rules.specs.Store.{Report, Cell, Store, settled}
 use Rattle.rules.specs.Cut.{Cut, through, cutsThrough, fits, difference, existingCut, median, validAt, medianCut, longerSide, chosenCut}
-use Rattle.rules.specs.Flush.{inBox, Flushed, flushedInto, grown, addCut, unusedNumber, lowCell, highCell, splitAt, beside, neighbours, named, joinedWith, reshaped, cellOfBox, flush}
+use Rattle.rules.specs.Flush.{inBox, Flushed, flushedInto, grown, addCut, splitAt, neighbours, named, joinedWith, reshaped, cellOfBox, flush}
 use Rattle.rules.specs.Carry.{mostOf, boxToFlush, waitingIn}
 use Rattle.rules.proofs.TilingLaws.{none-some, each-count, within-low, within-high, inside-along, stripe-most, box-eq, box-along, sum-sortIn, with-cuts, GoodCut, cutsWith}
-use Rattle.rules.proofs.TilingLaws.{Among, cellAt-split, others-among, tiling-among, tiling-move, tiling-split, tiling-join, named-neighbour, smaller-number, round-others}
+use Rattle.rules.proofs.TilingLaws.{Among, others-among, tiling-among, tiling-move}
 use Rattle.rules.proofs.Parts.{Tiling}
 
 -- ---- lists
@@ -357,58 +356,11 @@ module _ (m : Box) (s : Store) (d : Cell) (a : Among (s .cells) d) (t : Tiling (
   unfolding grown flushedInto settled
   tiling-grown = rw rest-others (tiling-move (s .cuts) (a .before) d (a .after) _ home refl refl)
 
-  pub tiling-splitAt : (c : Cut) → GoodCut (s .cuts) (d .edges) c → length (s .cells) < maxCells → Tiling (splitAt c (flushedInto m s d) .cuts) (splitAt c (flushedInto m s d) .cells)
-  unfolding splitAt flushedInto lowCell highCell settled
-  tiling-splitAt c g few =
-      rw rest-others (tiling-split (s .cuts) (a .before) d (a .after) c home g _ _ (rw (a .split) at few) refl refl (ap unusedNumber (a .split)) refl)
-
-  pub tiling-joinedWith : (n : Cell) → Among (flushedInto m s d .rest) n → beside (d .edges) (n .edges) ≡ true
-      → Tiling (joinedWith (flushedInto m s d) n .cuts) (joinedWith (flushedInto m s d) n .cells)
-  unfolding joinedWith flushedInto settled
-  tiling-joinedWith n b e =
-      let b′ = subst (λ (l : List Cell). Among l n) rest-others b in
-      let rest = ap (others (n .number)) rest-others ∙ others-among (a .before ++ a .after) n b′ (round-others (a .before) d (a .after) (home .round)) in
-      rw rest (tiling-join (s .cuts) (a .before) d (a .after) n _ b′ home e (smaller-number _ n) refl)
-
-  -- where the entries of d lie in its rectangle once the reports are in
-  pub tiling-reshaped : (pick : ℕ) → Each (λ e. inside (d .edges) (e .val) ≡ true) (flushedInto m s d .cell .entries)
-      → Tiling (reshaped pick (flushedInto m s d) .cuts) (reshaped pick (flushedInto m s d) .cells)
-  unfolding flushedInto
-  tiling-reshaped pick held =
-      let f = flushedInto m s d in
-      reshaped-cases (λ x. Tiling (x .cuts) (x .cells)) pick f
-      tiling-grown
-      (λ c _ few e. tiling-splitAt c (chosen-good (s .cuts) (d .edges) (f .cell .entries) c held e) few)
-      (λ n _ e. let r = named-neighbour pick f n e in tiling-joinedWith n (r .3) (r .1))
-
-pub tiling-flush : (pick : ℕ) (m : Box) (s : Store) → Tiling (s .cuts) (s .cells)
-    → ((d : Cell) → cellOfBox s m ≡ some d → Each (λ e. inside (d .edges) (e .val) ≡ true) (flushedInto m s d .cell .entries))
-    → Tiling (flush pick m s .cuts) (flush pick m s .cells)
-unfolding cellOfBox
-tiling-flush pick m s t held =
-    flush-cases (λ x. Tiling (x .cuts) (x .cells)) pick m s
-    (λ _. t)
-    (λ d e. tiling-reshaped m s d (cellAt-split (s .cells) (cornerOf (s .cuts) m) d e .0) t pick (held d e))
-
--- "sweep the cell at the front of the round, move it to the end"
-tiling-sweepFront : (cells : List Cell) (s : Store) → Tiling (s .cuts) (s .cells) → s .cells ≡ cells → Tiling (sweepFront cells s .cuts) (sweepFront cells s .cells)
-unfolding sweepFront settled swept
-tiling-sweepFront [] s t e = t
-tiling-sweepFront (c ∷ cs) s t e = tiling-move (s .cuts) [] c cs _ (subst (Tiling (s .cuts)) e t) refl refl
-
-pub tiling-tick : (s : Store) → Tiling (s .cuts) (s .cells) → Tiling (tick s .cuts) (tick s .cells)
-unfolding tick
-tiling-tick s t = by-cases (ltb (s .tally + 1) sweepEvery) (λ u. rw u t) (λ u. rw u (tiling-sweepFront (s .cells) s t refl))
-
 -- ---- what waits after a flush
 
 pub reshaped-waiting : (pick : ℕ) (f : Flushed) → reshaped pick f .waiting ≡ f .store .waiting
 unfolding grown splitAt joinedWith
 reshaped-waiting pick f = reshaped-cases (λ x. x .waiting ≡ f .store .waiting) pick f refl (λ c _ _ _. refl) (λ n _ _. refl)
-
-pub reshaped-on : (pick : ℕ) (f : Flushed) → reshaped pick f .on ≡ f .store .on
-unfolding grown splitAt joinedWith
-reshaped-on pick f = reshaped-cases (λ x. x .on ≡ f .store .on) pick f refl (λ c _ _ _. refl) (λ n _ _. refl)
 
 pub reshaped-tally : (pick : ℕ) (f : Flushed) → reshaped pick f .tally ≡ f .store .tally
 unfolding grown splitAt joinedWith

@@ -176,10 +176,6 @@ none-counted memo r (c ∷ cs) h =
     (λ e. none-live (λ _. true) memo r c cs e ∙ none-counted memo r cs (rw (stored-step memo r c cs, e) at h))
     (λ p e. let z : _≡_ {A = Option Place} (some p) none = rw (stored-step memo r c cs, e) at h in cc)
 
--- and back
-pub stored-no-live : (memo : Rows Line) (r : ℕ) (cells : List Cell) → storedIn memo r cells ≡ none → liveOf memo r cells ≡ 0
-stored-no-live memo r cells h = sym (live-true memo r cells) ∙ none-counted memo r cells h
-
 -- one live entry at p: the test "is it p?" tells that the first one is at p, the test that all pass that no other follows
 pub stored-at : (memo : Rows Line) (r : ℕ) (cells : List Cell) (p : Place) → ((t : Place → Bool) → liveBy t memo r cells ≡ one-if (t p)) → storedIn memo r cells ≡ some p
 stored-at memo r [] p h = absurd (omega (arith, h (λ _. true), live-nil (λ _. true) memo r))
@@ -477,15 +473,6 @@ module _ (d : Cell) (rest : List Cell) (memo : Rows Line) (new on : ℕ → Bool
       entered-live d rest memo new on k t (w .key) (w .val .new) (w .val .place) e i (enter w j .memo) (withEntries (enter w j .entries) d)
       (rw same at (find-enter-memo w j (w .key) h (k .memo-rises)))
       (rw same at (find-enter-entries w j (w .key) h (k .cells-rowed .0 .rising)))
-
-  pub live-enter-other : (w : Row Report) → 0 < w .key → (q : ℕ) → q ≢ w .key → (t : Place → Bool)
-      → liveBy t (enter w (record { entries = d .entries; memo = memo }) .memo) q (withEntries (enter w (record { entries = d .entries; memo = memo }) .entries) d ∷ rest)
-      ≡ liveBy t memo q (d ∷ rest)
-  live-enter-other w h q n t =
-      let j : Work = record { entries = d .entries; memo = memo } in
-      let other = ne-eqb q (w .key) n in
-      live-line t memo (enter w j .memo) q (withEntries (enter w j .entries) d ∷ rest) (rw other at (find-enter-memo w j q h (k .memo-rises)))
-      ∙ live-entry t memo q d (withEntries (enter w j .entries) d) rest (rw other at (find-enter-entries w j q h (k .cells-rowed .0 .rising)))
 
   -- each radio's report is entered once, and the others touch neither its line nor its entry: what Books says before is all that is needed
   pub live-enterEach : (ws : Rows Report) → Rising 0 ws → (q : ℕ) (w : Report) → find ws q ≡ some w → inside (d .edges) (w .place) ≡ true → new q ≡ w .new → (t : Place → Bool)

@@ -88,10 +88,6 @@ module _ (free : List ℕ) (c : Cell) where
   unfolding settled
   number-settled = refl
 
-  pub edges-settled : settled free c .edges ≡ c .edges
-  unfolding settled
-  edges-settled = refl
-
   pub entries-settled : settled free c .entries ≡ c .entries
   unfolding settled
   entries-settled = refl

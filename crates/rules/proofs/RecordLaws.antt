@@ -19,7 +19,6 @@ use Rattle.lists.proofs.WordsLaws.{word-small}
 use Rattle.rules.specs.Grid.{Rect}
 use Rattle.rules.specs.Store.{Report}
 use Rattle.rules.specs.Records.{Request, signOn, report, signOff, range, requestOf, kindField, radioField, placeField, rectField, kindSignOn, kindReport, kindSignOff, kindRange, notAtHand, unknownKind, wrongLength, noRadio, reversed, onAlready, notOn, noRoom, refusal}
-use Rattle.rules.specs.Plain.{putAt}
 use Rattle.rules.specs.WellFormed.{InSquare}
 use Rattle.rules.proofs.Parts.{Signed, Waits}
 
@@ -105,10 +104,6 @@ module _ {Val : Type 0} where
 
   pub upTo-alter : (n : ℕ) (f : Option Val → Option Val) (r : ℕ) (l : Rows Val) → 0 < r → r ≤ n → Rising 0 l → UpTo n l → UpTo n (alter f r l)
   upTo-alter n f r l h k a u = each-alter (λ q v. q ≤ n) f r l h a u (λ v e. k)
-
-  pub some-alter : (f : Option Val → Option Val) (b : Bool) (r q : ℕ) (l : Rows Val) → 0 < r → Rising 0 l → ((o : Option Val) → isSome (f o) ≡ b)
-      → isSome (find (alter f r l) q) ≡ putAt r b (λ k. isSome (find l k)) q
-  some-alter f b r q l h a g = rw (find-alter f 0 r q l h a) (by-cases (eqb q r) (λ t. rw t (g (find l q))) (λ t. rw t))
 
 -- ---- who is on
 

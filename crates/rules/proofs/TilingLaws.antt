@@ -16,7 +16,7 @@ use Rattle.lists.specs.Sums.{sumBy, filter, count, sumTo}
 use Rattle.lists.specs.Tests.{one-if, both, either, Each, firstAt}
 use Rattle.lists.proofs.Cases.{by-cases, option-cases}
 use Rattle.lists.proofs.PartsLaws.{length-tab, getD-tab}
-use Rattle.lists.proofs.SumsLaws.{sum-cons, sum-append, sum-const, sum-le, sum-each, sumTo-le, sumTo-const, sumTo-one, sumTo-sumBy, count-head, count-at}
+use Rattle.lists.proofs.SumsLaws.{sum-cons, sum-append, sum-const, sum-le, sum-each, sumTo-le, sumTo-const, sumTo-one, sumTo-sumBy, count-head}
 use Rattle.lists.proofs.TestsLaws.{both-left, both-right, both-intro, either-cases, each-map, each-append, each-split, firstAt-some, firstAt-none}
 use Rattle.rules.specs.Limits.{lastMetre, maxCells, maxCuts, joinEntries}
 use Rattle.rules.specs.Grid.{Axis, eastward, northward, along, across, Span, within, sameSpan, Rect, spanOf, withSpan, inside, square}
@@ -178,11 +178,6 @@ unfolding stripeLow
 stripe-low cuts zero r h = stripe-below cuts 0 0 r (omega arith)
 stripe-low cuts (suc i) r h = stripe-cut cuts 0 i r h
 
--- it is 0 or a cut
-pub stripeLow-cut : (cuts : List ℕ) (i : ℕ) → i ≤ length cuts → 1 ≤ count (stripeLow cuts i) (0 ∷ cuts)
-unfolding stripeLow
-stripeLow-cut cuts i h = count-at (0 ∷ cuts) i (omega arith)
-
 pub stripeLow-most : (cuts : List ℕ) (i : ℕ) → Each (λ c. c ≤ lastMetre) cuts → stripeLow cuts i ≤ lastMetre
 unfolding stripeLow
 stripeLow-most cuts i e = getD-most lastMetre (0 ∷ cuts) i (omega arith, e)
@@ -224,25 +219,6 @@ within-stripe cuts s x y o h k e =
     bool-same (within s x) (within s y)
     (λ t. within-true s y (low-reached cuts (s .low) x y (o .low) e (within-low s x t)) (high-reached cuts (s .high) x y (o .high) e k (within-high s x t)))
     (λ t. within-true s x (low-reached cuts (s .low) y x (o .low) (sym e) (within-low s y t)) (high-reached cuts (s .high) y x (o .high) (sym e) h (within-high s y t)))
-
-pub stripeLow-below : (cuts : List ℕ) (x : ℕ) → RisingCuts 0 cuts → stripeLow cuts (stripe cuts x) ≤ x
-stripeLow-below cuts x r =
-    let y = stripeLow cuts (stripe cuts x) in
-    by-cases (ltb x y)
-    (λ t. let g = ltb-true x y t in
-    absurd (omega (
-      arith,
-      stripe-between cuts x y y g (omega arith),
-      stripe-low cuts (stripe cuts x) r (stripe-most cuts x),
-      stripeLow-cut cuts (stripe cuts x) (stripe-most cuts x),
-      count-cons y 0 cuts,
-      ap one-if (ne-eqb y 0 (omega arith)),
-    )))
-    (λ t. ltb-false x y t)
-
-pub within-corner : (cuts : List ℕ) (s : Span) (x : ℕ) → RisingCuts 0 cuts → OnCuts cuts s → x ≤ lastMetre → within s (stripeLow cuts (stripe cuts x)) ≡ within s x
-within-corner cuts s x r o h =
-    within-stripe cuts s (stripeLow cuts (stripe cuts x)) x o (omega (arith, stripeLow-below cuts x r)) h (stripe-low cuts (stripe cuts x) r (stripe-most cuts x))
 
 -- the high edge is a metre of the square
 pub high-most : (cuts : List ℕ) (s : Span) → Each (λ c. c ≤ lastMetre) cuts → OnCuts cuts s → s .high ≤ lastMetre
@@ -400,14 +376,6 @@ others-among cells d a h =
 -- what is left names each number once, too
 pub round-others : (us : List Cell) (d : Cell) (vs : List Cell) → ((n : ℕ) → count n (map (λ c. c .number) (us ++ (d ∷ vs))) ≤ 1) → (n : ℕ) → count n (map (λ c. c .number) (us ++ vs)) ≤ 1
 round-others us d vs h n = omega (arith, h n, count-numbers n (us ++ (d ∷ vs)), count-numbers n (us ++ vs), sum-split (numberIs n) us d vs)
-
-pub named-split : (pick : ℕ) (l : List Cell) (n : Cell) → named pick l ≡ some n → (n .number ≡ pick) × Among l n
-unfolding named
-named-split pick [] n = none-some
-named-split pick (c ∷ cs) n =
-    by-cases (eqb pick (c .number))
-    (λ t. rw t (λ e. let z : c ≡ n = cc in rw (← z) (sym (eqb-true pick (c .number) t), among-head c cs)))
-    (λ t. rw t (λ e. let r = named-split pick cs n e in (r .0, among-tail c (r .1))))
 
 -- named among those that pass a test
 pub named-filter : (t : Cell → Bool) (pick : ℕ) (l : List Cell) (n : Cell) → named pick (filter t l) ≡ some n → (n .number ≡ pick) × (t n ≡ true) × Among l n
@@ -851,14 +819,6 @@ hull-left s t x h = within-true (hull s t) x (omega (arith, within-low s x h)) (
 
 hull-right : (s t : Span) (x : ℕ) → within t x ≡ true → within (hull s t) x ≡ true
 hull-right s t x h = within-true (hull s t) x (omega (arith, within-low t x h)) (omega (arith, within-high t x h))
-
-pub joined-left : (r s : Rect) (p : Place) → inside r p ≡ true → inside (joinedEdges r s) p ≡ true
-joined-left r s p t =
-    both-intro (hull-left (r .easts) (s .easts) (p .east) (inside-along eastward r p t)) (hull-left (r .norths) (s .norths) (p .north) (inside-along northward r p t))
-
-pub joined-right : (r s : Rect) (p : Place) → inside s p ≡ true → inside (joinedEdges r s) p ≡ true
-joined-right r s p t =
-    both-intro (hull-right (r .easts) (s .easts) (p .east) (inside-along eastward s p t)) (hull-right (r .norths) (s .norths) (p .north) (inside-along northward s p t))
 
 onCuts-hull : (cuts : List ℕ) (s t : Span) → OnCuts cuts s → OnCuts cuts t → OnCuts cuts (hull s t)
 onCuts-hull cuts s t o q = record {
