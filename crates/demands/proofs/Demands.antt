@@ -3,15 +3,15 @@ use mathlib.Core.List.{List}
 use mathlib.Core.Path.{_≡_, refl, sym, ap, _∙_, subst}
 use Prim.Native.Nat.{ℕ}
 use Rattle.lists.specs.Words.{Bytes}
-use Rattle.rules.specs.Records.{report, refusal}
 use Rattle.rules.specs.Store.{Store, fresh}
-use Rattle.rules.specs.Carry.{carry, answered}
+use Rattle.rules.specs.Carry.{carry}
 use Rattle.rules.specs.Plain.{Plain, plainFresh, plainStep}
 use Rattle.rules.specs.WellFormed.{WellFormed}
-use Rattle.rules.proofs.Parts.{Signed}
 use Rattle.rules.proofs.LinkLaws.{Link, fresh-link}
-use Rattle.rules.proofs.StepLaws.{step-well, step-link}
+use Rattle.rules.proofs.PlainLaws.{step-link}
+use Rattle.rules.proofs.StepLaws.{step-well}
 use Rattle.rules.proofs.ToldLaws.{told-same, told-not-2, told-zero}
+use Rattle.rules.proofs.WellLaws.{well-core}
 use Rattle.desk.specs.declared.Desk.{Desk}
 use Rattle.desk.specs.Layout.{deskOf, Laid, freshPages}
 use Rattle.desk.specs.Sound.{Sound}
@@ -66,15 +66,12 @@ state {d} {b} {x} k = rw (k .held) (kept (k .store) x b (k .well) (k .laid) (k .
 
 -- ---- each call is answered as the plain rule says
 
-signed : (s : Store) → WellFormed s → Signed (s .on)
-signed s w = record { few-on = w .few-on; radios-on = w .radios-on; rising-on = w .rising-on }
-
 as-told : {d : Desk} {b : List ℕ} {x : Plain} (k : Beside d b x) (bytes buffer : List ℕ) {y : After}
     → Answers (record { desk = d; pages = b; bytes = bytes; buffer = buffer }) y → AsTold x bytes buffer y
 unfolding laidOut
 as-told {x = x} k bytes buffer a =
     let c = a .sound (sound k) in
-    let t = told-same (c .pick) (k .store) x bytes buffer (signed (k .store) (k .well)) (k .link) in
+    let t = told-same (c .pick) (k .store) x bytes buffer (well-core (k .store) (k .well) .signed) (k .link) in
     record {
       number = ap (λ (z : After). z .number) (c .done) ∙ t .0;
       count = ap (λ (z : After). z .count) (c .done) ∙ t .1;

@@ -1,88 +1,49 @@
 -- A desk and bytes laid out as a well-formed store says keep what Demand 3 asks of them, where the plain rule stands as the store does.
-use mathlib.Core.Bool.{Bool, true, false, not}
+use mathlib.Core.Bool.{Bool, true, not}
 use mathlib.Core.List.{List, [], _∷_, _++_, map}
 use mathlib.Core.Option.{Option, none, some}
 use mathlib.Core.Path.{_≡_, refl, sym, ap, ap₂, _∙_}
-use Prim.Native.Nat.{ℕ, suc, _+_, _*_, _≤_, _<_}
+use Prim.Native.Nat.{ℕ, suc, _+_, _≤_}
 use native.Mathlib.Omega.{arith}
-use lib.Dec.{eqb, ltb}
+use lib.Dec.{eqb}
 use lib.ListN.{length, take}
-use borrow.Author.Tests.{lt-ltb, eq-eqb, ne-eqb}
+use borrow.Author.Tests.{eq-eqb, ne-eqb}
 use Rattle.terms.specs.Terms.{Place, maxRadio, pages, noPage}
 use Rattle.lists.specs.Chains.{firstOf}
-use Rattle.lists.specs.Rows.{Row, Rows, Rising, UpTo, find, countFound}
+use Rattle.lists.specs.Rows.{Row, Rows, Rising, find, countFound}
 use Rattle.lists.specs.Sums.{sumBy, sumTo, concat, count}
 use Rattle.lists.specs.Tests.{one-if, both, Each}
-use Rattle.lists.proofs.Cases.{by-cases, option-cases, list-cases}
+use Rattle.lists.proofs.Cases.{by-cases, option-cases}
 use Rattle.lists.proofs.ChainsLaws.{walk-linked}
-use Rattle.lists.proofs.RowsLaws.{sum-key, sum-rows}
-use Rattle.lists.proofs.SumsLaws.{sum-nil, sum-append, sum-le, sum-const, sum-zero, sum-each, sumTo-ext, sumTo-const, sumTo-but, sumTo-sumBy}
-use Rattle.lists.proofs.TestsLaws.{each-map}
+use Rattle.lists.proofs.RowsLaws.{sum-at-key}
+use Rattle.lists.proofs.SumsLaws.{sum-nil, sum-append, sum-le, sum-const, sum-each, sumTo-ext, sum-concat-map, sum-each-once}
+use Rattle.lists.proofs.TestsLaws.{each-map, each-zip, one-if-le}
 use Rattle.page.specs.Page.{entries}
 use Rattle.page.specs.Buffer.{pageAt}
 use Rattle.page.proofs.ChainLaws.{following}
-use Rattle.rules.specs.Grid.{samePlace, inside}
 use Rattle.rules.specs.Store.{Store, Cell, Report as StoreReport, Line as StoreLine}
-use Rattle.rules.specs.Sweep.{isAt, staleBy}
+use Rattle.rules.specs.Sweep.{isAt}
 use Rattle.rules.specs.Carry.{isOn, placeOf, liveIn, storedIn}
 use Rattle.rules.specs.Plain.{Plain}
-use Rattle.rules.specs.WellFormed.{countIf, liveOf, staleOf, staleIn, chains, WellFormed}
+use Rattle.rules.specs.WellFormed.{countIf, liveOf, staleOf, chains, WellFormed}
 use Rattle.rules.proofs.LinkLaws.{Link}
+use Rattle.rules.proofs.BooksLaws.{missed-total}
+use Rattle.rules.proofs.Parts.{missedOf}
+use Rattle.rules.proofs.PlaceLaws.{samePlace-refl}
+use Rattle.rules.proofs.TilingLaws.{some-cell}
+use Rattle.rules.proofs.WellLaws.{well-core, well-tiling}
 use Rattle.desk.specs.Layout.{slotOf, gridOf, reportOf, waitingOf, lineWith, lineOf, deskOf, Laid}
 use Rattle.desk.proofs.PagesLaws.{PagesOnce}
-use Rattle.desk.proofs.ReadLaws.{each-map₂, counted-below, ChainRead, CellRead, FreePage, cells-read, free-read, Paged, pages-enough}
+use Rattle.desk.proofs.ReadLaws.{ChainRead, CellRead, FreePage, cells-read, free-read, Paged, pages-enough}
 use Rattle.desk.proofs.UniqueLaws.{take-cuts, take-slots, take-waiting, take-memo}
 use Rattle.demands.specs.Trace.{deskCuts}
 use Rattle.demands.specs.Demands.{chainAt, allChains, staleEntry, staleEntries, missedIn, missedCount, waitingPlace, staleBound, Kept}
-
--- ---- lists
-
-pub sum-times : {A : Type 0} (k : ℕ) (f : A → ℕ) (l : List A) → sumBy (λ x. k * f x) l ≡ k * sumBy f l
-unfolding sumBy
-sum-times k f [] = omega arith
-sum-times k f (x ∷ xs) = omega (arith, sum-times k f xs)
-
-pub sum-concat-map : {A B : Type 0} (f : B → ℕ) (g : A → List B) (l : List A) → sumBy f (concat (map g l)) ≡ sumBy (λ x. sumBy f (g x)) l
-unfolding sumBy concat
-sum-concat-map f g [] = refl
-sum-concat-map f g (x ∷ xs) = omega (arith, sum-append f (g x) (concat (map g xs)), sum-concat-map f g xs)
-
--- of the numbers below n only x counts
-sumTo-only : (n : ℕ) (g : ℕ → ℕ) (x : ℕ) → x < n → sumTo n (λ q. g q * one-if (eqb q x)) ≡ g x
-sumTo-only n g x h =
-    omega (
-      arith,
-      sumTo-but n (λ q. g q * one-if (eqb q x)) (λ _. 0) x h (λ q b d. rw (ne-eqb q x d) (omega arith)),
-      sumTo-const 0 n,
-      ap (λ t. g x * one-if t) (eq-eqb x x refl),
-    )
-
--- a sum over the numbers below n is the sum over any list in which each of them stands once, and no other: both are the sum over all pairs that are equal
-pub sum-each-once : (n : ℕ) (g : ℕ → ℕ) (l : List ℕ) → ((q : ℕ) → count q l ≡ one-if (ltb q n)) → sumBy g l ≡ sumTo n g
-sum-each-once n g l h =
-    sym (sum-each (λ x. sumTo n (λ q. g q * one-if (eqb q x))) g l (each-map _ _ l (sumTo-only n g) (counted-below n l (λ q. omega (arith, h q)))))
-    ∙ sym (sumTo-sumBy n (λ q x. g q * one-if (eqb q x)) l)
-    ∙ sumTo-ext n _ g (λ q b. sum-times (g q) (λ x. one-if (eqb q x)) l ∙ rw (h q, lt-ltb q n b) (omega arith))
-
-count-none : {Val : Type 0} (r : ℕ) (o : Option Val) → countFound (λ _ _. 0) r o ≡ 0
-count-none r none = refl
-count-none r (some v) = refl
-
--- a sum over rising rows of what is 0 off one key
-pub sum-at-key : {Val : Type 0} (f : Row Val → ℕ) (b r : ℕ) (l : Rows Val) → ((x : Row Val) → (x .key ≡ r → ⊥) → f x ≡ 0) → Rising b l
-    → sumBy f l ≡ countFound (λ k v. f (record { key = k; val = v })) r (find l r)
-sum-at-key f b r l h a = omega (arith, sum-key f (λ _. 0) b r l h a, count-none r (find l r), sum-const 0 l)
 
 -- ---- the desk's lists
 
 pub desk-cuts : (s : Store) → deskCuts (deskOf s) ≡ s .cuts
 unfolding deskCuts deskOf gridOf
 desk-cuts s = let a = take-cuts (s .cuts .easts) in let o = take-cuts (s .cuts .norths) in λ i. record { easts = a i; norths = o i }
-
--- what a line found counts, 0 for none
-abbrev pub missedOf : Option StoreLine → ℕ
-missedOf none = 0
-missedOf (some l) = l .missed
 
 line-radio : (r m : ℕ) (o : Option Place) → lineWith r m o .radio ≡ r
 line-radio r m none = refl
@@ -155,7 +116,7 @@ module _ (s : Store) (w : WellFormed s) (b : List ℕ) (l : Laid s b) (f : Row P
         sum-append g (concat (map (λ c. c .chain) (s .cells))) (s .free),
         free-sum,
         sum-concat-map g (λ c. c .chain) (s .cells),
-        sum-each (λ c. sumBy g (c .chain)) (λ c. sumBy f (c .entries)) (s .cells) (each-map₂ _ _ _ (s .cells) (λ c h k. cell-sum c (h .paged) k) (w .cells) (cells-read s (w .once) b l)),
+        sum-each (λ c. sumBy g (c .chain)) (λ c. sumBy f (c .entries)) (s .cells) (each-zip _ _ _ (s .cells) (λ c h k. cell-sum c (h .paged) k) (w .cells) (cells-read s (w .once) b l)),
       )
 
 -- ---- stale entries of a radio
@@ -178,14 +139,6 @@ stale-cells s x b w l r =
     ∙ sum-each _ _ (s .cells) (each-map _ _ (s .cells) (λ c h. stale-rows x r (c .entries) (h .rising)) (w .cells))
 
 -- ---- the memo agrees with the plain rule
-
-same-place : (p : Place) → samePlace p p ≡ true
-unfolding both
-same-place p = rw (eq-eqb (p .east) (p .east) refl, eq-eqb (p .north) (p .north) refl)
-
-one-if-le : (t : Bool) → one-if t ≤ 1
-one-if-le true = omega arith
-one-if-le false = omega arith
 
 -- how many cells have an entry of the radio
 abbrev heldOf : ℕ → List Cell → ℕ
@@ -211,7 +164,7 @@ module _ (memo : Rows StoreLine) (r : ℕ) (n : find memo r ≡ none) where
   only-stored (c ∷ cs) h =
       option-cases (find (c .entries) r)
       (λ e. rw e (omega (arith, only-stored cs (omega (arith, rw e at h)))))
-      (λ v e. rw (e, n, same-place v) (omega (arith, stale-le (some v) r cs, rw e at h)))
+      (λ v e. rw (e, n, samePlace-refl v) (omega (arith, stale-le (some v) r cs, rw e at h)))
 
 pub stale-flushed : (s : Store) (x : Plain) → WellFormed s → Link s x → (r : ℕ) → staleOf (x .flushed r) r (s .cells) ≡ missedOf (find (s .memo) r)
 stale-flushed s x w k r =
@@ -219,48 +172,6 @@ stale-flushed s x w k r =
     (λ n. rw n (ap (λ o. staleOf o r (s .cells)) (sym (k .stored r))
     ∙ only-stored (s .memo) r n (s .cells) (omega (arith, held-live (s .memo) r n (s .cells), w .present r, one-if-le (isOn s r)))))
     (λ m e. rw e (ap (λ o. staleOf o r (s .cells)) (sym (k .lines r m e)) ∙ w .lines r m e .equal))
-
--- ---- the sum over all radios
-
--- an entry found, judged by the memo
-abbrev judged : Rows StoreLine → ℕ → Place → ℕ
-judged memo r p = one-if (staleBy (find memo r) p)
-
-count-judged : (memo : Rows StoreLine) (r : ℕ) (o : Option Place) → countFound (judged memo) r o ≡ countIf (staleBy (find memo r)) o
-count-judged memo r none = refl
-count-judged memo r (some p) = refl
-
-count-never : (o : Option Place) → countIf (λ _. false) o ≡ 0
-count-never none = refl
-count-never (some p) = refl
-
-stale-memo : (s : Store) → WellFormed s → (r : ℕ) → sumBy (λ c. countIf (staleBy (find (s .memo) r)) (find (c .entries) r)) (s .cells) ≡ missedOf (find (s .memo) r)
-unfolding staleOf
-stale-memo s w r =
-    option-cases (find (s .memo) r)
-    (λ n. rw n (sum-zero _ (s .cells) (λ c. count-never (find (c .entries) r))))
-    (λ m e. rw e (w .lines r m e .equal))
-
-stale-in : (memo : Rows StoreLine) (c : Cell) → Rising 0 (c .entries) → UpTo maxRadio (c .entries) → staleIn memo c ≡ sumTo (suc maxRadio) (λ r. countIf (staleBy (find memo r)) (find (c .entries) r))
-unfolding staleIn
-stale-in memo c a u =
-    sum-rows (judged memo) 0 maxRadio (c .entries) a u ∙ sumTo-ext (suc maxRadio) _ _ (λ r h. count-judged memo r (find (c .entries) r))
-
--- each stale entry is one of a radio from 1 to 4,095
-pub missed-total : (s : Store) → WellFormed s → sumTo (suc maxRadio) (λ r. missedOf (find (s .memo) r)) ≡ sumBy (staleIn (s .memo)) (s .cells)
-missed-total s w =
-    sumTo-ext (suc maxRadio) _ _ (λ r h. sym (stale-memo s w r))
-    ∙ sumTo-sumBy (suc maxRadio) (λ r c. countIf (staleBy (find (s .memo) r)) (find (c .entries) r)) (s .cells)
-    ∙ sym (sum-each _ _ (s .cells) (each-map _ _ (s .cells) (λ c g. stale-in (s .memo) c (g .rising) (g .radios)) (w .cells)))
-
--- the square is tiled, so that there is a cell
-some-cell : (s : Store) → WellFormed s → 0 < length (s .cells)
-some-cell s w =
-    let corner : Place = record { east = 0; north = 0 } in
-    let f : Cell → ℕ = λ c. one-if (inside (c .edges) corner) in
-    list-cases (s .cells)
-    (λ e. absurd (omega (arith, w .tiled corner (omega arith, omega arith), ap (sumBy f) e, sum-nil f)))
-    (λ c cs e. omega (arith, ap length e))
 
 -- ---- what is kept
 
@@ -273,9 +184,9 @@ stale-bounded s x b w l k =
     omega (
       arith,
       sumTo-ext (suc maxRadio) (staleEntries x b) (λ r. missedOf (find (s .memo) r)) (λ r h. stale-missed s x b w l k r),
-      missed-total s w,
+      missed-total (well-core s w .books),
       waiting-number s,
-      w .bounded 0 (some-cell s w),
+      w .bounded 0 (some-cell (well-tiling s w)),
       w .tallied,
     )
 

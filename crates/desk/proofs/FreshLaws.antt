@@ -1,58 +1,32 @@
 -- A fresh store is sound: it is well-formed, and `freshPages` are its pages.
 use mathlib.Core.Path.{_≡_, refl, sym, ap, _∙_}
-use mathlib.Core.Bool.{Bool, true, false, cond}
+use mathlib.Core.Bool.{cond}
 use mathlib.Core.List.{List, [], _∷_}
-use Prim.Native.Nat.{ℕ, zero, suc, _+_, _-_, _*_, _≤_, _<_}
+use Prim.Native.Nat.{ℕ, zero, suc, _+_, _-_, _*_, _<_}
 use native.Mathlib.Omega.{arith}
-use native.Mathlib.Numerals.{add-one}
-use lib.Dec.{eqb, ltb}
+use lib.Dec.{eqb}
 use lib.ListN.{length, drop}
-use borrow.Author.Tests.{eqb-true, eqb-false, eq-eqb, ne-eqb, lt-ltb, le-ltb, ltb-true, ltb-false, le-leb}
-use Rattle.terms.specs.Terms.{Place, pages, noPage, noCell}
+use borrow.Author.Tests.{eq-eqb, ne-eqb}
+use Rattle.terms.specs.Terms.{pages, noPage, noCell}
 use Rattle.lists.specs.Chains.{firstOf}
 use Rattle.lists.specs.Parts.{part, tab}
 use Rattle.lists.specs.Rows.{find}
 use Rattle.lists.specs.Sums.{sumBy, count, concat}
-use Rattle.lists.specs.Tests.{one-if, Each}
-use Rattle.lists.proofs.Cases.{by-cases}
-use Rattle.lists.proofs.PartsLaws.{tab-suc}
-use Rattle.lists.proofs.SumsLaws.{sum-zero, sum-append, count-head}
-use Rattle.lists.proofs.TestsLaws.{both-intro}
+use Rattle.lists.specs.Tests.{Each}
+use Rattle.lists.proofs.Cases.{none-some}
+use Rattle.lists.proofs.PartsLaws.{tab-cons, length-pieces, part-pieces}
+use Rattle.lists.proofs.SumsLaws.{sum-zero, count-tab}
 use Rattle.page.specs.Page.{pageBytes, kindFree, kindFirst, pageOf, freePageOf}
 use Rattle.page.specs.Buffer.{pageAt}
 use Rattle.page.proofs.PageLaws.{length-pageOf}
-use Rattle.rules.specs.Limits.{lastMetre}
-use Rattle.rules.specs.Grid.{Axis, eastward, northward, spanOf, cutsOf, inside, square}
+use Rattle.rules.specs.Grid.{square}
 use Rattle.rules.specs.Store.{Cell, fresh, pagesFor}
 use Rattle.rules.specs.Carry.{isOn, waitingIn}
-use Rattle.rules.specs.WellFormed.{OnCuts, liveOf, staleIn, chains, InSquare, GoodCell, WellFormed}
+use Rattle.rules.specs.WellFormed.{liveOf, staleIn, chains, GoodCell, WellFormed}
 use Rattle.desk.specs.Layout.{deskOf, leaves, cellLeaves, cellsLeaves, freeLeaves, storeLeaves, At, Laid, pagesOf, freshPages}
 use Rattle.desk.specs.Sound.{Sound}
-use Rattle.desk.proofs.PagesLaws.{length-pieces, part-pieces, PagesOnce, pages-laid}
-
--- ---- lists
-
-pub tab-cons : {A : Type 0} (n : ℕ) (f : ℕ → A) → tab (suc n) f ≡ f 0 ∷ tab n (λ k. f (suc k))
-unfolding tab
-tab-cons n f = refl
-
--- the numbers below n stand once each
-below-suc : (p n : ℕ) → one-if (ltb p n) + one-if (eqb p n) ≡ one-if (ltb p (suc n))
-below-suc p n =
-    by-cases (eqb p n)
-    (λ t. let h = eqb-true p n t in rw (t, le-ltb p n (omega arith), lt-ltb p (suc n) (omega arith)))
-    (λ t. by-cases (ltb p n)
-    (λ u. let h = ltb-true p n u in rw (t, u, lt-ltb p (suc n) (omega arith)))
-    (λ u. let h = ltb-false p n u in rw (t, u, le-ltb p (suc n) (omega (arith, eqb-false p n t)))))
-
-pub count-tab : (p n : ℕ) → count p (tab n (λ i. i)) ≡ one-if (ltb p n)
-unfolding sumBy tab
-count-tab p zero = sym (ap one-if (le-ltb p 0 (omega arith)))
-count-tab p (suc n) =
-    ap (λ m. count p (tab m (λ i. i))) (sym (add-one n))
-    ∙ ap (count p) (tab-suc n (λ i. i))
-    ∙ sum-append (λ x. one-if (eqb p x)) (tab n (λ i. i)) (n ∷ [])
-    ∙ omega (arith, count-tab p n, below-suc p n)
+use Rattle.desk.proofs.PagesLaws.{PagesOnce, pages-laid}
+use Rattle.rules.proofs.TilingLaws.{tiling-fresh}
 
 -- ---- its pages
 
@@ -108,60 +82,38 @@ fresh-pages = sym (pages-laid fresh fresh-once freshPages fresh-laid)
 abbrev freshCell : Cell
 freshCell = record { number = 0; edges = square; chain = 0 ∷ []; entries = [] }
 
-no-cuts : (axis : Axis) → cutsOf axis (fresh .cuts) ≡ []
-unfolding fresh
-no-cuts eastward = refl
-no-cuts northward = refl
-
-whole-span : OnCuts [] (record { low = 0; high = lastMetre })
-whole-span = record { low = count-head 0 []; high = count-head (lastMetre + 1) []; order = omega arith }
-
-fresh-edges : (axis : Axis) → OnCuts (cutsOf axis (fresh .cuts)) (spanOf axis square)
-unfolding fresh
-fresh-edges eastward = whole-span
-fresh-edges northward = whole-span
-
 fresh-cell : GoodCell (fresh .cuts) freshCell
-unfolding pagesFor
-fresh-cell = record { numbered = omega arith; edged = fresh-edges; paged = refl; rising = tt; radios = tt; placed = tt }
-
-in-square : (p : Place) → InSquare p → inside square p ≡ true
-in-square p h =
-    both-intro (both-intro (le-leb 0 (p .east) (omega arith)) (le-leb (p .east) lastMetre (h .0)))
-    (both-intro (le-leb 0 (p .north) (omega arith)) (le-leb (p .north) lastMetre (h .1)))
+unfolding fresh pagesFor
+fresh-cell = let e = tiling-fresh .cells-edged .0 in record { numbered = e .numbered; edged = e .edged; paged = refl; rising = tt; radios = tt; placed = tt }
 
 none-stale : (c : Cell) → staleIn [] c ≡ 0
 unfolding staleIn find
 none-stale c = sum-zero _ (c .entries) (λ e. refl)
 
-one-if-le : (b : Bool) → one-if b ≤ 1
-one-if-le true = omega arith
-one-if-le false = omega arith
-
 pub fresh-well : WellFormed fresh
 unfolding fresh liveOf isOn waitingIn find sumBy
 fresh-well = record {
-  few-cells = omega arith;
-  few-cuts = λ axis. rw (no-cuts axis) (omega arith);
+  few-cells = tiling-fresh .few-cells;
+  few-cuts = tiling-fresh .few-cuts;
   few-on = omega arith;
   radios-on = tt;
   rising-on = tt;
-  cuts-rise = λ axis. rw (no-cuts axis) tt;
-  cuts-end = λ axis. rw (no-cuts axis) tt;
-  tiled = λ p h. omega (arith, ap one-if (in-square p h));
+  cuts-rise = tiling-fresh .cuts-rise;
+  cuts-end = tiling-fresh .cuts-end;
+  tiled = tiling-fresh .tiled;
   cells = (fresh-cell, tt);
   once = fresh-once;
   present = λ r. refl;
   unmarked = λ r w e n. cc;
   memo-rises = tt;
   memo-radios = tt;
-  lines = λ r l e. let z : _≡_ {A = ℕ} 0 1 = cc in absurd (omega arith);
+  lines = λ r l. none-some;
   waiting-rises = tt;
   waiting-radios = tt;
-  waiting-placed = λ r w e. let z : _≡_ {A = ℕ} 0 1 = cc in absurd (omega arith);
+  waiting-placed = λ r w. none-some;
   few-wait = omega arith;
   few-in-box = λ m. omega arith;
-  round = λ n. omega (arith, one-if-le (eqb n 0));
+  round = tiling-fresh .round;
   tallied = omega arith;
   bounded = λ k h. omega (arith, sum-zero (staleIn []) (drop k (freshCell ∷ [])) none-stale);
 }

@@ -5,16 +5,14 @@ use mathlib.Core.List.{List, [], _∷_, _++_, map}
 use Prim.Native.Nat.{ℕ, _+_, _*_, _≤_, _<_}
 use native.Mathlib.Omega.{arith}
 use lib.Dec.{eqb, ltb}
-use lib.ListN.{length, getD, take, drop, length-take, length-drop, take-append-drop}
-use borrow.Author.Tests.{ltb-true}
+use lib.ListN.{length, take, drop, length-take, length-drop, take-append-drop}
 use Rattle.terms.specs.Terms.{Place, pages, pageEntries, noPage, noCell}
 use Rattle.lists.specs.Chains.{firstOf, Linked}
 use Rattle.lists.specs.Rows.{Rows}
 use Rattle.lists.specs.Sums.{count, concat}
 use Rattle.lists.specs.Tests.{one-if, Each}
-use Rattle.lists.proofs.Cases.{by-cases}
-use Rattle.lists.proofs.SumsLaws.{count-at, length-below, sum-append}
-use Rattle.lists.proofs.TestsLaws.{each-map, each-split, getD-each}
+use Rattle.lists.proofs.SumsLaws.{length-below, sum-append, counted-below, count-concat-map}
+use Rattle.lists.proofs.TestsLaws.{each-map, each-split, each-zip, concat-map-each}
 use Rattle.page.specs.Page.{kindFree, kindFirst, kindFurther, freePageOf, kind, next, cell, entries}
 use Rattle.page.specs.Buffer.{pageAt, bufferBytes, there, chainFrom, endFrom}
 use Rattle.page.specs.declared.ChainEnd.the-variants.{Ended}
@@ -23,26 +21,7 @@ use Rattle.page.proofs.ChainLaws.{following, bounds-there, linked-read}
 use Rattle.rules.specs.Store.{Cell, Store, pagesFor}
 use Rattle.rules.specs.WellFormed.{chains}
 use Rattle.desk.specs.Layout.{leaves, cellLeaves, cellsLeaves, freeLeaves, storeLeaves, At, Laid}
-use Rattle.desk.proofs.PagesLaws.{concat-map-each, PagesOnce}
-
--- ---- lists
-
-pub each-map₂ : {A : Type 0} (P Q R : A → Type 0) (l : List A) → ((x : A) → P x → Q x → R x) → Each P l → Each Q l → Each R l
-each-map₂ P Q R [] h e f = tt
-each-map₂ P Q R (x ∷ xs) h e f = (h x (e .0) (f .0), each-map₂ P Q R xs h (e .1) (f .1))
-
--- where no number from n on stands
-pub counted-below : (n : ℕ) (l : List ℕ) → ((q : ℕ) → count q l ≤ one-if (ltb q n)) → Each (λ x. x < n) l
-counted-below n l h = getD-each _ l 0 (λ i b. by-cases (ltb (getD l i 0) n) (ltb-true (getD l i 0) n) (λ t. absurd (omega (arith, h (getD l i 0), count-at l i b, ap one-if t))))
-
--- what stands in one list stands in all together
-pub count-concat-map : {A : Type 0} (f : A → List ℕ) (l : List A) → Each (λ x. (q : ℕ) → count q (f x) ≤ count q (concat (map f l))) l
-unfolding concat
-count-concat-map f [] = tt
-count-concat-map f (x ∷ xs) = (
-  λ q. omega (arith, sum-append (λ y. one-if (eqb q y)) (f x) (concat (map f xs))),
-  each-map _ _ xs (λ y h q. omega (arith, h q, sum-append (λ z. one-if (eqb q z)) (f x) (concat (map f xs)))) (count-concat-map f xs),
-)
+use Rattle.desk.proofs.PagesLaws.{PagesOnce}
 
 -- ---- chains
 
@@ -155,7 +134,7 @@ module _ (s : Store) (once : PagesOnce s) (b : List ℕ) (l : Laid s b) where
 
   pub cells-read : Each (CellRead b) (s .cells)
   cells-read =
-      each-map₂ _ _ (CellRead b) (s .cells) (λ c h a. cell-read b c (l .size) (λ q. omega (arith, h q, once-parts q)) a)
+      each-zip _ _ (CellRead b) (s .cells) (λ c h a. cell-read b c (l .size) (λ q. omega (arith, h q, once-parts q)) a)
       (count-concat-map (λ c. c .chain) (s .cells)) (leaf-parts .0)
 
   pub free-read : FreeRead b (s .free)

@@ -1,6 +1,5 @@
 -- What a desk's fields say of its store, and that desk and bytes are those of one store at most: the cells' chains and entries are read off the bytes.
 use mathlib.Core.Path.{_≡_, refl, sym, ap, ap₂, _∙_}
-use mathlib.Core.Bool.{Bool, true, false}
 use mathlib.Core.List.{List, [], _∷_, map}
 use mathlib.Core.Option.{Option, none, some}
 use Prim.Native.Nat.{ℕ}
@@ -11,8 +10,9 @@ use Rattle.terms.specs.Terms.{Place, pages, noPage}
 use Rattle.lists.specs.Chains.{firstOf}
 use Rattle.lists.specs.Rows.{Row, Rows}
 use Rattle.lists.specs.Sums.{concat}
-use Rattle.lists.specs.Tests.{one-if, Each}
-use Rattle.lists.proofs.TestsLaws.{each-map}
+use Rattle.lists.specs.Tests.{Each}
+use Rattle.lists.proofs.TestsLaws.{each-map, one-if-injective}
+use Rattle.lists.proofs.MapLaws.{map-injective}
 use Rattle.page.specs.Page.{entries}
 use Rattle.page.specs.Buffer.{pageAt, chainFrom}
 use Rattle.rules.specs.Store.{Report as StoreReport, Line as StoreLine, Cell, Store}
@@ -22,23 +22,6 @@ use Rattle.desk.specs.Layout.{slotted, cutListOf, slotOf, directoryOf, g
 use Rattle.desk.specs.Sound.{Sound}
 use Rattle.desk.proofs.PagesLaws.{PagesOnce}
 use Rattle.desk.proofs.ReadLaws.{CellRead, cells-read, free-read, Paged, pages-enough}
-
--- ---- lists
-
-pub map-injective : {A B : Type 0} (f : A → B) → ((x y : A) → f x ≡ f y → x ≡ y) → (l m : List A) → map f l ≡ map f m → l ≡ m
-map-injective f h [] [] e = refl
-map-injective f h [] (y ∷ m) e = cc
-map-injective f h (x ∷ l) [] e = cc
-map-injective f h (x ∷ l) (y ∷ m) e =
-    let e₀ : f x ≡ f y = cc in
-    let e₁ : map f l ≡ map f m = cc in
-    ap₂ _∷_ (h x y e₀) (map-injective f h l m e₁)
-
-one-if-injective : (a b : Bool) → one-if a ≡ one-if b → a ≡ b
-one-if-injective true true e = refl
-one-if-injective true false e = absurd (omega arith)
-one-if-injective false true e = absurd (omega arith)
-one-if-injective false false e = refl
 
 -- ---- the desk's lists, by their counts
 

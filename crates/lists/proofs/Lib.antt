@@ -1,3 +1,4 @@
+pub mod AmongLaws
 pub mod Cases
 pub mod ChainsLaws
 pub mod MapLaws

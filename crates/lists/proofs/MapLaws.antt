@@ -28,3 +28,12 @@ module _ {A B : Type 0} (f : A → B) where
   pub map-removeAt : (l : List A) (a : ℕ) → map f (removeAt l a) ≡ removeAt (map f l) a
   unfolding removeAt
   map-removeAt l a = map-append f (take a l) (drop (suc a) l) ∙ ap₂ (λ (x y : List B). x ++ y) (map-take a l) (map-drop (suc a) l)
+
+  pub map-injective : ((x y : A) → f x ≡ f y → x ≡ y) → (l m : List A) → map f l ≡ map f m → l ≡ m
+  map-injective h [] [] e = refl
+  map-injective h [] (y ∷ m) e = cc
+  map-injective h (x ∷ l) [] e = cc
+  map-injective h (x ∷ l) (y ∷ m) e =
+      let e₀ : f x ≡ f y = cc in
+      let e₁ : map f l ≡ map f m = cc in
+      ap₂ _∷_ (h x y e₀) (map-injective h l m e₁)

@@ -1,6 +1,6 @@
 -- Laws of parts, of writes at an offset, and of tables.
 use mathlib.Core.Path.{_≡_, refl, sym, ap, ap₂, _∙_}
-use Prim.Native.Nat.{ℕ, zero, suc, _+_, _-_, _≤_, _<_}
+use Prim.Native.Nat.{ℕ, zero, suc, _+_, _-_, _*_, _≤_, _<_}
 use native.Mathlib.Nat.{not-suc-le-zero, le-of-suc-le-suc, suc-inj, suc-add, add-assoc, add-zero, zero-add}
 use mathlib.Core.List.{List, [], _∷_, _++_, append-assoc, append-nil}
 use native.Mathlib.Omega.{arith}
@@ -9,6 +9,7 @@ use lib.ListN.{take, drop, length, replicate, length-replicate, replicate-append
 use lib.Seq.{getD-take, getD-drop, take-at, drop-at, drop-drop, set-split, length-take-le, take-append-le, drop-append-le, take-take, take-suc, drop-cons, take-append-seam, getD-append-add, take-add, ext-getD}
 use mathlib.Core.Logic.{_≢_}
 use Rattle.lists.specs.Parts.{part, put, tab}
+use Rattle.lists.specs.Sums.{concat}
 
 module _ {ℓ} {A : Type ℓ} where
   pub length-part : (xs : List A) (a n : ℕ) → a + n ≤ length xs → length (part xs a n) ≡ n
@@ -157,6 +158,10 @@ module _ {ℓ} {A : Type ℓ} where
   tab-ext zero f g h = refl
   tab-ext (suc n) f g h = ap₂ _∷_ (h 0 (omega arith)) (tab-ext n (λ k. f (suc k)) (λ k. g (suc k)) (λ i b. h (suc i) (omega arith)))
 
+  pub tab-cons : (n : ℕ) (f : ℕ → A) → tab (suc n) f ≡ f 0 ∷ tab n (λ k. f (suc k))
+  unfolding tab
+  tab-cons n f = refl
+
   pub tab-suc : (n : ℕ) (f : ℕ → A) → tab (n + 1) f ≡ tab n f ++ (f n ∷ [])
   unfolding tab
   tab-suc zero f = refl
@@ -219,3 +224,39 @@ module _ {ℓ} {A : Type ℓ} where
   pub lent : (xs ys : List A) (a k : ℕ) → length ys ≡ k → take a xs ++ (ys ++ drop k (drop a xs)) ≡ put xs a ys
   unfolding put
   lent xs ys a k h = rw (drop-drop k a xs, h)
+
+-- ---- pieces of one length side by side
+
+module _ {A : Type 0} (w : ℕ) where
+  part-first : (b : List A) → part b (w * 0) w ≡ take w b
+  unfolding part
+  part-first b = let z : w * 0 ≡ 0 = omega arith in rw z
+
+  part-next : (b : List A) (i : ℕ) → part b (w * suc i) w ≡ part (drop w b) (w * i) w
+  unfolding part
+  part-next b i = let q : w * suc i ≡ w + w * i = omega arith in rw (q, ← drop-drop (w * i) w b)
+
+  pub length-pieces : (n : ℕ) (f : ℕ → List A) → ((k : ℕ) → length (f k) ≡ w) → length (concat (tab n f)) ≡ w * n
+  unfolding concat tab
+  length-pieces zero f h = omega arith
+  length-pieces (suc n) f h = length-append (f 0) _ ∙ omega (arith, h 0, length-pieces n (λ k. f (suc k)) (λ k. h (suc k)))
+
+  -- the one at i
+  pub part-pieces : (n : ℕ) (f : ℕ → List A) (i : ℕ) → ((k : ℕ) → length (f k) ≡ w) → i < n → part (concat (tab n f)) (w * i) w ≡ f i
+  unfolding concat tab
+  part-pieces zero f i h b = absurd (not-suc-le-zero b)
+  part-pieces (suc n) f zero h b = part-first _ ∙ take-at (f 0) (concat (tab n (λ k. f (suc k)))) w (h 0)
+  part-pieces (suc n) f (suc i) h b =
+      part-next _ i
+      ∙ ap (λ (l : List A). part l (w * i) w) (drop-at (f 0) (concat (tab n (λ k. f (suc k)))) w (h 0))
+      ∙ part-pieces n (λ k. f (suc k)) i (λ k. h (suc k)) (le-of-suc-le-suc b)
+
+  -- a list is its pieces
+  pub pieces-of : (n : ℕ) (b : List A) → length b ≡ w * n → b ≡ concat (tab n (λ i. part b (w * i) w))
+  unfolding concat tab
+  pieces-of zero [] l = refl
+  pieces-of zero (x ∷ b) l = absurd (omega arith)
+  pieces-of (suc n) b l =
+      sym (take-append-drop w b)
+      ∙ ap₂ (λ (x y : List A). x ++ y) (sym (part-first b))
+      (pieces-of n (drop w b) (rw length-drop (omega arith)) ∙ ap concat (tab-ext n _ _ (λ i h. sym (part-next b i))))

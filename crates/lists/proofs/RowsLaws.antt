@@ -1,23 +1,29 @@
 -- Laws of rows by rising key.
 use mathlib.Core.Path.{_≡_, refl, sym, ap, ap₂, _∙_}
-use mathlib.Core.Bool.{Bool, true, false, not, cond}
+use mathlib.Core.Bool.{Bool, true, false, cond}
 use mathlib.Core.List.{[], _∷_, map}
 use mathlib.Core.Option.{Option, none, some, Option·map}
-use Prim.Native.Nat.{ℕ, suc, _+_, _≤_, _<_}
+use Prim.Native.Nat.{ℕ, zero, suc, _+_, _≤_, _<_}
 use native.Mathlib.Omega.{arith}
 use lib.Dec.{eqb, ltb}
 use borrow.Author.Tests.{ltb-true, ltb-false, eqb-true, eqb-false, ne-eqb, eq-eqb}
 use lib.ListN.{length}
-use Rattle.lists.specs.Tests.{orElse, Each}
+use Rattle.lists.specs.Parts.{tab}
+use Rattle.lists.specs.Tests.{one-if, isSome, orElse, Each}
 use Rattle.lists.specs.Sums.{sumBy, sumTo, filter, keep}
 use Rattle.lists.specs.Rows.{Row, Rows, Rising, UpTo, find, putRow, alter, insert, merge, countFound, passed}
-use Rattle.lists.proofs.Cases.{by-cases}
-use Rattle.lists.proofs.SumsLaws.{sum-const, sumTo-zero, sumTo-but}
+use Rattle.lists.proofs.Cases.{by-cases, none-some, false-true}
+use Rattle.lists.proofs.SumsLaws.{sum-const, sumTo-zero, sumTo-but, sumTo-ext}
+use Rattle.lists.proofs.TestsLaws.{each-map, one-if-le}
 
 module _ {Val : Type 0} where
   pub rising-less : (a b : ℕ) (l : Rows Val) → a ≤ b → Rising b l → Rising a l
   rising-less a b [] h t = tt
   rising-less a b (x ∷ xs) h t = (omega arith, t .1)
+
+  pub rising-above : (b : ℕ) (l : Rows Val) → Rising b l → Each (λ x. b < x .key) l
+  rising-above b [] a = tt
+  rising-above b (x ∷ xs) a = (a .0, each-map _ _ xs (λ y h. omega arith) (rising-above (x .key) xs (a .1)))
 
   pub find-below : (r b : ℕ) (l : Rows Val) → r ≤ b → Rising b l → find l r ≡ none
   unfolding find
@@ -65,6 +71,34 @@ module _ {Val : Type 0} where
       (λ g. by-cases (eqb q (x .key))
       (λ t. rw (e, g, t, ne-eqb q r (omega (arith, eqb-true q (x .key) t, eqb-false r (x .key) e))))
       (λ t. rw (e, g, t) (find-alter f (x .key) r q xs (omega (arith, ltb-false, eqb-false r (x .key) e)) (a .1)))))
+
+  -- the key itself, and the others
+  pub find-alter-same : (f : Option Val → Option Val) (b r : ℕ) (l : Rows Val) → b < r → Rising b l → find (alter f r l) r ≡ f (find l r)
+  find-alter-same f b r l h a = rw (find-alter f b r r l h a, eq-eqb r r refl)
+
+  pub find-alter-other : (f : Option Val → Option Val) (b r : ℕ) (l : Rows Val) → b < r → Rising b l → (q : ℕ) → (q ≡ r → ⊥) → find (alter f r l) q ≡ find l q
+  find-alter-other f b r l h a q n = rw (find-alter f b r q l h a, ne-eqb q r n)
+
+  pub find-alter-cases {ℓ} : {P : Type ℓ} (f : Option Val → Option Val) (b r q : ℕ) (v : Val) (l : Rows Val) → b < r → Rising b l → find (alter f r l) q ≡ some v
+      → (q ≡ r → f (find l r) ≡ some v → P) → ((q ≡ r → ⊥) → find l q ≡ some v → P) → P
+  find-alter-cases f b r q v l h a e same other =
+      by-cases (eqb q r)
+      (λ t. same (eqb-true q r t) (rw (find-alter f b r q l h a, t, eqb-true q r t) at e))
+      (λ t. other (eqb-false q r t) (rw (find-alter f b r q l h a, t) at e))
+
+  upTo-putRow : (n r : ℕ) (o : Option Val) (l : Rows Val) → r ≤ n → UpTo n l → UpTo n (putRow r o l)
+  upTo-putRow n r none l h u = u
+  upTo-putRow n r (some v) l h u = (h, u)
+
+  pub upTo-alter : (f : Option Val → Option Val) (n r : ℕ) (l : Rows Val) → r ≤ n → UpTo n l → UpTo n (alter f r l)
+  unfolding alter
+  upTo-alter f n r [] h u = upTo-putRow n r (f none) [] h tt
+  upTo-alter f n r (x ∷ xs) h u =
+      by-cases (eqb r (x .key))
+      (λ e. rw e (upTo-putRow n r (f (some (x .val))) xs h (u .1)))
+      (λ e. by-cases (ltb r (x .key))
+      (λ t. rw (e, t) (upTo-putRow n r (f none) (x ∷ xs) h u))
+      (λ t. rw (e, t) (u .0, upTo-alter f n r xs h (u .1))))
 
   sum-putRow : (f : ℕ → Val → ℕ) (r : ℕ) (o : Option Val) (l : Rows Val) → sumBy (λ x. f (x .key) (x .val)) (putRow r o l) ≡ countFound f r o + sumBy (λ x. f (x .key) (x .val)) l
   unfolding sumBy
@@ -163,11 +197,14 @@ module _ {Val : Type 0} where
   length-alter g b r l h a = omega (arith, sum-alter (λ _ _. 1) g b r l h a, sum-const 1 l, sum-const 1 (alter g r l))
 
   pub passed-true : (p : Row Val → Bool) (r : ℕ) (o : Option Val) (v : Val) → passed p r o ≡ some v → (o ≡ some v) × (p (record { key = r; val = v }) ≡ true)
-  passed-true p r none v = λ e. let z : _≡_ {A = ℕ} 0 1 = cc in absurd (omega arith)
+  passed-true p r none v = none-some
   passed-true p r (some u) v =
       by-cases (p (record { key = r; val = u }))
       (λ t. rw t (λ e. let z : u ≡ v = cc in (e, rw (← z) t)))
-      (λ t. rw t (λ e. let z : _≡_ {A = ℕ} 0 1 = cc in absurd (omega arith)))
+      (λ t. rw t none-some)
+
+  pub find-filter-some : (p : Row Val → Bool) (b r : ℕ) (l : Rows Val) (v : Val) → Rising b l → find (filter p l) r ≡ some v → (find l r ≡ some v) × (p (record { key = r; val = v }) ≡ true)
+  find-filter-some p b r l v a e = passed-true p r (find l r) v (sym (find-filter p b r l a) ∙ e)
 
   -- a sum over a rising list is 0 where each row found counts 0
   pub sum-zero-find : (f : Row Val → ℕ) (b : ℕ) (l : Rows Val) → Rising b l → ((r : ℕ) (v : Val) → find l r ≡ some v → f (record { key = r; val = v }) ≡ 0) → sumBy f l ≡ 0
@@ -175,12 +212,21 @@ module _ {Val : Type 0} where
   sum-zero-find f b [] a h = refl
   sum-zero-find f b (x ∷ xs) a h = omega (arith, h (x .key) (x .val) (find-head x xs), sum-zero-find f (x .key) xs (a .1) (λ r v e. h r v (find-tail x xs r v (a .1) e)))
 
-  one-at-most : (r : ℕ) (o : Option Val) → countFound (λ _ _. 1) r o ≤ 1
-  one-at-most r none = omega arith
-  one-at-most r (some v) = omega arith
+  pub countFound-zero : (r : ℕ) (o : Option Val) → countFound (λ _ _. 0) r o ≡ 0
+  countFound-zero r none = refl
+  countFound-zero r (some v) = refl
+
+  pub countFound-one : (r : ℕ) (o : Option Val) → countFound (λ _ _. 1) r o ≡ one-if (isSome o)
+  countFound-one r none = refl
+  countFound-one r (some v) = refl
+
+  -- a sum over rising rows of what is 0 off one key
+  pub sum-at-key : (f : Row Val → ℕ) (b r : ℕ) (l : Rows Val) → ((x : Row Val) → (x .key ≡ r → ⊥) → f x ≡ 0) → Rising b l
+      → sumBy f l ≡ countFound (λ k v. f (record { key = k; val = v })) r (find l r)
+  sum-at-key f b r l h a = omega (arith, sum-key f (λ _. 0) b r l h a, countFound-zero r (find l r), sum-const 0 l)
 
   pub length-alter-le : (g : Option Val → Option Val) (b r : ℕ) (l : Rows Val) → b < r → Rising b l → length (alter g r l) ≤ length l + 1
-  length-alter-le g b r l h a = omega (arith, length-alter g b r l h a, one-at-most r (g (find l r)))
+  length-alter-le g b r l h a = omega (arith, length-alter g b r l h a, countFound-one r (g (find l r)), one-if-le (isSome (g (find l r))))
 
   -- a filter by key: the key passes or not, whatever stands there
   pub find-filter-key : (t : ℕ → Bool) (r : ℕ) (l : Rows Val) → find (filter (λ x. t (x .key)) l) r ≡ cond (t r) (find l r) none
@@ -231,6 +277,22 @@ module _ {Val : Type 0} where
   pub length-merge : (c : ℕ) (l m : Rows Val) → Rising c l → Rising 0 m → ((r : ℕ) (v : Val) → find l r ≡ some v → find m r ≡ none) → length (merge l m) ≡ length l + length m
   length-merge c l m a k h = omega (arith, sum-merge (λ _ _. 1) c l m a k h, sum-const 1 l, sum-const 1 m, sum-const 1 (merge l m))
 
+  pub length-merge-le : (c : ℕ) (l m : Rows Val) → Rising c l → Rising 0 m → length (merge l m) ≤ length l + length m
+  unfolding merge
+  length-merge-le c [] m a k = omega arith
+  length-merge-le c (x ∷ xs) m a k =
+      let pos : 0 < x .key = omega arith in
+      omega (
+        arith,
+        length-merge-le (x .key) xs (insert (x .key) (x .val) m) (a .1) (rising-alter (λ _. some (x .val)) 0 (x .key) m pos k),
+        length-alter-le (λ _. some (x .val)) 0 (x .key) m pos k,
+      )
+
+  pub upTo-merge : (n : ℕ) (l m : Rows Val) → UpTo n l → UpTo n m → UpTo n (merge l m)
+  unfolding merge
+  upTo-merge n [] m u v = v
+  upTo-merge n (x ∷ xs) m u v = upTo-merge n xs (insert (x .key) (x .val) m) (u .1) (upTo-alter (λ _. some (x .val)) n (x .key) m (u .0) v)
+
   -- rising keys up to n are at most n
   pub length-rising : (b n : ℕ) (l : Rows Val) → Rising b l → UpTo n l → b ≤ n → b + length l ≤ n
   length-rising b n [] a u h = omega arith
@@ -240,7 +302,7 @@ module _ {Val : Type 0} where
 
   pub each-find : (P : ℕ → Val → Type 0) (r : ℕ) (v : Val) (l : Rows Val) → Each (λ x. P (x .key) (x .val)) l → find l r ≡ some v → P r v
   unfolding find
-  each-find P r v [] a = λ e. let z : _≡_ {A = ℕ} 0 1 = cc in absurd (omega arith)
+  each-find P r v [] a = none-some
   each-find P r v (x ∷ xs) a =
       by-cases (eqb r (x .key))
       (λ t. rw t (λ e. let z : x .val ≡ v = cc in rw (eqb-true r (x .key) t, ← z) (a .0)))
@@ -249,6 +311,15 @@ module _ {Val : Type 0} where
   pub find-each : (P : ℕ → Val → Type 0) (b : ℕ) (l : Rows Val) → Rising b l → ((r : ℕ) (v : Val) → find l r ≡ some v → P r v) → Each (λ x. P (x .key) (x .val)) l
   find-each P b [] a h = tt
   find-each P b (x ∷ xs) a h = (h (x .key) (x .val) (find-head x xs), find-each P (x .key) xs (a .1) (λ r v e. h r v (find-tail x xs r v (a .1) e)))
+
+  -- a row found has its key within the bounds
+  pub find-within : (b n r : ℕ) (l : Rows Val) → Rising b l → UpTo n l → isSome (find l r) ≡ true → (b < r) × (r ≤ n)
+  unfolding find
+  find-within b n r [] a u = false-true
+  find-within b n r (x ∷ xs) a u =
+      by-cases (eqb r (x .key))
+      (λ t. let z = eqb-true r (x .key) t in rw t (λ e. (omega (arith, a .0), omega (arith, u .0))))
+      (λ t. rw t (λ e. let w = find-within (x .key) n r xs (a .1) (u .1) e in (omega (arith, a .0), w .1)))
 
   -- a sum over the rows is the sum over the keys of what is found
   pub sum-rows : (f : ℕ → Val → ℕ) (b n : ℕ) (l : Rows Val) → Rising b l → UpTo n l → sumBy (λ x. f (x .key) (x .val)) l ≡ sumTo (suc n) (λ r. countFound f r (find l r))
@@ -262,6 +333,31 @@ module _ {Val : Type 0} where
         ap (countFound f (x .key)) (find-head x xs),
         ap (countFound f (x .key)) (find-below (x .key) (x .key) xs (omega arith) (a .1)),
       )
+
+  -- a row for each key at which one is found
+  pub length-found : (b n : ℕ) (l : Rows Val) → Rising b l → UpTo n l → length l ≡ sumTo (suc n) (λ r. one-if (isSome (find l r)))
+  length-found b n l a u =
+      omega (
+        arith,
+        sum-const 1 l,
+        sum-rows (λ _ _. 1) b n l a u,
+        sumTo-ext (suc n) (λ r. countFound (λ _ _. 1) r (find l r)) (λ r. one-if (isSome (find l r))) (λ r _. countFound-one r (find l r)),
+      )
+
+  -- ---- a table of rows: the keys k + 1 to k + n
+
+  pub rising-tab : (n k : ℕ) (f : ℕ → ℕ) (g : ℕ → Val) → ((i : ℕ) → f i ≡ suc (k + i)) → Rising k (tab n (λ i. record { key = f i; val = g i }))
+  unfolding tab
+  rising-tab zero k f g h = tt
+  rising-tab (suc n) k f g h = (omega (arith, h 0), rising-tab n (f 0) (λ i. f (suc i)) (λ i. g (suc i)) (λ i. omega (arith, h 0, h (suc i))))
+
+  pub find-tab : (n k r : ℕ) (f : ℕ → ℕ) (g : ℕ → Val) → ((i : ℕ) → f i ≡ suc (k + i)) → k < r → r ≤ k + n → isSome (find (tab n (λ i. record { key = f i; val = g i })) r) ≡ true
+  unfolding tab find
+  find-tab zero k r f g h a b = absurd (omega arith)
+  find-tab (suc n) k r f g h a b =
+      by-cases (eqb r (f 0))
+      (λ t. rw t)
+      (λ t. rw t (find-tab n (f 0) r (λ i. f (suc i)) (λ i. g (suc i)) (λ i. omega (arith, h 0, h (suc i))) (omega (arith, h 0, eqb-false r (f 0) t)) (omega (arith, h 0))))
 
 -- ---- values mapped
 

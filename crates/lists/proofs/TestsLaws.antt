@@ -1,15 +1,18 @@
 -- Laws of tests as Bools, and of what they pick.
-use mathlib.Core.Path.{_≡_, refl}
+use mathlib.Core.Path.{_≡_, refl, sym, ap}
 use mathlib.Core.Bool.{Bool, true, false, cond}
-use mathlib.Core.List.{List, [], _∷_, _++_}
+use mathlib.Core.List.{List, [], _∷_, _++_, map}
 use mathlib.Core.Option.{Option, none, some}
-use Prim.Native.Nat.{ℕ, zero, suc, _<_}
+use Prim.Native.Nat.{ℕ, zero, suc, _+_, _≤_, _<_}
 use native.Mathlib.Omega.{arith}
 use native.Mathlib.Nat.{le-of-suc-le-suc, not-suc-le-zero}
-use lib.ListN.{length, getD}
+use lib.ListN.{length, getD, drop}
 pub use borrow.Author.Tests.{not-true, not-false}
-use Rattle.lists.specs.Tests.{both, either, Each, all, firstAt, best}
-use Rattle.lists.proofs.Cases.{by-cases, option-cases}
+use Rattle.lists.specs.Parts.{tab}
+use Rattle.lists.specs.Sums.{keep, filter, concat}
+use Rattle.lists.specs.Tests.{one-if, both, either, Each, all, firstAt, best}
+use Rattle.lists.proofs.Cases.{by-cases, option-cases, false-true}
+use Rattle.lists.proofs.PartsLaws.{length-tab, getD-tab}
 
 pub both-left : (a b : Bool) → both a b ≡ true → a ≡ true
 unfolding both
@@ -25,6 +28,38 @@ pub both-intro : {a b : Bool} → a ≡ true → b ≡ true → both a b ≡ tru
 unfolding both
 both-intro e f = rw (e, f)
 
+-- a test that fails
+pub both-left-false : {a : Bool} (b : Bool) → a ≡ false → both a b ≡ false
+unfolding both
+both-left-false b e = rw e
+
+pub both-right-false : (a : Bool) {b : Bool} → b ≡ false → both a b ≡ false
+unfolding both
+both-right-false true e = e
+both-right-false false e = refl
+
+-- the second, where the first passed
+pub both-second : (a b : Bool) → a ≡ true → both a b ≡ false → b ≡ false
+unfolding both
+both-second true b t e = e
+both-second false b t e = false-true t
+
+pub both-true : (a : Bool) → both a true ≡ a
+unfolding both
+both-true true = refl
+both-true false = refl
+
+pub true-both : (b : Bool) → both true b ≡ b
+unfolding both
+true-both b = refl
+
+pub both-comm : (a b : Bool) → both a b ≡ both b a
+unfolding both
+both-comm true true = refl
+both-comm true false = refl
+both-comm false true = refl
+both-comm false false = refl
+
 pub either-cases {ℓ} : {P : Type ℓ} (a b : Bool) → either a b ≡ true → (a ≡ true → P) → (b ≡ true → P) → P
 unfolding either
 either-cases true b e f g = f refl
@@ -39,12 +74,67 @@ unfolding either
 either-right true e = refl
 either-right false e = e
 
+pub either-false : (a b : Bool) → either a b ≡ false → (a ≡ false) × (b ≡ false)
+unfolding either
+either-false true b e = false-true (sym e)
+either-false false b e = (refl, e)
+
+pub bool-ext : (a b : Bool) → (a ≡ true → b ≡ true) → (b ≡ true → a ≡ true) → a ≡ b
+bool-ext true b f g = sym (f refl)
+bool-ext false true f g = g refl
+bool-ext false false f g = refl
+
+-- ---- one-if
+
+pub one-if-le : (b : Bool) → one-if b ≤ 1
+one-if-le true = omega arith
+one-if-le false = omega arith
+
+pub one-if-false : (b : Bool) → one-if b ≡ 0 → b ≡ false
+one-if-false true e = absurd (omega arith)
+one-if-false false e = refl
+
+pub one-if-injective : (a b : Bool) → one-if a ≡ one-if b → a ≡ b
+one-if-injective true true e = refl
+one-if-injective true false e = absurd (omega arith)
+one-if-injective false true e = absurd (omega arith)
+one-if-injective false false e = refl
+
+pub one-if-both-le : (a b : Bool) → one-if (both a b) ≤ one-if a
+unfolding both
+one-if-both-le true b = one-if-le b
+one-if-both-le false b = omega arith
+
+-- one of two parts, and a further test
+pub one-if-parts : (a b c f : Bool) → one-if a ≡ one-if b + one-if c → one-if (both a f) ≡ one-if (both b f) + one-if (both c f)
+one-if-parts a b c true h = omega (arith, h, ap one-if (both-true a), ap one-if (both-true b), ap one-if (both-true c))
+one-if-parts a b c false h = omega (arith, ap one-if (both-right-false a refl), ap one-if (both-right-false b refl), ap one-if (both-right-false c refl))
+
+pub one-if-either : (a b : Bool) → either a b ≡ true → 1 ≤ one-if a + one-if b
+unfolding either
+one-if-either true b e = omega arith
+one-if-either false b e = omega (arith, ap one-if e)
+
 module _ {A : Type 0} where
   -- ---- Each
 
   pub each-map : (P Q : A → Type 0) (l : List A) → ((x : A) → P x → Q x) → Each P l → Each Q l
   each-map P Q [] h e = tt
   each-map P Q (x ∷ xs) h e = (h x (e .0), each-map P Q xs h (e .1))
+
+  -- by two facts of each
+  pub each-zip : (P Q R : A → Type 0) (l : List A) → ((x : A) → P x → Q x → R x) → Each P l → Each Q l → Each R l
+  each-zip P Q R [] h e f = tt
+  each-zip P Q R (x ∷ xs) h e f = (h x (e .0) (f .0), each-zip P Q R xs h (e .1) (f .1))
+
+  pub each-every : (P : A → Type 0) (l : List A) → ((x : A) → P x) → Each P l
+  each-every P [] h = tt
+  each-every P (x ∷ xs) h = (h x, each-every P xs h)
+
+  -- a fact for every i of each element
+  pub each-for : {I : Type 0} (P : I → A → Type 0) (l : List A) → ((i : I) → Each (P i) l) → Each (λ x. (i : I) → P i x) l
+  each-for P [] h = tt
+  each-for P (x ∷ xs) h = (λ i. h i .0, each-for P xs (λ i. h i .1))
 
   pub each-append : (P : A → Type 0) (a b : List A) → Each P a → Each P b → Each P (a ++ b)
   each-append P [] b e f = f
@@ -54,14 +144,47 @@ module _ {A : Type 0} where
   each-split P [] b e = (tt, e)
   each-split P (x ∷ xs) b e = let t = each-split P xs b (e .1) in ((e .0, t .0), t .1)
 
+  -- an element in the middle
+  pub each-middle : (P : A → Type 0) (xs : List A) (d : A) (ys : List A) → Each P (xs ++ (d ∷ ys)) → P d × Each P (xs ++ ys)
+  each-middle P xs d ys e = let t = each-split P xs (d ∷ ys) e in (t .1 .0, each-append P xs ys (t .0) (t .1 .1))
+
+  pub each-drop : (P : A → Type 0) (k : ℕ) (l : List A) → Each P l → Each P (drop k l)
+  each-drop P zero l e = e
+  each-drop P (suc k) [] e = tt
+  each-drop P (suc k) (x ∷ xs) e = each-drop P k xs (e .1)
+
+  each-keep : (P : A → Type 0) (b : Bool) (x : A) (l : List A) → (b ≡ true → P x) → Each P l → Each P (keep b x l)
+  each-keep P true x l h e = (h refl, e)
+  each-keep P false x l h e = e
+
+  -- what passes a filter has the fact and passes
+  pub each-filter : (P Q : A → Type 0) (p : A → Bool) (l : List A) → ((x : A) → P x → p x ≡ true → Q x) → Each P l → Each Q (filter p l)
+  unfolding filter
+  each-filter P Q p [] h e = tt
+  each-filter P Q p (x ∷ xs) h e = each-keep Q (p x) x (filter p xs) (h x (e .0)) (each-filter P Q p xs h (e .1))
+
+  pub concat-each : (P : A → Type 0) (ls : List (List A)) → Each P (concat ls) → Each (Each P) ls
+  unfolding concat
+  concat-each P [] e = tt
+  concat-each P (l ∷ ls) e = let t = each-split P l (concat ls) e in (t .0, concat-each P ls (t .1))
+
   pub each-getD : (P : A → Type 0) (l : List A) (i : ℕ) (d : A) → Each P l → i < length l → P (getD l i d)
   each-getD P [] i d e h = absurd (not-suc-le-zero h)
   each-getD P (x ∷ xs) zero d e h = e .0
   each-getD P (x ∷ xs) (suc i) d e h = each-getD P xs i d (e .1) (le-of-suc-le-suc h)
 
+  -- past the end too
+  pub each-getD-or : (P : A → Type 0) (l : List A) (i : ℕ) (d : A) → P d → Each P l → P (getD l i d)
+  each-getD-or P [] i d h e = h
+  each-getD-or P (x ∷ xs) zero d h e = e .0
+  each-getD-or P (x ∷ xs) (suc i) d h e = each-getD-or P xs i d h (e .1)
+
   pub getD-each : (P : A → Type 0) (l : List A) (d : A) → ((i : ℕ) → i < length l → P (getD l i d)) → Each P l
   getD-each P [] d h = tt
   getD-each P (x ∷ xs) d h = (h 0 (omega arith), getD-each P xs d (λ i b. h (suc i) (omega arith)))
+
+  pub each-tab : (P : A → Type 0) (n : ℕ) (f : ℕ → A) (i : ℕ) → Each P (tab n f) → i < n → P (f i)
+  each-tab P n f i e h = rw (getD-tab n f i (f i) h) at (each-getD P (tab n f) i (f i) e (omega (arith, length-tab n f)))
 
   -- ---- all
 
@@ -125,14 +248,14 @@ module _ {A : Type 0} where
 
   -- ---- best
 
-  holds-cond : (P : A → Type 0) (b : Bool) (x y : A) → P x → P y → P (cond b x y)
-  holds-cond P true x y e f = e
-  holds-cond P false x y e f = f
+  pub cond-holds : (P : A → Type 0) (b : Bool) (x y : A) → P x → P y → P (cond b x y)
+  cond-holds P true x y e f = e
+  cond-holds P false x y e f = f
 
   pub best-holds : (P : A → Type 0) (better : A → A → Bool) (x : A) (l : List A) → P x → Each P l → P (best better x l)
   unfolding best
   best-holds P better x [] e es = e
-  best-holds P better x (y ∷ ys) e es = best-holds P better (cond (better y x) y x) ys (holds-cond P (better y x) y x (es .0) e) (es .1)
+  best-holds P better x (y ∷ ys) e es = best-holds P better (cond (better y x) y x) ys (cond-holds P (better y x) y x (es .0) e) (es .1)
 
   -- no element is better than the best, where `better` is a strict weak order: asymmetric, and "not better" is transitive
   pub best-none-better : (better : A → A → Bool) → ((x y : A) → better x y ≡ true → better y x ≡ false) → ((x y z : A) → better y x ≡ false → better z y ≡ false → better z x ≡ false) →
@@ -143,3 +266,20 @@ module _ {A : Type 0} where
       by-cases (better y x)
       (λ t. let e = best-none-better better asym trans y ys in rw t (trans (best better y ys) y x (e .0) (asym y x t), e))
       (λ t. let e = best-none-better better asym trans x ys in rw t (e .0, (trans (best better x ys) x y (e .0) t, e .1)))
+
+-- ---- Each of a map, and of the lists that it makes
+
+module _ {A B : Type 0} where
+  pub each-over-map : (P : B → Type 0) (f : A → B) (l : List A) → Each (λ x. P (f x)) l → Each P (map f l)
+  each-over-map P f [] e = tt
+  each-over-map P f (x ∷ xs) e = (e .0, each-over-map P f xs (e .1))
+
+  pub each-concat-map : (P : B → Type 0) (f : A → List B) (l : List A) → Each (λ x. Each P (f x)) l → Each P (concat (map f l))
+  unfolding concat
+  each-concat-map P f [] e = tt
+  each-concat-map P f (x ∷ xs) e = each-append P (f x) (concat (map f xs)) (e .0) (each-concat-map P f xs (e .1))
+
+  pub concat-map-each : (P : B → Type 0) (f : A → List B) (l : List A) → Each P (concat (map f l)) → Each (λ x. Each P (f x)) l
+  unfolding concat
+  concat-map-each P f [] e = tt
+  concat-map-each P f (x ∷ xs) e = let t = each-split P (f x) (concat (map f xs)) e in (t .0, concat-map-each P f xs (t .1))

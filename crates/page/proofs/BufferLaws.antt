@@ -6,7 +6,6 @@ use Prim.Native.Nat.{ℕ, _+_, _*_, _≤_}
 use native.Mathlib.Decide.{decLt}
 use native.Mathlib.Omega.{arith}
 use lib.ListN.{length}
-use Rattle.terms.specs.Terms.{pages}
 use Rattle.lists.proofs.PartsLaws.{length-put, part-put, part-put-before, part-put-after, length-part}
 use Rattle.page.specs.Page.{pageBytes}
 use Rattle.page.specs.Buffer.{pageAt, putPage}

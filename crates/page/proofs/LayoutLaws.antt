@@ -14,7 +14,7 @@ use Rattle.lists.specs.Parts.{part, tab}
 use Rattle.lists.specs.Rows.{Row, Rows, Rising, UpTo}
 use Rattle.lists.specs.Tests.{both}
 use Rattle.lists.specs.Words.{Bytes}
-use Rattle.lists.proofs.Cases.{by-cases}
+use Rattle.lists.proofs.Cases.{by-cases, false-true}
 use Rattle.lists.proofs.PartsLaws.{length-tab, part-append, part-zero, tab-suc}
 use Rattle.lists.proofs.TestsLaws.{both-left, both-right, both-intro, either-cases, either-left, either-right}
 use Rattle.lists.proofs.WordsLaws.{le-word}
@@ -43,7 +43,7 @@ climb-rising low [] = λ h. (tt, tt)
 climb-rising low (e ∷ es) =
     by-cases (both (ltb low (e .key)) (leb (e .key) maxRadio))
     (λ t. rw t (λ h. let r = climb-rising (e .key) es h in ((ltb-true _ _ (both-left _ _ t), r .0), (leb-true _ _ (both-right _ _ t), r .1))))
-    (λ t. rw t (λ h. let z : _≡_ {A = ℕ} 0 1 = cc in absurd (omega arith)))
+    (λ t. rw t false-true)
 
 -- the last key, low for none
 unfoldable pub lastKey : ℕ → Rows Place → ℕ

@@ -1,7 +1,7 @@
 -- What the functions of the layout test need: a law for each turn, end or return, in the words of the contracts.
 use mathlib.Core.Bool.{Bool, true, false, not}
 use mathlib.Core.List.{List, _∷_}
-use mathlib.Core.Path.{_≡_, refl, sym, ap, _∙_}
+use mathlib.Core.Path.{_≡_, sym, ap, _∙_}
 use Prim.Native.Nat.{ℕ, suc, _+_, _*_, _≤_, _<_, max}
 use native.Mathlib.Numerals.{add-one}
 use native.Mathlib.Omega.{arith}
@@ -15,7 +15,7 @@ use Rattle.lists.specs.Tests.{both, either}
 use Rattle.lists.specs.Words.{word}
 use Rattle.lists.proofs.Cases.{by-cases}
 use Rattle.lists.proofs.PartsLaws.{length-tab, getD-tab}
-use Rattle.lists.proofs.TestsLaws.{not-true, not-false}
+use Rattle.lists.proofs.TestsLaws.{not-true, not-false, both-left-false, both-right-false}
 use Rattle.entries.specs.Entries.{noRow}
 use Rattle.page.specs.Page.{pageBytes, headBytes, entryBytes, kindFree, kindFirst, kindFurther, used, kind, next, cell, roomOf, count, entryAt, entries}
 use Rattle.page.specs.Layout.{climb, climbs, top, kindFits, laidOut}
@@ -23,17 +23,6 @@ use Rattle.page.specs.declared.Climb.{Climb}
 use Rattle.page.specs.declared.Climb.the-variants.{To, Broken}
 use Rattle.page.specs.declared.Header.{Header}
 use Rattle.page.proofs.LayoutLaws.{climb-none, climb-step, climb-stop}
-
--- ---- two tests
-
-both-no : {a : Bool} (b : Bool) → a ≡ false → both a b ≡ false
-unfolding both
-both-no b e = rw e
-
-both-false : (a : Bool) {b : Bool} → b ≡ false → both a b ≡ false
-unfolding both
-both-false true e = e
-both-false false e = refl
 
 -- ---- top_from
 
@@ -68,10 +57,10 @@ module _ (b : List ℕ) (n low i last : ℕ) (inside : i < n) (so : climb last (
     stop t = sym (climb-stop last (entryAt b i) (drop (suc i) (tab n (entryAt b))) t) ∙ rw open-entry at so
 
     pub climb-low : r ≤ last → Broken ≡ climb low (tab n (entryAt b))
-    climb-low h = let a = radio-is in stop (both-no _ (le-ltb last (entryAt b i .key) (omega arith)))
+    climb-low h = let a = radio-is in stop (both-left-false _ (le-ltb last (entryAt b i .key) (omega arith)))
 
     pub climb-high : maxRadio < r → Broken ≡ climb low (tab n (entryAt b))
-    climb-high h = let a = radio-is in stop (both-false _ (lt-leb (entryAt b i .key) maxRadio (omega arith)))
+    climb-high h = let a = radio-is in stop (both-right-false _ (lt-leb (entryAt b i .key) maxRadio (omega arith)))
 
 pub climb-end : (b : List ℕ) (n low : ℕ) {i last : ℕ} → n ≤ i → climb last (drop i (tab n (entryAt b))) ≡ climb low (tab n (entryAt b)) → To last ≡ climb low (tab n (entryAt b))
 climb-end b n low {i} {last} h so =

@@ -3,146 +3,30 @@ use mathlib.Core.Path.{_≡_, refl, sym, ap, _∙_, subst}
 use mathlib.Core.Bool.{Bool, true, false, not, cond}
 use mathlib.Core.List.{List, [], _∷_, _++_}
 use mathlib.Core.Option.{Option, none, some}
-use Prim.Native.Nat.{ℕ, zero, suc, _+_, _-_, _≤_, _<_}
+use Prim.Native.Nat.{ℕ, suc, _+_, _-_, _≤_, _<_}
 use native.Mathlib.Omega.{arith}
-use lib.Dec.{eqb, leb, ltb}
+use lib.Dec.{eqb, ltb}
 use lib.ListN.{length, drop}
-use borrow.Author.Tests.{ltb-true, ltb-false, leb-true, leb-false, le-leb, lt-leb, eqb-true, eqb-false, ne-eqb, eq-eqb}
+use borrow.Author.Tests.{ltb-true, ltb-false, eqb-true, eqb-false, ne-eqb, eq-eqb}
 use Rattle.terms.specs.Terms.{Place, maxRadio}
-use Rattle.lists.specs.Rows.{Row, Rows, Rising, UpTo, find, putRow, alter, insert, merge, countFound, passed}
-use Rattle.lists.specs.Sums.{sumBy, sumTo, filter, keep}
-use Rattle.lists.specs.Tests.{one-if, both, isSome, orElse, Each}
-use Rattle.lists.proofs.Cases.{by-cases, option-cases}
-use Rattle.lists.proofs.TestsLaws.{not-true, both-left, both-right, both-intro, either-cases, each-map, each-append, each-split}
-use Rattle.lists.proofs.SumsLaws.{sum-append, sum-take-drop, sum-const, sum-ext, sum-add, sum-each, sum-filter, sumTo-ext, sumTo-le, sumTo-add, sumTo-sumBy}
-use Rattle.lists.proofs.RowsLaws.{find-below, rising-alter, find-alter, rising-filter, find-filter, sum-key, sum-zero-find, rising-merge, find-merge, each-find, find-each, sum-rows}
-use Rattle.rules.specs.Grid.{Axis, eastward, northward, along, across, samePlace, Span, within, sameSpan, Rect, spanOf, withSpan, inside}
+use Rattle.lists.specs.Rows.{Row, Rows, Rising, UpTo, find, alter, insert, merge, countFound, passed}
+use Rattle.lists.specs.Sums.{sumBy, sumTo, filter}
+use Rattle.lists.specs.Tests.{one-if, isSome, orElse, Each}
+use Rattle.lists.proofs.Cases.{by-cases, option-cases, none-some, orElse-cases}
+use Rattle.lists.proofs.AmongLaws.{Among}
+use Rattle.lists.proofs.TestsLaws.{not-true, each-map, each-append, each-split, each-for, each-every, each-zip, each-drop, each-filter, one-if-false, one-if-le}
+use Rattle.lists.proofs.SumsLaws.{sum-append, sum-ext, sum-add, sum-each, sumTo-ext, sumTo-le, sumTo-add, sumTo-sumBy, sum-zero-each, sum-drop-le}
+use Rattle.lists.proofs.RowsLaws.{find-below, rising-alter, find-alter, rising-filter, find-filter, sum-key, sum-zero-find, rising-merge, find-merge, each-find, find-each, sum-rows, rising-above, upTo-alter, upTo-merge, length-found, find-alter-other, find-alter-same}
+use Rattle.rules.specs.Grid.{samePlace, Rect, spanOf, inside}
 use Rattle.rules.specs.Store.{Report, Line, Cell}
 use Rattle.rules.specs.Sweep.{isAt, staleBy, stale, lowered, lowerEach, sweptEntries, sweptMemo, swept}
 use Rattle.rules.specs.Cut.{Cut, lowSide, through}
-use Rattle.rules.specs.Flush.{placed, raised, entered, Work, enter, enterEach, lowCell, highCell, touch, beside, hull, joinedEdges}
+use Rattle.rules.specs.Flush.{placed, raised, entered, Work, enter, enterEach, lowCell, highCell, beside, joinedEdges}
 use Rattle.rules.specs.Carry.{wasNew}
 use Rattle.rules.specs.Plain.{putAt}
 use Rattle.rules.specs.WellFormed.{countIf, liveOf, staleIn, InSquare, InSquareIf}
 use Rattle.rules.proofs.Parts.{staleR, missedOf, Rowed, Books, Clean, Signed, marks, onSet}
-
--- ---- lists
-
-module _ {A : Type 0} where
-  -- a fact for every i of each element
-  pub each-for : {I : Type 0} (P : I → A → Type 0) (l : List A) → ((i : I) → Each (P i) l) → Each (λ x. (i : I) → P i x) l
-  each-for P [] h = tt
-  each-for P (x ∷ xs) h = (λ i. h i .0, each-for P xs (λ i. h i .1))
-
-  pub each-every : (P : A → Type 0) (l : List A) → ((x : A) → P x) → Each P l
-  each-every P [] h = tt
-  each-every P (x ∷ xs) h = (h x, each-every P xs h)
-
-  pub each-zip : (P Q R : A → Type 0) (l : List A) → ((x : A) → P x → Q x → R x) → Each P l → Each Q l → Each R l
-  each-zip P Q R [] h e f = tt
-  each-zip P Q R (x ∷ xs) h e f = (h x (e .0) (f .0), each-zip P Q R xs h (e .1) (f .1))
-
-  pub each-drop : (P : A → Type 0) (j : ℕ) (l : List A) → Each P l → Each P (drop j l)
-  each-drop P zero l e = e
-  each-drop P (suc j) [] e = tt
-  each-drop P (suc j) (x ∷ xs) e = each-drop P j xs (e .1)
-
-  each-keep : (P : A → Type 0) (b : Bool) (x : A) (l : List A) → (b ≡ true → P x) → Each P l → Each P (keep b x l)
-  each-keep P true x l h e = (h refl, e)
-  each-keep P false x l h e = e
-
-  -- what passes a filter has the fact and passes
-  pub each-filter : (P Q : A → Type 0) (p : A → Bool) (l : List A) → ((x : A) → P x → p x ≡ true → Q x) → Each P l → Each Q (filter p l)
-  unfolding filter
-  each-filter P Q p [] h e = tt
-  each-filter P Q p (x ∷ xs) h e = each-keep Q (p x) x (filter p xs) (h x (e .0)) (each-filter P Q p xs h (e .1))
-
-  pub sum-zero-each : (f : A → ℕ) (l : List A) → sumBy f l ≡ 0 → Each (λ x. f x ≡ 0) l
-  unfolding sumBy
-  sum-zero-each f [] e = tt
-  sum-zero-each f (x ∷ xs) e = (omega arith, sum-zero-each f xs (omega arith))
-
-  pub sum-drop-le : (f : A → ℕ) (j : ℕ) (l : List A) → sumBy f (drop j l) ≤ sumBy f l
-  sum-drop-le f j l = omega (arith, sum-take-drop f j l)
-
-module _ {Val : Type 0} where
-  pub rising-above : (b : ℕ) (l : Rows Val) → Rising b l → Each (λ x. b < x .key) l
-  rising-above b [] a = tt
-  rising-above b (x ∷ xs) a = (a .0, each-map _ _ xs (λ y h. omega arith) (rising-above (x .key) xs (a .1)))
-
-  upto-putRow : (n r : ℕ) (o : Option Val) (l : Rows Val) → r ≤ n → UpTo n l → UpTo n (putRow r o l)
-  upto-putRow n r none l h u = u
-  upto-putRow n r (some v) l h u = (h, u)
-
-  pub upto-alter : (f : Option Val → Option Val) (n r : ℕ) (l : Rows Val) → r ≤ n → UpTo n l → UpTo n (alter f r l)
-  unfolding alter
-  upto-alter f n r [] h u = upto-putRow n r (f none) [] h tt
-  upto-alter f n r (x ∷ xs) h u =
-      by-cases (eqb r (x .key))
-      (λ e. rw e (upto-putRow n r (f (some (x .val))) xs h (u .1)))
-      (λ e. by-cases (ltb r (x .key))
-      (λ t. rw (e, t) (upto-putRow n r (f none) (x ∷ xs) h u))
-      (λ t. rw (e, t) (u .0, upto-alter f n r xs h (u .1))))
-
-  pub upto-merge : (n : ℕ) (l m : Rows Val) → UpTo n l → UpTo n m → UpTo n (merge l m)
-  unfolding merge
-  upto-merge n [] m u v = v
-  upto-merge n (x ∷ xs) m u v = upto-merge n xs (insert (x .key) (x .val) m) (u .1) (upto-alter (λ _. some (x .val)) n (x .key) m (u .0) v)
-
-pub one-if-false : (b : Bool) → one-if b ≡ 0 → b ≡ false
-one-if-false true e = absurd (omega arith)
-one-if-false false e = refl
-
-pub one-le : (b : Bool) → one-if b ≤ 1
-one-le true = omega arith
-one-le false = omega arith
-
-pub both-swap : (a b : Bool) → both a b ≡ both b a
-unfolding both
-both-swap true true = refl
-both-swap true false = refl
-both-swap false true = refl
-both-swap false false = refl
-
-pub both-true : (a : Bool) → both a true ≡ a
-unfolding both
-both-true true = refl
-both-true false = refl
-
-pub both-false : (a : Bool) → both a false ≡ false
-unfolding both
-both-false true = refl
-both-false false = refl
-
--- one of two parts, and a further test
-pub both-parts : (a b c f : Bool) → one-if a ≡ one-if b + one-if c → one-if (both a f) ≡ one-if (both b f) + one-if (both c f)
-both-parts a b c true h = omega (arith, h, ap one-if (both-true a), ap one-if (both-true b), ap one-if (both-true c))
-both-parts a b c false h = omega (arith, ap one-if (both-false a), ap one-if (both-false b), ap one-if (both-false c))
-
-one-found : {Val : Type 0} (r : ℕ) (x : Option Val) → countFound (λ _ _. 1) r x ≡ one-if (isSome x)
-one-found r none = refl
-one-found r (some v) = refl
-
--- a row for each key at which one is found
-pub length-rows : {Val : Type 0} (n : ℕ) (l : Rows Val) → Rising 0 l → UpTo n l → length l ≡ sumTo (suc n) (λ r. one-if (isSome (find l r)))
-length-rows n l a u =
-    omega (
-      arith,
-      sum-const 1 l,
-      sum-rows (λ _ _. 1) 0 n l a u,
-      sumTo-ext (suc n) (λ r. countFound (λ _ _. 1) r (find l r)) (λ r. one-if (isSome (find l r))) (λ r _. one-found r (find l r)),
-    )
-
--- ---- places
-
-same-refl : (p : Place) → samePlace p p ≡ true
-same-refl p = both-intro (eq-eqb (p .east) (p .east) refl) (eq-eqb (p .north) (p .north) refl)
-
-same-true : (p q : Place) → samePlace p q ≡ true → p ≡ q
-same-true p q e = λ i. record {
-  east = eqb-true (p .east) (q .east) (both-left (eqb (p .east) (q .east)) (eqb (p .north) (q .north)) e) i;
-  north = eqb-true (p .north) (q .north) (both-right (eqb (p .east) (q .east)) (eqb (p .north) (q .north)) e) i;
-}
+use Rattle.rules.proofs.PlaceLaws.{samePlace-refl, samePlace-true, inside-cut, inside-low, inside-high, inside-joined-left, inside-joined-right, inside-joined-le}
 
 -- ---- one radio's entries: those that its line tells to be stale, the live ones, all
 
@@ -166,7 +50,7 @@ live-stale o r cells = sym (sum-add (liveC o r) (staleC o r) cells) ∙ sum-ext 
 judged-by : {o u : Option Line} (p : Place) → u ≡ o → staleBy u p ≡ staleBy o p
 judged-by p e = ap (λ o. staleBy o p) e
 
-count-passed : (t : Place → Bool) (u : Row Place → Bool) (r : ℕ) (x : Option Place) → countIf t (passed u r x) + countIf t (passed (λ e. not (u e)) r x) ≡ countIf t x
+pub count-passed : (t : Place → Bool) (u : Row Place → Bool) (r : ℕ) (x : Option Place) → countIf t (passed u r x) + countIf t (passed (λ e. not (u e)) r x) ≡ countIf t x
 count-passed t u r none = refl
 count-passed t u r (some p) = by-cases (u (record { key = r; val = p })) (λ e. rw e (omega arith)) (λ e. rw e (omega arith))
 
@@ -230,6 +114,10 @@ unfolding sumBy
 books-front xs d ys b =
     let e = each-split Rowed xs (d ∷ ys) (b .cells-rowed) in
     books-order (e .1 .0, each-append Rowed xs ys (e .0) (e .1 .1)) (λ f. omega (arith, sum-append f xs (d ∷ ys), sum-append f xs ys)) b
+
+-- a cell that stands among them comes first
+pub books-among : {cells : List Cell} {d : Cell} {memo : Rows Line} {new on : ℕ → Bool} (a : Among cells d) → Books cells memo new on → Books (d ∷ (a .before ++ a .after)) memo new on
+books-among {d = d} {memo} {new} {on} a b = books-front (a .before) d (a .after) (subst (λ (l : List Cell). Books l memo new on) (a .split) b)
 
 pub books-append : {memo : Rows Line} {new on : ℕ → Bool} (xs ys : List Cell) → Books (xs ++ ys) memo new on → Books (ys ++ xs) memo new on
 books-append xs ys b =
@@ -296,11 +184,11 @@ judged-stale memo memo′ c k h =
 -- ---- sweep
 
 -- a line is lowered where an entry goes
-abbrev lowIf : Option Place → Option Line → Option Line
-lowIf none o = o
-lowIf (some p) o = lowered o
+abbrev pub loweredIf : Option Place → Option Line → Option Line
+loweredIf none o = o
+loweredIf (some p) o = lowered o
 
-find-lowerEach : (r b : ℕ) (es : Rows Place) (memo : Rows Line) → Rising b es → Rising 0 memo → find (lowerEach es memo) r ≡ lowIf (find es r) (find memo r)
+find-lowerEach : (r b : ℕ) (es : Rows Place) (memo : Rows Line) → Rising b es → Rising 0 memo → find (lowerEach es memo) r ≡ loweredIf (find es r) (find memo r)
 unfolding lowerEach find
 find-lowerEach r b [] memo a m = refl
 find-lowerEach r b (e ∷ es) memo a m =
@@ -315,18 +203,18 @@ unfolding lowerEach
 rising-lowerEach b [] memo a m = m
 rising-lowerEach b (e ∷ es) memo a m = rising-lowerEach (e .key) es (alter lowered (e .key) memo) (a .1) (rising-alter lowered 0 (e .key) memo (omega arith) m)
 
-upto-lowerEach : (n : ℕ) (es : Rows Place) (memo : Rows Line) → UpTo n es → UpTo n memo → UpTo n (lowerEach es memo)
+upTo-lowerEach : (n : ℕ) (es : Rows Place) (memo : Rows Line) → UpTo n es → UpTo n memo → UpTo n (lowerEach es memo)
 unfolding lowerEach
-upto-lowerEach n [] memo u v = v
-upto-lowerEach n (e ∷ es) memo u v = upto-lowerEach n es (alter lowered (e .key) memo) (u .1) (upto-alter lowered n (e .key) memo (u .0) v)
+upTo-lowerEach n [] memo u v = v
+upTo-lowerEach n (e ∷ es) memo u v = upTo-lowerEach n es (alter lowered (e .key) memo) (u .1) (upTo-alter lowered n (e .key) memo (u .0) v)
 
 lowered-line : (o : Option Line) (l : Line) → ((m : Line) → o ≡ some m → InSquareIf (m .last)) → lowered o ≡ some l → (1 ≤ l .missed) × InSquareIf (l .last)
-lowered-line none l h = λ e. let z : _≡_ {A = ℕ} 0 1 = cc in absurd (omega arith)
+lowered-line none l h = none-some
 lowered-line (some m) l h =
     by-cases (ltb 1 (m .missed))
     (λ t. rw t (λ e. let q : _≡_ {A = Line} (record { missed = m .missed - 1; last = m .last }) l = cc in
     (let a = ap (λ (x : Line). x .missed) q in omega (arith, ltb-true), subst (λ (x : Line). InSquareIf (x .last)) q (h m refl))))
-    (λ t. rw t (λ e. let z : _≡_ {A = ℕ} 0 1 = cc in absurd (omega arith)))
+    (λ t. rw t none-some)
 
 lowered-missed : (o : Option Line) → 1 ≤ missedOf o → missedOf (lowered o) + 1 ≡ missedOf o
 lowered-missed none = λ h. absurd (omega arith)
@@ -337,12 +225,12 @@ lowered-judges : (o : Option Line) (p : Place) → (missedOf o ≤ 1 → staleBy
 lowered-judges none p h = refl
 lowered-judges (some l) p h = by-cases (ltb 1 (l .missed)) (λ t. rw t) (λ t. rw t (sym (h (omega (arith, ltb-false)))))
 
-find-sweptMemo : (memo : Rows Line) (es : Rows Place) → Rising 0 memo → Rising 0 es → (r : ℕ) → find (sweptMemo memo es) r ≡ lowIf (passed (stale memo) r (find es r)) (find memo r)
+pub find-sweptMemo : (memo : Rows Line) (es : Rows Place) → Rising 0 memo → Rising 0 es → (r : ℕ) → find (sweptMemo memo es) r ≡ loweredIf (passed (stale memo) r (find es r)) (find memo r)
 unfolding sweptMemo
 find-sweptMemo memo es m a r =
-    find-lowerEach r 0 (filter (stale memo) es) memo (rising-filter (stale memo) 0 es a) m ∙ ap (λ o. lowIf o (find memo r)) (find-filter (stale memo) 0 r es a)
+    find-lowerEach r 0 (filter (stale memo) es) memo (rising-filter (stale memo) 0 es a) m ∙ ap (λ o. loweredIf o (find memo r)) (find-filter (stale memo) 0 r es a)
 
-find-swept : (memo : Rows Line) (d : Cell) → Rising 0 (d .entries) → (r : ℕ) → find (swept memo d .entries) r ≡ passed (λ e. not (stale memo e)) r (find (d .entries) r)
+pub find-swept : (memo : Rows Line) (d : Cell) → Rising 0 (d .entries) → (r : ℕ) → find (swept memo d .entries) r ≡ passed (λ e. not (stale memo e)) r (find (d .entries) r)
 unfolding swept sweptEntries
 find-swept memo d a r = find-filter (λ e. not (stale memo e)) 0 r (d .entries) a
 
@@ -454,7 +342,7 @@ module _ {memo : Rows Line} {new on : ℕ → Bool} (d : Cell) (rest : List Cell
 
   swept-radios : UpTo maxRadio (sweptMemo memo (d .entries))
   unfolding sweptMemo
-  swept-radios = upto-lowerEach maxRadio (filter (stale memo) (d .entries)) memo (each-filter _ _ (stale memo) (d .entries) (λ x h _. h) (b .cells-rowed .0 .radios)) (b .memo-radios)
+  swept-radios = upTo-lowerEach maxRadio (filter (stale memo) (d .entries)) memo (each-filter _ _ (stale memo) (d .entries) (λ x h _. h) (b .cells-rowed .0 .radios)) (b .memo-radios)
 
   pub books-sweep : Books (swept memo d ∷ rest) (sweptMemo memo (d .entries)) new on
   books-sweep = books-from (rowed-swept memo d (b .cells-rowed .0), b .cells-rowed .1) swept-apart swept-rises swept-radios swept-lines swept-book
@@ -473,7 +361,7 @@ module _ {memo : Rows Line} {new on : ℕ → Bool} (d : Cell) (rest : List Cell
 
 -- ---- one memo line changes
 
-found-stale : (memo : Rows Line) (r : ℕ) (x : Option Place) → countFound (λ q p. one-if (staleBy (find memo q) p)) r x ≡ countIf (staleBy (find memo r)) x
+pub found-stale : (memo : Rows Line) (r : ℕ) (x : Option Place) → countFound (λ q p. one-if (staleBy (find memo q) p)) r x ≡ countIf (staleBy (find memo r)) x
 found-stale memo r none = refl
 found-stale memo r (some p) = refl
 
@@ -507,24 +395,18 @@ stale-grows memo memo′ r cells k h j =
       sum-drop-le (liveC (find memo r) r) j cells,
     )
 
-other-line : (f : Option Line → Option Line) (r : ℕ) (memo : Rows Line) → 0 < r → Rising 0 memo → (q : ℕ) → (q ≡ r → ⊥) → find (alter f r memo) q ≡ find memo q
-other-line f r memo pos m q n = rw (find-alter f 0 r q memo pos m, ne-eqb q r n)
-
-same-line : (f : Option Line → Option Line) (r : ℕ) (memo : Rows Line) → 0 < r → Rising 0 memo → find (alter f r memo) r ≡ f (find memo r)
-same-line f r memo pos m = rw (find-alter f 0 r r memo pos m, eq-eqb r r refl)
-
 -- lines of a memo that changes at one radio
 altered-lines : (f : Option Line → Option Line) (r : ℕ) (memo : Rows Line) → 0 < r → Rising 0 memo → ((q : ℕ) (l : Line) → find memo q ≡ some l → (1 ≤ l .missed) × InSquareIf (l .last))
     → ((l : Line) → f (find memo r) ≡ some l → (1 ≤ l .missed) × InSquareIf (l .last)) → (q : ℕ) (l : Line) → find (alter f r memo) q ≡ some l → (1 ≤ l .missed) × InSquareIf (l .last)
 altered-lines f r memo pos m lines at q l e =
     by-cases (eqb q r)
-    (λ t. at l (sym (same-line f r memo pos m) ∙ ap (find (alter f r memo)) (sym (eqb-true q r t)) ∙ e))
-    (λ t. lines q l (sym (other-line f r memo pos m q (eqb-false q r t)) ∙ e))
+    (λ t. at l (sym (find-alter-same f 0 r memo pos m) ∙ ap (find (alter f r memo)) (sym (eqb-true q r t)) ∙ e))
+    (λ t. lines q l (sym (find-alter-other f 0 r memo pos m q (eqb-false q r t)) ∙ e))
 
 -- ---- a report is entered
 
 placed-line : (p : Option Place) (o : Option Line) (l : Line) → InSquareIf p → ((m : Line) → o ≡ some m → 1 ≤ m .missed) → placed p o ≡ some l → (1 ≤ l .missed) × InSquareIf (l .last)
-placed-line p none l s h = λ e. let z : _≡_ {A = ℕ} 0 1 = cc in absurd (omega arith)
+placed-line p none l s h = none-some
 placed-line p (some m) l s h = λ e. let q : _≡_ {A = Line} (record { missed = m .missed; last = p }) l = cc in
     subst (λ (x : Line). (1 ≤ x .missed) × InSquareIf (x .last)) q (h m refl, s)
 
@@ -575,13 +457,13 @@ entered-at false false p o = raised-at p o
 -- at that place nothing is stale
 at-live : (p : Place) (o : Option Line) → At p o → staleBy o p ≡ false
 at-live p none h = refl
-at-live p (some l) h = ap (λ q. not (isAt q p)) h ∙ ap not (same-refl p)
+at-live p (some l) h = ap (λ q. not (isAt q p)) h ∙ ap not (samePlace-refl p)
 
 -- no entry of a cell is at a place outside it
-away : (c : Cell) (p : Place) → Rowed c → inside (c .edges) p ≡ false → (r : ℕ) (v : Place) → find (c .entries) r ≡ some v → samePlace p v ≡ false
+pub away : (c : Cell) (p : Place) → Rowed c → inside (c .edges) p ≡ false → (r : ℕ) (v : Place) → find (c .entries) r ≡ some v → samePlace p v ≡ false
 away c p k h r v e =
     by-cases (samePlace p v)
-    (λ t. let z = ap (inside (c .edges)) (same-true p v t) in let y = each-find (λ _ v. inside (c .edges) v ≡ true) r v (c .entries) (k .placed) e in cc)
+    (λ t. let z = ap (inside (c .edges)) (samePlace-true p v t) in let y = each-find (λ _ v. inside (c .edges) v ≡ true) r v (c .entries) (k .placed) e in cc)
     (λ t. t)
 
 -- so all entries outside are stale by a line with the place
@@ -621,10 +503,10 @@ module _ {memo : Rows Line} {new on : ℕ → Bool} (d : Cell) (rest : List Cell
       (λ t. g t (sym (entry-other q t) ∙ e))
 
   memo-same : find (alter lineThen r memo) r ≡ lineNow
-  memo-same = same-line lineThen r memo pos (b .memo-rises)
+  memo-same = find-alter-same lineThen 0 r memo pos (b .memo-rises)
 
   memo-other : (q : ℕ) → (q ≡ r → ⊥) → find (alter lineThen r memo) q ≡ find memo q
-  memo-other = other-line lineThen r memo pos (b .memo-rises)
+  memo-other = find-alter-other lineThen 0 r memo pos (b .memo-rises)
 
   outside : Each (λ c. inside (c .edges) p ≡ false) rest
   unfolding sumBy
@@ -676,7 +558,7 @@ module _ {memo : Rows Line} {new on : ℕ → Bool} (d : Cell) (rest : List Cell
       let k = b .cells-rowed .0 in
       record {
         rising = rising-alter (λ _. some p) 0 r (d .entries) pos (k .rising);
-        radios = upto-alter (λ _. some p) maxRadio r (d .entries) top (k .radios);
+        radios = upTo-alter (λ _. some p) maxRadio r (d .entries) top (k .radios);
         placed = find-each (λ _ v. inside (d .edges) v ≡ true) 0 entriesThen (rising-alter (λ _. some p) 0 r (d .entries) pos (k .rising)) (λ q v e. entry-cases q v e
             (λ _ z. rw (← z) here)
             (λ _ f. each-find (λ _ v. inside (d .edges) v ≡ true) q v (d .entries) (k .placed) f));
@@ -685,7 +567,7 @@ module _ {memo : Rows Line} {new on : ℕ → Bool} (d : Cell) (rest : List Cell
   entered-books : Books (withEntries entriesThen d ∷ rest) (alter lineThen r memo) (putAt r false new) on
   unfolding sumBy
   entered-books =
-      books-from (entered-rowed, b .cells-rowed .1) (λ v. b .apart v) (rising-alter lineThen 0 r memo pos (b .memo-rises)) (upto-alter lineThen maxRadio r memo top (b .memo-radios))
+      books-from (entered-rowed, b .cells-rowed .1) (λ v. b .apart v) (rising-alter lineThen 0 r memo pos (b .memo-rises)) (upTo-alter lineThen maxRadio r memo top (b .memo-radios))
       (altered-lines lineThen r memo pos (b .memo-rises) (b .lines)
       (λ l e. entered-line (isSome (find (d .entries) r)) n p (find memo r) l square (λ m f. b .lines r m f .0) e))
       entered-books-at
@@ -816,11 +698,11 @@ module _ {cells : List Cell} {memo : Rows Line} {new on : ℕ → Bool} (r : ℕ
 
   off-unmarked : new r ≡ false → Books cells (alter (raised none) r memo) (putAt r false new) (putAt r false on)
   off-unmarked u =
-      books-from (b .cells-rowed) (b .apart) (rising-alter (raised none) 0 r memo pos (b .memo-rises)) (upto-alter (raised none) maxRadio r memo top (b .memo-radios))
+      books-from (b .cells-rowed) (b .apart) (rising-alter (raised none) 0 r memo pos (b .memo-rises)) (upTo-alter (raised none) maxRadio r memo top (b .memo-radios))
       (altered-lines (raised none) r memo pos (b .memo-rises) (b .lines) (λ l e. raised-line none (find memo r) l tt e))
       (λ q. by-cases (eqb q r)
-      (λ t. rw (t, eqb-true q r t, same-line (raised none) r memo pos (b .memo-rises)) (off-book u))
-      (λ t. rw (t, other-line (raised none) r memo pos (b .memo-rises) q (eqb-false q r t)) (book-of b q)))
+      (λ t. rw (t, eqb-true q r t, find-alter-same (raised none) 0 r memo pos (b .memo-rises)) (off-book u))
+      (λ t. rw (t, find-alter-other (raised none) 0 r memo pos (b .memo-rises) q (eqb-false q r t)) (book-of b q)))
 
   pub books-off : Books cells (cond (new r) memo (alter (raised none) r memo)) (putAt r false new) (putAt r false on)
   books-off = by-cases (new r) (λ u. rw u (off-marked u)) (λ u. rw u (off-unmarked u))
@@ -829,85 +711,17 @@ module _ {cells : List Cell} {memo : Rows Line} {new on : ℕ → Bool} (r : ℕ
   stale-off j =
       by-cases (new r)
       (λ u. rw u (omega arith))
-      (λ u. rw u (omega (arith, stale-grows memo (alter (raised none) r memo) r cells (b .cells-rowed) (other-line (raised none) r memo pos (b .memo-rises)) j, book-of b r .present, ap one-if is-on)))
+      (λ u. rw u (omega (arith, stale-grows memo (alter (raised none) r memo) r cells (b .cells-rowed) (find-alter-other (raised none) 0 r memo pos (b .memo-rises)) j, book-of b r .present, ap one-if is-on)))
 
 -- ---- split
 
--- a rectangle holds a place, by the two directions
-inside-along : (a : Axis) (e : Rect) (p : Place) → inside e p ≡ both (within (spanOf a e) (along a p)) (within (spanOf (across a) e) (along (across a) p))
-inside-along eastward e p = refl
-inside-along northward e p = both-swap (within (e .easts) (p .east)) (within (e .norths) (p .north))
-
-inside-withSpan : (a : Axis) (s : Span) (e : Rect) (p : Place) → inside (withSpan a s e) p ≡ both (within s (along a p)) (within (spanOf (across a) e) (along (across a) p))
-inside-withSpan eastward s e p = refl
-inside-withSpan northward s e p = both-swap (within (e .easts) (p .east)) (within s (p .north))
-
-abbrev lowSpan : ℕ → Span → Span
-lowSpan c s = record { low = s .low; high = c - 1 }
-
-abbrev highSpan : ℕ → Span → Span
-highSpan c s = record { low = c; high = s .high }
-
-within-bounds : (s : Span) (x : ℕ) → within s x ≡ true → (s .low ≤ x) × (x ≤ s .high)
-within-bounds s x h = (leb-true (s .low) x (both-left (leb (s .low) x) (leb x (s .high)) h), leb-true x (s .high) (both-right (leb (s .low) x) (leb x (s .high)) h))
-
-bounds-within : (s : Span) (x : ℕ) → s .low ≤ x → x ≤ s .high → within s x ≡ true
-bounds-within s x h k = both-intro (le-leb (s .low) x h) (le-leb x (s .high) k)
-
-span-cut : (s : Span) (c x : ℕ) → s .low < c → c ≤ s .high → one-if (within s x) ≡ one-if (within (lowSpan c s) x) + one-if (within (highSpan c s) x)
-unfolding both
-span-cut s c x h k =
-    by-cases (leb c x)
-    (λ e. let g = leb-true c x e in rw (e, le-leb (s .low) x (omega arith), lt-leb x (c - 1) (omega arith)) (omega arith))
-    (λ e. let g = leb-false c x e in rw (e, le-leb x (c - 1) (omega arith), le-leb x (s .high) (omega arith)) (omega arith))
-
 module _ (c : Cut) (n : ℕ) (d : Cell) (cuts : through (spanOf (c .axis) (d .edges)) (c .at) ≡ true) where
-  -- each place of the cell lies in one of the two
-  pub inside-cut : (p : Place) → one-if (inside (d .edges) p) ≡ one-if (inside (lowCell c d .edges) p) + one-if (inside (highCell c n d .edges) p)
-  unfolding lowCell highCell
-  inside-cut p =
-      let s = spanOf (c .axis) (d .edges) in
-      let x = along (c .axis) p in
-      let f = within (spanOf (across (c .axis)) (d .edges)) (along (across (c .axis)) p) in
-      let h : s .low < c .at = ltb-true (s .low) (c .at) (both-left (ltb (s .low) (c .at)) (leb (c .at) (s .high)) cuts) in
-      let k : c .at ≤ s .high = leb-true (c .at) (s .high) (both-right (ltb (s .low) (c .at)) (leb (c .at) (s .high)) cuts) in
-      omega (
-        arith,
-        both-parts (within s x) (within (lowSpan (c .at) s) x) (within (highSpan (c .at) s) x) f (span-cut s (c .at) x h k),
-        ap one-if (inside-along (c .axis) (d .edges) p),
-        ap one-if (inside-withSpan (c .axis) (lowSpan (c .at) s) (d .edges) p),
-        ap one-if (inside-withSpan (c .axis) (highSpan (c .at) s) (d .edges) p),
-      )
-
-  -- a place of the cell lies on its side of the cut
-  inside-low : (p : Place) → inside (d .edges) p ≡ true → ltb (along (c .axis) p) (c .at) ≡ true → inside (lowCell c d .edges) p ≡ true
-  unfolding lowCell
-  inside-low p h t =
-      let s = spanOf (c .axis) (d .edges) in
-      let x = along (c .axis) p in
-      let f = within (spanOf (across (c .axis)) (d .edges)) (along (across (c .axis)) p) in
-      let i = sym (inside-along (c .axis) (d .edges) p) ∙ h in
-      let w = within-bounds s x (both-left (within s x) f i) in
-      inside-withSpan (c .axis) (lowSpan (c .at) s) (d .edges) p
-      ∙ both-intro (bounds-within (lowSpan (c .at) s) x (w .0) (omega (arith, ltb-true x (c .at) t))) (both-right (within s x) f i)
-
-  inside-high : (p : Place) → inside (d .edges) p ≡ true → ltb (along (c .axis) p) (c .at) ≡ false → inside (highCell c n d .edges) p ≡ true
-  unfolding highCell
-  inside-high p h t =
-      let s = spanOf (c .axis) (d .edges) in
-      let x = along (c .axis) p in
-      let f = within (spanOf (across (c .axis)) (d .edges)) (along (across (c .axis)) p) in
-      let i = sym (inside-along (c .axis) (d .edges) p) ∙ h in
-      let w = within-bounds s x (both-left (within s x) f i) in
-      inside-withSpan (c .axis) (highSpan (c .at) s) (d .edges) p
-      ∙ both-intro (bounds-within (highSpan (c .at) s) x (omega (arith, ltb-false x (c .at) t)) (w .1)) (both-right (within s x) f i)
-
   rowed-low : Rowed d → Rowed (lowCell c d)
   unfolding lowCell
   rowed-low k = record {
     rising = rising-filter (lowSide c) 0 (d .entries) (k .rising);
     radios = each-filter _ _ (lowSide c) (d .entries) (λ x h _. h) (k .radios);
-    placed = each-filter _ _ (lowSide c) (d .entries) (λ x h t. inside-low (x .val) h t) (k .placed);
+    placed = each-filter _ _ (lowSide c) (d .entries) (λ x h t. inside-low c (d .edges) (x .val) h t) (k .placed);
   }
 
   rowed-high : Rowed d → Rowed (highCell c n d)
@@ -915,7 +729,7 @@ module _ (c : Cut) (n : ℕ) (d : Cell) (cuts : through (spanOf (c .axis) (d .ed
   rowed-high k = record {
     rising = rising-filter (λ e. not (lowSide c e)) 0 (d .entries) (k .rising);
     radios = each-filter _ _ (λ e. not (lowSide c e)) (d .entries) (λ x h _. h) (k .radios);
-    placed = each-filter _ _ (λ e. not (lowSide c e)) (d .entries) (λ x h t. inside-high (x .val) h (not-true (lowSide c x) t)) (k .placed);
+    placed = each-filter _ _ (λ e. not (lowSide c e)) (d .entries) (λ x h t. inside-high c (d .edges) (x .val) h (not-true (lowSide c x) t)) (k .placed);
   }
 
   count-cut : (t : Place → Bool) (r : ℕ) → Rising 0 (d .entries) → countIf t (find (lowCell c d .entries) r) + countIf t (find (highCell c n d .entries) r) ≡ countIf t (find (d .entries) r)
@@ -929,76 +743,16 @@ module _ (c : Cut) (n : ℕ) (d : Cell) (cuts : through (spanOf (c .axis) (d .ed
       )
 
   pub books-split : {memo : Rows Line} {new on : ℕ → Bool} (rest : List Cell) → Books (d ∷ rest) memo new on → Books (lowCell c d ∷ highCell c n d ∷ rest) memo new on
-  unfolding sumBy
+  unfolding sumBy lowCell highCell
   books-split {memo} rest b =
       let k = b .cells-rowed .0 in
-      books-from (rowed-low k, (rowed-high k, b .cells-rowed .1)) (λ p. omega (arith, b .apart p, inside-cut p)) (b .memo-rises) (b .memo-radios) (b .lines)
+      books-from (rowed-low k, (rowed-high k, b .cells-rowed .1)) (λ p. omega (arith, b .apart p, inside-cut c (d .edges) p cuts)) (b .memo-rises) (b .memo-radios) (b .lines)
       (λ r. record {
         counted = omega (arith, book-of b r .counted, count-cut (staleBy (find memo r)) r (k .rising));
         present = omega (arith, book-of b r .present, count-cut (λ p. not (staleBy (find memo r) p)) r (k .rising));
       })
 
--- no stale entry comes or goes
-pub stale-split : (c : Cut) (n : ℕ) (d : Cell) (memo : Rows Line) → staleIn memo (lowCell c d) + staleIn memo (highCell c n d) ≡ staleIn memo d
-unfolding staleIn lowCell highCell
-stale-split c n d memo = sum-filter (λ e. one-if (stale memo e)) (lowSide c) (d .entries)
-
 -- ---- join
-
-hull-left : (s t : Span) (x : ℕ) → within s x ≡ true → within (hull s t) x ≡ true
-hull-left s t x h = let w = within-bounds s x h in bounds-within (hull s t) x (omega arith) (omega arith)
-
-hull-right : (s t : Span) (x : ℕ) → within t x ≡ true → within (hull s t) x ≡ true
-hull-right s t x h = let w = within-bounds t x h in bounds-within (hull s t) x (omega arith) (omega arith)
-
--- spans without a gap hold what lies from end to end
-hull-touch : {P : Type 0} (s t : Span) (x : ℕ) → touch s t ≡ true → within (hull s t) x ≡ true → (within s x ≡ true → P) → (within t x ≡ true → P) → P
-hull-touch s t x h i f g =
-    let w = within-bounds (hull s t) x i in
-    either-cases (eqb (s .high + 1) (t .low)) (eqb (t .high + 1) (s .low)) h
-    (λ e. let z = eqb-true (s .high + 1) (t .low) e in by-cases (leb x (s .high))
-    (λ u. let y = leb-true x (s .high) u in f (bounds-within s x (omega arith) (omega arith)))
-    (λ u. let y = leb-false x (s .high) u in g (bounds-within t x (omega arith) (omega arith))))
-    (λ e. let z = eqb-true (t .high + 1) (s .low) e in by-cases (leb x (t .high))
-    (λ u. let y = leb-true x (t .high) u in g (bounds-within t x (omega arith) (omega arith)))
-    (λ u. let y = leb-false x (t .high) u in f (bounds-within s x (omega arith) (omega arith))))
-
-hull-same : (s t : Span) (x : ℕ) → sameSpan s t ≡ true → within (hull s t) x ≡ true → (within s x ≡ true) × (within t x ≡ true)
-hull-same s t x h i =
-    let w = within-bounds (hull s t) x i in
-    let l = eqb-true (s .low) (t .low) (both-left (eqb (s .low) (t .low)) (eqb (s .high) (t .high)) h) in
-    let u = eqb-true (s .high) (t .high) (both-right (eqb (s .low) (t .low)) (eqb (s .high) (t .high)) h) in
-    (bounds-within s x (omega arith) (omega arith), bounds-within t x (omega arith) (omega arith))
-
-inside-parts : (e : Rect) (p : Place) → inside e p ≡ true → (within (e .easts) (p .east) ≡ true) × (within (e .norths) (p .north) ≡ true)
-inside-parts e p h = (both-left (within (e .easts) (p .east)) (within (e .norths) (p .north)) h, both-right (within (e .easts) (p .east)) (within (e .norths) (p .north)) h)
-
-inside-joined-left : (a n : Rect) (p : Place) → inside a p ≡ true → inside (joinedEdges a n) p ≡ true
-inside-joined-left a n p h = let i = inside-parts a p h in both-intro (hull-left (a .easts) (n .easts) (p .east) (i .0)) (hull-left (a .norths) (n .norths) (p .north) (i .1))
-
-inside-joined-right : (a n : Rect) (p : Place) → inside n p ≡ true → inside (joinedEdges a n) p ≡ true
-inside-joined-right a n p h = let i = inside-parts n p h in both-intro (hull-right (a .easts) (n .easts) (p .east) (i .0)) (hull-right (a .norths) (n .norths) (p .north) (i .1))
-
--- a place of the two together lies in one of them
-inside-joined : {P : Type 0} (a n : Rect) (p : Place) → beside a n ≡ true → inside (joinedEdges a n) p ≡ true → (inside a p ≡ true → P) → (inside n p ≡ true → P) → P
-unfolding beside
-inside-joined a n p h i f g =
-    let j = inside-parts (joinedEdges a n) p i in
-    let te = touch (a .easts) (n .easts) in
-    let sn = sameSpan (a .norths) (n .norths) in
-    let tn = touch (a .norths) (n .norths) in
-    let se = sameSpan (a .easts) (n .easts) in
-    either-cases (both te sn) (both tn se) h
-    (λ t. let y = hull-same (a .norths) (n .norths) (p .north) (both-right te sn t) (j .1) in
-    hull-touch (a .easts) (n .easts) (p .east) (both-left te sn t) (j .0) (λ x. f (both-intro x (y .0))) (λ x. g (both-intro x (y .1))))
-    (λ t. let y = hull-same (a .easts) (n .easts) (p .east) (both-right tn se t) (j .0) in
-    hull-touch (a .norths) (n .norths) (p .north) (both-left tn se t) (j .1) (λ x. f (both-intro (y .0) x)) (λ x. g (both-intro (y .1) x)))
-
-pub inside-joined-le : (a n : Rect) (p : Place) → beside a n ≡ true → one-if (inside (joinedEdges a n) p) ≤ one-if (inside a p) + one-if (inside n p)
-inside-joined-le a n p h =
-    by-cases (inside (joinedEdges a n) p)
-    (λ t. inside-joined a n p h t (λ x. omega (arith, ap one-if t, ap one-if x)) (λ x. omega (arith, ap one-if t, ap one-if x)))
-    (λ t. omega (arith, ap one-if t))
 
 -- two cells made one
 abbrev pub joinedCell : ℕ → List ℕ → Cell → Cell → Cell
@@ -1009,12 +763,7 @@ count-orElse t none y h = omega arith
 count-orElse t (some p) none h = omega arith
 count-orElse t (some p) (some q) h = absurd (omega arith)
 
-found-orElse : {P : Type 0} (x y : Option Place) (v : Place) → orElse x y ≡ some v → (x ≡ some v → P) → (y ≡ some v → P) → P
-found-orElse none y v e f g = g e
-found-orElse (some p) y v e f g = f e
-
-module _ {memo : Rows Line} {new on : ℕ → Bool} (k : ℕ) (chain : List ℕ) (d n : Cell) (rest : List Cell) (b : Books (d ∷ n ∷ rest) memo new on)
-    (clean-d : Clean memo d) (clean-n : Clean memo n) (adjoin : beside (d .edges) (n .edges) ≡ true) where
+module _ {memo : Rows Line} {new on : ℕ → Bool} (d n : Cell) (rest : List Cell) (b : Books (d ∷ n ∷ rest) memo new on) (clean-d : Clean memo d) (clean-n : Clean memo n) where
   find-joined : (r : ℕ) → find (merge (n .entries) (d .entries)) r ≡ orElse (find (n .entries) r) (find (d .entries) r)
   find-joined r = find-merge 0 r (n .entries) (d .entries) (b .cells-rowed .1 .0 .rising) (b .cells-rowed .0 .rising)
 
@@ -1025,39 +774,40 @@ module _ {memo : Rows Line} {new on : ℕ → Bool} (k : ℕ) (chain : List ℕ)
       let o = find memo r in
       let c = clean-count memo d (b .cells-rowed .0) clean-d r in
       let e = clean-count memo n (b .cells-rowed .1 .0) clean-n r in
-      omega (arith, book-of b r .present, one-le (on r), count-split (staleBy o) (find (d .entries) r), count-split (staleBy o) (find (n .entries) r))
+      omega (arith, book-of b r .present, one-if-le (on r), count-split (staleBy o) (find (d .entries) r), count-split (staleBy o) (find (n .entries) r))
 
-  count-joined : (t : Place → Bool) (r : ℕ) → countIf t (find (merge (n .entries) (d .entries)) r) ≡ countIf t (find (n .entries) r) + countIf t (find (d .entries) r)
+  pub count-joined : (t : Place → Bool) (r : ℕ) → countIf t (find (merge (n .entries) (d .entries)) r) ≡ countIf t (find (n .entries) r) + countIf t (find (d .entries) r)
   count-joined t r = ap (countIf t) (find-joined r) ∙ count-orElse t (find (n .entries) r) (find (d .entries) r) (one-held r)
 
-  rowed-joined : Rowed (joinedCell k chain d n)
-  rowed-joined =
-      let x = b .cells-rowed .0 in
-      let y = b .cells-rowed .1 .0 in
-      let rises = rising-merge 0 (n .entries) (d .entries) (y .rising) (x .rising) in
-      record {
-        rising = rises;
-        radios = upto-merge maxRadio (n .entries) (d .entries) (y .radios) (x .radios);
-        placed = find-each (λ _ p. inside (joinedEdges (d .edges) (n .edges)) p ≡ true) 0 (merge (n .entries) (d .entries)) rises
-            (λ r p e. found-orElse (find (n .entries) r) (find (d .entries) r) p (sym (find-joined r) ∙ e)
-            (λ f. inside-joined-right (d .edges) (n .edges) p (each-find (λ _ p. inside (n .edges) p ≡ true) r p (n .entries) (y .placed) f))
-            (λ f. inside-joined-left (d .edges) (n .edges) p (each-find (λ _ p. inside (d .edges) p ≡ true) r p (d .entries) (x .placed) f)));
-      }
+  module _ (k : ℕ) (chain : List ℕ) (adjoin : beside (d .edges) (n .edges) ≡ true) where
+    rowed-joined : Rowed (joinedCell k chain d n)
+    rowed-joined =
+        let x = b .cells-rowed .0 in
+        let y = b .cells-rowed .1 .0 in
+        let rises = rising-merge 0 (n .entries) (d .entries) (y .rising) (x .rising) in
+        record {
+          rising = rises;
+          radios = upTo-merge maxRadio (n .entries) (d .entries) (y .radios) (x .radios);
+          placed = find-each (λ _ p. inside (joinedEdges (d .edges) (n .edges)) p ≡ true) 0 (merge (n .entries) (d .entries)) rises
+              (λ r p e. orElse-cases (find (n .entries) r) (find (d .entries) r) p (sym (find-joined r) ∙ e)
+              (λ f. inside-joined-right (d .edges) (n .edges) p (each-find (λ _ p. inside (n .edges) p ≡ true) r p (n .entries) (y .placed) f))
+              (λ f. inside-joined-left (d .edges) (n .edges) p (each-find (λ _ p. inside (d .edges) p ≡ true) r p (d .entries) (x .placed) f)));
+        }
 
-  pub books-join : Books (joinedCell k chain d n ∷ rest) memo new on
-  unfolding sumBy
-  books-join =
-      books-from (rowed-joined, b .cells-rowed .1 .1) (λ p. omega (arith, b .apart p, inside-joined-le (d .edges) (n .edges) p adjoin)) (b .memo-rises) (b .memo-radios) (b .lines)
-      (λ r. record {
-        counted = omega (arith, book-of b r .counted, count-joined (staleBy (find memo r)) r);
-        present = omega (arith, book-of b r .present, count-joined (λ p. not (staleBy (find memo r) p)) r);
-      })
+    pub books-join : Books (joinedCell k chain d n ∷ rest) memo new on
+    unfolding sumBy
+    books-join =
+        books-from (rowed-joined, b .cells-rowed .1 .1) (λ p. omega (arith, b .apart p, inside-joined-le (d .edges) (n .edges) p adjoin)) (b .memo-rises) (b .memo-radios) (b .lines)
+        (λ r. record {
+          counted = omega (arith, book-of b r .counted, count-joined (staleBy (find memo r)) r);
+          present = omega (arith, book-of b r .present, count-joined (λ p. not (staleBy (find memo r) p)) r);
+        })
 
-  pub clean-join : Clean memo (joinedCell k chain d n)
-  clean-join =
-      clean-find memo (joinedCell k chain d n) rowed-joined (λ r p e. found-orElse (find (n .entries) r) (find (d .entries) r) p (sym (find-joined r) ∙ e)
-      (find-clean memo n (b .cells-rowed .1 .0) clean-n r p)
-      (find-clean memo d (b .cells-rowed .0) clean-d r p))
+    pub clean-join : Clean memo (joinedCell k chain d n)
+    clean-join =
+        clean-find memo (joinedCell k chain d n) rowed-joined (λ r p e. orElse-cases (find (n .entries) r) (find (d .entries) r) p (sym (find-joined r) ∙ e)
+        (find-clean memo n (b .cells-rowed .1 .0) clean-n r p)
+        (find-clean memo d (b .cells-rowed .0) clean-d r p))
 
 -- ---- the marks and who is on, as the store's rows have them (for books-ext)
 
@@ -1089,7 +839,7 @@ stale-radios memo n c a u =
     ∙ sumTo-ext (suc n) (λ r. countFound (λ q p. one-if (staleBy (find memo q) p)) r (find (c .entries) r)) (λ r. staleC (find memo r) r c) (λ r _. found-stale memo r (find (c .entries) r))
 
 length-radios : (n : ℕ) (c : Cell) → Rising 0 (c .entries) → UpTo n (c .entries) → length (c .entries) ≡ sumTo (suc n) (λ r. heldC r c)
-length-radios n c a u = length-rows n (c .entries) a u ∙ sumTo-ext (suc n) (λ r. one-if (isSome (find (c .entries) r))) (λ r. heldC r c) (λ r _. sym (held-found (find (c .entries) r)))
+length-radios n c a u = length-found 0 n (c .entries) a u ∙ sumTo-ext (suc n) (λ r. one-if (isSome (find (c .entries) r))) (λ r. heldC r c) (λ r _. sym (held-found (find (c .entries) r)))
 
 module _ {cells : List Cell} {memo : Rows Line} {new on : ℕ → Bool} (b : Books cells memo new on) where
   stale-total : sumBy (staleIn memo) cells ≡ sumTo (suc maxRadio) (λ r. sumBy (staleC (find memo r) r) cells)
@@ -1105,14 +855,18 @@ module _ {cells : List Cell} {memo : Rows Line} {new on : ℕ → Bool} (b : Boo
   line-missed : (r : ℕ) → one-if (isSome (find memo r)) ≤ missedOf (find memo r)
   line-missed r = option-cases (find memo r) (λ e. rw e (omega arith)) (λ l e. rw e (b .lines r l e .0))
 
+  -- each stale entry is counted in one line
+  pub missed-total : sumBy (staleIn memo) cells ≡ sumTo (suc maxRadio) (λ r. missedOf (find memo r))
+  missed-total = stale-total ∙ sumTo-ext (suc maxRadio) _ _ (λ r _. book-of b r .counted)
+
   -- each line counts a stale entry or more
   pub memo-total : length memo ≤ sumBy (staleIn memo) cells
   memo-total =
       omega (
         arith,
-        length-rows maxRadio memo (b .memo-rises) (b .memo-radios),
-        stale-total,
-        sumTo-le (suc maxRadio) (λ r. one-if (isSome (find memo r))) (λ r. sumBy (staleC (find memo r) r) cells) (λ r _. omega (arith, line-missed r, book-of b r .counted)),
+        length-found 0 maxRadio memo (b .memo-rises) (b .memo-radios),
+        missed-total,
+        sumTo-le (suc maxRadio) (λ r. one-if (isSome (find memo r))) (λ r. missedOf (find memo r)) (λ r _. line-missed r),
       )
 
 -- each radio on has one live entry at most
@@ -1121,7 +875,7 @@ pub entries-total : {cells : List Cell} {memo : Rows Line} {new : ℕ → Bool} 
 entries-total {cells} {memo} rows s b =
     omega (
       arith,
-      length-rows maxRadio rows (s .rising-on) (s .radios-on),
+      length-found 0 maxRadio rows (s .rising-on) (s .radios-on),
       stale-total b,
       held-total b,
       sumTo-add (suc maxRadio) (λ r. one-if (isSome (find rows r))) (λ r. sumBy (staleC (find memo r) r) cells),

@@ -13,58 +13,21 @@ use Rattle.terms.specs.Terms.{Place, pageEntries}
 use Rattle.lists.specs.Parts.{tab}
 use Rattle.lists.specs.Rows.{Row, Rows, Rising, find, alter, countFound}
 use Rattle.lists.specs.Sort.{sortIn, sort}
-use Rattle.lists.specs.Sums.{sumBy, filter, concat, count}
+use Rattle.lists.specs.Sums.{filter, count}
 use Rattle.lists.specs.Tests.{one-if, either, orElse, Each, best}
-use Rattle.lists.proofs.Cases.{by-cases, option-cases, list-cases}
-use Rattle.lists.proofs.PartsLaws.{length-tab, getD-tab}
+use Rattle.lists.proofs.Cases.{by-cases, option-cases, list-cases, none-some, orElse-cases}
 use Rattle.lists.proofs.RowsLaws.{sum-alter}
-use Rattle.lists.proofs.SortLaws.{length-sort, count-sort, sorted-sort, sorted-order, below-length, firstAbove-some}
-use Rattle.lists.proofs.SumsLaws.{sum-cons, sum-const, sum-le, sum-filter, sum-filter-ext, length-filter, length-filter-not, count-at}
-use Rattle.lists.proofs.TestsLaws.{both-left, both-right, both-intro, either-left, each-map, each-append, each-split, each-getD, getD-each, best-holds, best-none-better, not-true}
+use Rattle.lists.proofs.SortLaws.{length-sort, count-sort, sorted-sort, sorted-order, below-length, firstAbove-some, sum-sortIn}
+use Rattle.lists.proofs.SumsLaws.{sum-cons, sum-const, sum-le, sum-filter, sum-filter-ext, length-filter, length-filter-not, count-at, each-count, any-cases, each-counted}
+use Rattle.lists.proofs.TestsLaws.{both-left, both-right, both-intro, either-left, each-map, each-append, best-holds, best-none-better, not-true, each-filter, concat-each, each-tab, each-over-map}
 use Rattle.rules.specs.Limits.{maxCells, maxCuts, fullBox, fullMemory}
 use Rattle.rules.specs.Grid.{Axis, eastward, northward, along, across, Span, within, Rect, spanOf, inside, Cuts, cutsOf, stripe, Box, sameBox, boxOf, boxes}
-use Rattle.rules.specs.Store.{Report, Cell, Store, settled}
+use Rattle.rules.specs.Store.{Report, Cell, Store}
 use Rattle.rules.specs.Cut.{Cut, through, cutsThrough, fits, difference, existingCut, median, validAt, medianCut, longerSide, chosenCut}
 use Rattle.rules.specs.Flush.{inBox, Flushed, flushedInto, grown, addCut, splitAt, neighbours, named, joinedWith, reshaped, cellOfBox, flush}
 use Rattle.rules.specs.Carry.{mostOf, boxToFlush, waitingIn}
-use Rattle.rules.proofs.TilingLaws.{none-some, each-count, within-low, within-high, inside-along, stripe-most, box-eq, box-along, sum-sortIn, with-cuts, GoodCut, cutsWith}
-use Rattle.rules.proofs.TilingLaws.{Among, others-among, tiling-among, tiling-move}
-use Rattle.rules.proofs.Parts.{Tiling}
-
--- ---- lists
-
-module _ {A : Type 0} where
-  pub each-filter : (P : A → Type 0) (t : A → Bool) (l : List A) → Each P l → Each (λ x. (t x ≡ true) × P x) (filter t l)
-  unfolding filter
-  each-filter P t [] e = tt
-  each-filter P t (x ∷ xs) e =
-      by-cases (t x) (λ h. rw h ((h, e .0), each-filter P t xs (e .1))) (λ h. rw h (each-filter P t xs (e .1)))
-
-  -- none passes, or one does
-  pub any-cases : {P : Type 0} (t : A → Bool) (l : List A) → (sumBy (λ x. one-if (t x)) l ≡ 0 → P) → ((x : A) → t x ≡ true → P) → P
-  unfolding sumBy
-  any-cases t [] f g = f refl
-  any-cases t (x ∷ xs) f g = by-cases (t x) (g x) (λ h. any-cases t xs (λ e. f (omega (arith, ap one-if h, e))) g)
-
-  each-concat : (P : A → Type 0) (ls : List (List A)) → Each P (concat ls) → Each (Each P) ls
-  unfolding concat
-  each-concat P [] e = tt
-  each-concat P (l ∷ ls) e = let s = each-split P l (concat ls) e in (s .0, each-concat P ls (s .1))
-
-  each-tab : (P : A → Type 0) (n : ℕ) (f : ℕ → A) (i : ℕ) → Each P (tab n f) → i < n → P (f i)
-  each-tab P n f i e h = rw (getD-tab n f i (f i) h) at (each-getD P (tab n f) i (f i) e (omega (arith, length-tab n f)))
-
-module _ {A B : Type 0} where
-  pub each-over-map : (P : B → Type 0) (g : A → B) (l : List A) → Each (λ x. P (g x)) l → Each P (map g l)
-  each-over-map P g [] e = tt
-  each-over-map P g (x ∷ xs) e = (e .0, each-over-map P g xs (e .1))
-
-each-counted : (l : List ℕ) → Each (λ x. 1 ≤ count x l) l
-each-counted l = getD-each (λ x. 1 ≤ count x l) l 0 (λ i h. count-at l i h)
-
-orElse-cases : {A P : Type 0} (o q : Option A) (a : A) → orElse o q ≡ some a → (o ≡ some a → P) → (q ≡ some a → P) → P
-orElse-cases none q a e f g = g e
-orElse-cases (some b) q a e f g = f e
+use Rattle.rules.proofs.TilingLaws.{stripe-most, box-eq, box-along, with-cuts, GoodCut, cutsWith}
+use Rattle.rules.proofs.PlaceLaws.{within-low, within-high, inside-along}
 
 -- ---- the choice: an existing cut
 
@@ -73,9 +36,7 @@ unfolding cutsThrough
 through-good axis cuts edges =
     let l = cutsOf axis cuts in
     each-over-map (GoodCut cuts edges) (λ c. record { axis = axis; at = c }) (filter (through (spanOf axis edges)) l)
-    (each-map (λ x. (through (spanOf axis edges) x ≡ true) × (1 ≤ count x l)) (λ x. GoodCut cuts edges (record { axis = axis; at = x })) (filter (through (spanOf axis edges)) l)
-    (λ x h. record { crosses = h .0; valid = either-left (ltb (length l) maxCuts) (lt-ltb 0 (count x l) (h .1)) })
-    (each-filter (λ x. 1 ≤ count x l) (through (spanOf axis edges)) l (each-counted l)))
+    (each-filter _ _ (through (spanOf axis edges)) l (λ x n t. record { crosses = t; valid = either-left (ltb (length l) maxCuts) (lt-ltb 0 (count x l) n) }) (each-counted l))
 
 existing-good : (cuts : Cuts) (edges : Rect) (es : Rows Place) (c : Cut) → existingCut cuts edges es ≡ some c → GoodCut cuts edges c
 unfolding existingCut
@@ -84,8 +45,7 @@ existing-good cuts edges es c =
     let north = cutsThrough northward cuts edges in
     let all = east ++ north in
     let good : Each (GoodCut cuts edges) (filter (fits es) all) =
-    each-map (λ x. (fits es x ≡ true) × GoodCut cuts edges x) (GoodCut cuts edges) (filter (fits es) all) (λ x h. h .1)
-    (each-filter (GoodCut cuts edges) (fits es) all (each-append (GoodCut cuts edges) east north (through-good eastward cuts edges) (through-good northward cuts edges))) in
+    each-filter _ _ (fits es) all (λ x g _. g) (each-append (GoodCut cuts edges) east north (through-good eastward cuts edges) (through-good northward cuts edges)) in
     list-cases (filter (fits es) all)
     (λ n. rw n none-some)
     (λ x xs n.
@@ -263,7 +223,7 @@ boxes-hold P cuts p e =
     let i = stripe (cuts .easts) (p .east) in
     let j = stripe (cuts .norths) (p .north) in
     let row : ℕ → List Box = λ n. tab (suc (length (cuts .easts))) (λ k. record { east = k; north = n }) in
-    let rows = each-concat P (tab (suc (length (cuts .norths))) row) e in
+    let rows = concat-each P (tab (suc (length (cuts .norths))) row) e in
     let ours = each-tab (Each P) (suc (length (cuts .norths))) row j rows (omega (arith, stripe-most (cuts .norths) (p .north))) in
     each-tab P (suc (length (cuts .easts))) (λ k. record { east = k; north = j }) i ours (omega (arith, stripe-most (cuts .easts) (p .east)))
 
@@ -340,21 +300,6 @@ pub flush-cases : (P : Store → Type 0) (pick : ℕ) (m : Box) (s : Store) → 
     → ((d : Cell) → cellOfBox s m ≡ some d → P (reshaped pick (flushedInto m s d))) → P (flush pick m s)
 unfolding flush
 flush-cases P pick m s f g = option-cases (cellOfBox s m) (λ n. rw n (f n)) (λ d n. rw n (g d n))
-
--- ---- a flush keeps the tiling
-
-module _ (m : Box) (s : Store) (d : Cell) (a : Among (s .cells) d) (t : Tiling (s .cuts) (s .cells)) where
-  -- d among the cells, in the words of the laws
-  home : Tiling (s .cuts) (a .before ++ (d ∷ a .after))
-  home = tiling-among a t
-
-  pub rest-others : flushedInto m s d .rest ≡ a .before ++ a .after
-  unfolding flushedInto
-  rest-others = others-among (s .cells) d a (t .round)
-
-  pub tiling-grown : Tiling (grown (flushedInto m s d) .cuts) (grown (flushedInto m s d) .cells)
-  unfolding grown flushedInto settled
-  tiling-grown = rw rest-others (tiling-move (s .cuts) (a .before) d (a .after) _ home refl refl)
 
 -- ---- what waits after a flush
 

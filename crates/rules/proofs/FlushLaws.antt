@@ -1,62 +1,47 @@
 -- A flush keeps the parts of the invariant: d is swept, the reports of m go into it, and it is then grown, split or joined.
-use mathlib.Core.Bool.{Bool, true, false, not, cond}
+use mathlib.Core.Bool.{true, false, not, cond}
 use mathlib.Core.List.{List, [], _∷_, _++_, map}
 use mathlib.Core.Option.{Option, none, some}
 use mathlib.Core.Path.{_≡_, refl, sym, ap, _∙_, subst}
-use Prim.Native.Nat.{ℕ, suc, _+_, _-_, _≤_, _<_, min}
+use Prim.Native.Nat.{ℕ, _+_, _-_, _≤_, _<_, min}
 use native.Mathlib.Omega.{arith}
 use lib.Dec.{ltb}
 use lib.ListN.{length, drop}
 use borrow.Author.Tests.{ltb-true}
 use Rattle.terms.specs.Terms.{maxRadio, pageEntries}
-use Rattle.lists.specs.Rows.{Rows, Rising, find, insert, merge, passed}
+use Rattle.lists.specs.Rows.{Rows, Rising, find, passed}
 use Rattle.lists.specs.Sums.{sumBy, filter, count}
 use Rattle.lists.specs.Tests.{one-if, Each, isSome}
 use Rattle.lists.proofs.Cases.{by-cases}
-use Rattle.lists.proofs.RowsLaws.{length-alter-le, rising-alter, find-filter, rising-filter, find-each, each-find, passed-true}
-use Rattle.lists.proofs.SumsLaws.{sum-cons, length-filter-not}
+use Rattle.lists.proofs.AmongLaws.{Among, each-among, among-tail}
+use Rattle.lists.proofs.RowsLaws.{find-filter, rising-filter, find-each, each-find, length-merge-le, find-filter-some}
+use Rattle.lists.proofs.SumsLaws.{sum-cons, length-filter-not, sum-middle, length-middle}
+use Rattle.lists.proofs.TestsLaws.{each-filter}
 use Rattle.rules.specs.Limits.{maxCells, fullMemory, sweepEvery, joinEntries}
 use Rattle.rules.specs.Grid.{Rect, inside, Cuts, Box, cornerOf}
 use Rattle.rules.specs.Store.{Report, Line, Cell, Store, others, settled, freeAfter}
 use Rattle.rules.specs.Sweep.{stale, sweptEntries, sweptMemo, swept}
 use Rattle.rules.specs.Cut.{Cut, chosenCut}
-use Rattle.rules.specs.Flush.{inBox, Flushed, flushedInto, grown, lowCell, highCell, unusedNumber, splitAt, splitOr, beside, neighbours, named, joinedEdges, joinedWith, joinOr, reshaped}
+use Rattle.rules.specs.Flush.{joined, inBox, Flushed, flushedInto, grown, lowCell, highCell, unusedNumber, splitAt, splitOr, beside, neighbours, named, joinedEdges, joinedWith, joinOr, reshaped}
 use Rattle.rules.specs.Carry.{wasNew}
 use Rattle.rules.specs.WellFormed.{staleIn}
 use Rattle.rules.proofs.Parts.{Edged, Tiling, Rowed, Books, Clean, Paged, Bounded, Signed, Waits, Core, marks, onSet}
-use Rattle.rules.proofs.BooksLaws.{books-front, books-back, books-back2, books-same, books-swap, books-ext, books-sweep, clean-swept, stale-sweep, stale-sweep-sum, Enters, marksWithout, books-enterEach, clean-enterEach, stale-enterEach, books-split, books-join, clean-join, entries-total}
-use Rattle.rules.proofs.TilingLaws.{Among, each-among, inside-home, tiling-among, others-among, others-split, tiling-move, GoodCut, cutsWith, lowEdges, highEdges, tiling-split, tiling-join, named-neighbour, smaller-number, round-others}
+use Rattle.rules.proofs.BooksLaws.{books-back, books-back2, books-same, books-swap, books-ext, books-sweep, clean-swept, stale-sweep, stale-sweep-sum, Enters, marksWithout, books-enterEach, clean-enterEach, stale-enterEach, books-split, books-join, clean-join, entries-total, books-among}
+use Rattle.rules.proofs.TilingLaws.{inside-home, tiling-among, others-among, others-split, tiling-move, GoodCut, cutsWith, tiling-split, tiling-join, named-neighbour, smaller-number, round-others}
 use Rattle.rules.proofs.CutLaws.{inBox-box, chosen-good, waiting-length, length-cleared}
-use Rattle.rules.proofs.PagedLaws.{size, mostEntries, joinedCell as joined, sum-middle, grown-paged, splitAt-paged, joinedWith-paged}
+use Rattle.rules.proofs.PagedLaws.{size, mostEntries, grown-paged, splitAt-paged, joinedWith-paged}
+use Rattle.rules.proofs.PlaceLaws.{lowEdges, highEdges}
 use Rattle.rules.proofs.RoundLaws.{bounded-total, grown-bounded, splitAt-bounded, joinedWith-bounded}
-
--- ---- rows
-
-length-merge-le : {Val : Type 0} (b : ℕ) (l m : Rows Val) → Rising b l → Rising 0 m → length (merge l m) ≤ length l + length m
-unfolding merge
-length-merge-le b [] m a k = omega arith
-length-merge-le b (x ∷ xs) m a k =
-    let h : 0 < x .key = omega (arith, a .0) in
-    omega (
-      arith,
-      length-merge-le (x .key) xs (insert (x .key) (x .val) m) (a .1) (rising-alter (λ _. some (x .val)) 0 (x .key) m h k),
-      length-alter-le (λ _. some (x .val)) 0 (x .key) m h k,
-    )
 
 -- ---- the reports of a memory cell, and the others
 
 find-kept : (cuts : Cuts) (m : Box) (l : Rows Report) (r : ℕ) (w : Report) → Rising 0 l → find (filter (λ x. not (inBox cuts m x)) l) r ≡ some w → find l r ≡ some w
-find-kept cuts m l r w a e = passed-true (λ x. not (inBox cuts m x)) r (find l r) w (sym (find-filter (λ x. not (inBox cuts m x)) 0 r l a) ∙ e) .0
-
-each-filtered : {A : Type 0} (P : A → Type 0) (t : A → Bool) (l : List A) → Each P l → Each P (filter t l)
-unfolding filter
-each-filtered P t [] e = tt
-each-filtered P t (x ∷ xs) e = by-cases (t x) (λ u. rw u (e .0, each-filtered P t xs (e .1))) (λ u. rw u (each-filtered P t xs (e .1)))
+find-kept cuts m l r w a e = find-filter-some (λ x. not (inBox cuts m x)) 0 r l w a e .0
 
 pub waits-kept : (cuts : Cuts) (m : Box) (s : Store) → Waits (s .waiting) (s .on) → Waits (filter (λ x. not (inBox cuts m x)) (s .waiting)) (s .on)
 waits-kept cuts m s w = record {
   waiting-rises = rising-filter (λ x. not (inBox cuts m x)) 0 (s .waiting) (w .waiting-rises);
-  waiting-radios = each-filtered (λ x. x .key ≤ maxRadio) (λ x. not (inBox cuts m x)) (s .waiting) (w .waiting-radios);
+  waiting-radios = each-filter _ _ (λ x. not (inBox cuts m x)) (s .waiting) (λ x h _. h) (w .waiting-radios);
   waiting-placed = λ r v e. w .waiting-placed r v (find-kept cuts m (s .waiting) r v (w .waiting-rises) e);
   unmarked = λ r v e. w .unmarked r v (find-kept cuts m (s .waiting) r v (w .waiting-rises) e);
 }
@@ -95,10 +80,6 @@ pub record Staged (s : Store) (c : ℕ) : Type 0 where
   pub core : Core s
   pub bounded : Bounded (s .memo) (s .cells) (length (s .waiting)) c
 
-length-middle : {A : Type 0} (xs : List A) (d : A) (ys : List A) → length (xs ++ (d ∷ ys)) ≡ suc (length (xs ++ ys))
-length-middle [] d ys = refl
-length-middle (x ∷ xs) d ys = ap suc (length-middle xs d ys)
-
 -- ---- d once the reports are in
 
 module _ (m : Box) (s : Store) (d : Cell) (k : Core s) (a : Among (s .cells) d) (home : inside (d .edges) (cornerOf (s .cuts) m) ≡ true) where
@@ -119,7 +100,7 @@ module _ (m : Box) (s : Store) (d : Cell) (k : Core s) (a : Among (s .cells) d) 
   tiled = tiling-among a (k .tiling)
 
   pub books-before : Books (d ∷ (before ++ after)) (s .memo) (marks (s .waiting)) (onSet (s .on))
-  books-before = books-front before d after (subst (λ (l : List Cell). Books l (s .memo) (marks (s .waiting)) (onSet (s .on))) (a .split) (k .books))
+  books-before = books-among a (k .books)
 
   -- each report of m is one that d takes
   report-on : (r : ℕ) (w : Report) → find (s .waiting) r ≡ some w → onSet (s .on) r ≡ true
@@ -144,8 +125,7 @@ module _ (m : Box) (s : Store) (d : Cell) (k : Core s) (a : Among (s .cells) d) 
   reports-rise = rising-filter (inBox (s .cuts) m) 0 (s .waiting) (k .waits .waiting-rises)
 
   pub report-found : (r : ℕ) (w : Report) → find reports r ≡ some w → (find (s .waiting) r ≡ some w) × (inBox (s .cuts) m (record { key = r; val = w }) ≡ true)
-  report-found r w e =
-      passed-true (inBox (s .cuts) m) r (find (s .waiting) r) w (sym (find-filter (inBox (s .cuts) m) 0 r (s .waiting) (k .waits .waiting-rises)) ∙ e)
+  report-found r w e = find-filter-some (inBox (s .cuts) m) 0 r (s .waiting) w (k .waits .waiting-rises) e
 
   enters : Each (Enters (swept (s .memo) d .edges) (marks (s .waiting)) (onSet (s .on))) reports
   unfolding swept
@@ -313,9 +293,7 @@ module _ (f : Flushed) (d₀ : Cell) (before after : List Cell) (memo : Rows Lin
 
     -- m is swept, d being one of the others
     books-apart : Books (m ∷ f .cell ∷ left) (f .store .memo) (marks (f .store .waiting)) (onSet (f .store .on))
-    books-apart =
-        books-front (f .cell ∷ a .before) m (a .after)
-        (subst (λ (l : List Cell). Books (f .cell ∷ l) (f .store .memo) (marks (f .store .waiting)) (onSet (f .store .on))) (a .split) (r .books))
+    books-apart = books-among (among-tail (f .cell) a) (r .books)
 
     books-swept-apart : Books (f .cell ∷ sweptCell ∷ left) memoThen (marks (f .store .waiting)) (onSet (f .store .on))
     books-swept-apart = books-swap sweptCell (f .cell) left (books-sweep m (f .cell ∷ left) books-apart)
@@ -339,11 +317,11 @@ module _ (f : Flushed) (d₀ : Cell) (before after : List Cell) (memo : Rows Lin
 
     books-whole : Books (whole ∷ left) memoThen (marks (f .store .waiting)) (onSet (f .store .on))
     unfolding settled swept
-    books-whole = books-join (whole .number) (whole .chain) (f .cell) sweptCell left books-swept-apart clean-d clean-m beside-swept
+    books-whole = books-join (f .cell) sweptCell left books-swept-apart clean-d clean-m (whole .number) (whole .chain) beside-swept
 
     clean-whole : Clean memoThen whole
     unfolding settled swept
-    clean-whole = clean-join (whole .number) (whole .chain) (f .cell) sweptCell left books-swept-apart clean-d clean-m beside-swept
+    clean-whole = clean-join (f .cell) sweptCell left books-swept-apart clean-d clean-m (whole .number) (whole .chain) beside-swept
 
     tiling-whole : Tiling (f .store .cuts) (left ++ (whole ∷ []))
     unfolding settled

@@ -5,6 +5,7 @@ pub mod LinkLaws
 pub mod LiveLaws
 pub mod PagedLaws
 pub mod Parts
+pub mod PlaceLaws
 pub mod PlainLaws
 pub mod RecordLaws
 pub mod RoundLaws

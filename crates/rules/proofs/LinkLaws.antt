@@ -3,19 +3,19 @@ use mathlib.Core.Bool.{Bool, true, false, not, cond}
 use mathlib.Core.List.{List, [], _∷_}
 use mathlib.Core.Option.{Option, none, some}
 use mathlib.Core.Path.{_≡_, refl, sym, ap, ap₂, _∙_, fun-ext}
-use Prim.Native.Nat.{ℕ, zero, suc, _+_, _≤_, _<_}
+use Prim.Native.Nat.{ℕ, suc, _≤_, _<_}
 use native.Mathlib.Omega.{arith}
 use lib.Dec.{eqb}
 use lib.ListN.{length}
-use borrow.Author.Tests.{eqb-true, eqb-false, eq-eqb}
+use borrow.Author.Tests.{eqb-true, eq-eqb}
 use Rattle.terms.specs.Terms.{Place, maxRadio}
 use Rattle.lists.specs.Parts.{tab}
-use Rattle.lists.specs.Rows.{Rows, Rising, UpTo, find, alter, insert, countFound}
+use Rattle.lists.specs.Rows.{Rows, Rising, find, alter, insert, countFound}
 use Rattle.lists.specs.Sums.{sumTo}
 use Rattle.lists.specs.Tests.{one-if, both, isSome}
-use Rattle.lists.proofs.Cases.{by-cases, option-cases}
-use Rattle.lists.proofs.RowsLaws.{find-below, rising-less, find-alter, ext-find, sum-rows}
-use Rattle.lists.proofs.SumsLaws.{sum-const, sumTo-ext}
+use Rattle.lists.proofs.Cases.{by-cases, option-cases, false-true, isSome-true, isSome-false}
+use Rattle.lists.proofs.RowsLaws.{find-below, rising-less, find-alter, ext-find, sum-rows, rising-tab, find-tab, find-within, length-found}
+use Rattle.lists.proofs.SumsLaws.{sumTo-ext}
 use Rattle.rules.specs.Grid.{Rect, inside, Cuts, Box, sameBox, boxOf}
 use Rattle.rules.specs.Store.{Report, Line, Store, fresh}
 use Rattle.rules.specs.Flush.{inBox}
@@ -51,32 +51,20 @@ fresh-link = record {
 
 -- ---- the same latest place
 
-some-is : {A : Type 0} (o : Option A) → isSome o ≡ true → (P : Type 0) → ((a : A) → o ≡ some a → P) → P
-some-is none e P f = let z : _≡_ {A = ℕ} 0 1 = cc in absurd (omega arith)
-some-is (some a) e P f = f a refl
-
 pub latest-same : (s : Store) (x : Plain) → Link s x → (r : ℕ) → latest s r ≡ x .latest r
 unfolding latest plainOn
 latest-same s x k r =
     by-cases (x .waits r)
-    (λ t. some-is (x .latest r) (k .waits-on r t) _ (λ p e. rw (k .waiting r, t, e)))
+    (λ t. isSome-true (x .latest r) (k .waits-on r t) (λ p e. rw (k .waiting r, t, e)))
     (λ t. rw (k .waiting r, t) (k .stored r ∙ sym (k .quiet r t)))
 
 -- ---- the same who is on
-
-one-found : {A : Type 0} (r : ℕ) (o : Option A) → countFound (λ _ _. 1) r o ≡ one-if (isSome o)
-one-found r none = refl
-one-found r (some a) = refl
-
-length-found : {A : Type 0} (l : Rows A) → Rising 0 l → UpTo maxRadio l → length l ≡ sumTo (suc maxRadio) (λ r. one-if (isSome (find l r)))
-length-found l a u =
-    omega (arith, sum-const 1 l, sum-rows (λ _ _. 1) 0 maxRadio l a u, sumTo-ext (suc maxRadio) (λ r. countFound (λ _ _. 1) r (find l r)) (λ r. one-if (isSome (find l r))) (λ r h. one-found r (find l r)))
 
 pub refusal-same : (s : Store) (x : Plain) → Link s x → Signed (s .on) → (bytes : List ℕ) → refusal (isOn s) (onCount s) bytes ≡ plainRefusal x bytes
 unfolding plainRefusal plainOnCount onCount isOn
 refusal-same s x k g bytes =
     ap₂ (λ (f : ℕ → Bool) (n : ℕ). refusal f n bytes) (fun-ext (k .on))
-    (length-found (s .on) (g .rising-on) (g .radios-on) ∙ sumTo-ext (suc maxRadio) _ _ (λ r h. ap one-if (k .on r)))
+    (length-found 0 maxRadio (s .on) (g .rising-on) (g .radios-on) ∙ sumTo-ext (suc maxRadio) _ _ (λ r h. ap one-if (k .on r)))
 
 -- ---- the same list
 
@@ -112,41 +100,18 @@ module _ (rect : Rect) (f : ℕ → Option Place) where
       (λ t. rw (t, eqb-true q (x .key) t) (find-listIf-same (x .key) (f (x .key)) (listOf rect f xs) (rising-listOf (x .key) xs (a .1))))
       (λ t. rw t (find-listIf-other (x .key) q (f (x .key)) (listOf rect f xs) t ∙ find-listOf (x .key) q xs (a .1)))
 
--- the radios 1 to n as rows
-rising-tab : (n k : ℕ) (f : ℕ → ℕ) → ((i : ℕ) → f i ≡ suc (k + i)) → Rising k (tab n (λ i. record { key = f i; val = tt {0} }))
-unfolding tab
-rising-tab zero k f h = tt
-rising-tab (suc n) k f h = (omega (arith, h 0), rising-tab n (f 0) (λ i. f (suc i)) (λ i. omega (arith, h 0, h (suc i))))
-
-find-tab : (n k r : ℕ) (f : ℕ → ℕ) → ((i : ℕ) → f i ≡ suc (k + i)) → k < r → r ≤ k + n → isSome (find (tab n (λ i. record { key = f i; val = tt {0} })) r) ≡ true
-unfolding tab find
-find-tab zero k r f h a b = absurd (omega arith)
-find-tab (suc n) k r f h a b =
-    by-cases (eqb r (f 0))
-    (λ t. rw t)
-    (λ t. rw t (find-tab n (f 0) r (λ i. f (suc i)) (λ i. omega (arith, h 0, h (suc i))) (omega (arith, h 0, eqb-false r (f 0) t)) (omega (arith, h 0))))
-
--- a row found has its key within the bounds
-found-within : {A : Type 0} (b n r : ℕ) (l : Rows A) → Rising b l → UpTo n l → isSome (find l r) ≡ true → (b < r) × (r ≤ n)
-unfolding find
-found-within b n r [] a u = λ e. let z : _≡_ {A = ℕ} 0 1 = cc in absurd (omega arith)
-found-within b n r (x ∷ xs) a u =
-    by-cases (eqb r (x .key))
-    (λ t. let z = eqb-true r (x .key) t in rw t (λ e. (omega (arith, a .0), omega (arith, u .0))))
-    (λ t. rw t (λ e. let w = found-within (x .key) n r xs (a .1) (u .1) e in (omega (arith, a .0), w .1)))
-
 pub found-same : (s : Store) (x : Plain) → Link s x → Signed (s .on) → (rect : Rect) → found s rect ≡ plainFound x rect
 unfolding found plainFound isOn plainOn
 found-same s x k g rect =
     let all : Rows (Unit {0}) = tab maxRadio (λ i. record { key = suc i; val = tt }) in
-    let rises : Rising 0 all = rising-tab maxRadio 0 suc (λ i. omega arith) in
+    let rises : Rising 0 all = rising-tab maxRadio 0 suc (λ _. tt) (λ i. omega arith) in
     ap (λ (f : ℕ → Option Place). listOf rect f (s .on)) (fun-ext (latest-same s x k))
     ∙ ext-find 0 (listOf rect (x .latest) (s .on)) (listOf rect (x .latest) all) (rising-listOf rect (x .latest) 0 (s .on) (g .rising-on)) (rising-listOf rect (x .latest) 0 all rises)
     (λ r. find-listOf rect (x .latest) 0 r (s .on) (g .rising-on) ∙ option-cases (x .latest r)
     (λ e. rw e (never (isSome (find (s .on) r)) ∙ sym (rw (find-listOf rect (x .latest) 0 r all rises, e) (never (isSome (find all r))))))
     (λ p e. let o : isSome (find (s .on) r) ≡ true = k .on r ∙ ap isSome e in
-    let w = found-within 0 maxRadio r (s .on) (g .rising-on) (g .radios-on) o in
-    rw o (sym (rw (find-listOf rect (x .latest) 0 r all rises, find-tab maxRadio 0 r suc (λ i. omega arith) (w .0) (w .1))))))
+    let w = find-within 0 maxRadio r (s .on) (g .rising-on) (g .radios-on) o in
+    rw o (sym (rw (find-listOf rect (x .latest) 0 r all rises, find-tab maxRadio 0 r suc (λ _. tt {0}) (λ i. omega arith) (w .0) (w .1))))))
   where
     never : (b : Bool) → _≡_ {A = Option Place} (cond b none none) none
     never true = refl
@@ -188,7 +153,7 @@ waits-found s x k r =
 
 pub length-waiting : (s : Store) (x : Plain) → Link s x → Waits (s .waiting) (s .on) → length (s .waiting) ≡ sumTo (suc maxRadio) (λ r. one-if (x .waits r))
 length-waiting s x k w =
-    length-found (s .waiting) (w .waiting-rises) (w .waiting-radios) ∙ sumTo-ext (suc maxRadio) _ _ (λ r h. ap one-if (waits-found s x k r))
+    length-found 0 maxRadio (s .waiting) (w .waiting-rises) (w .waiting-radios) ∙ sumTo-ext (suc maxRadio) _ _ (λ r h. ap one-if (waits-found s x k r))
 
 pub due-same : (s : Store) (x : Plain) → Link s x → Waits (s .waiting) (s .on) → (p : Place) → flushDue s p ≡ plainDue (s .cuts) x p
 unfolding flushDue plainDue
@@ -196,20 +161,13 @@ due-same s x k w p = ap₂ (λ (f : Box → ℕ) (n : ℕ). boxToFlush (s .cuts)
 
 -- ---- a record's own effect
 
-none-is : {A : Type 0} (o : Option A) → isSome o ≡ false → o ≡ none
-none-is none e = refl
-none-is (some a) e = let z : _≡_ {A = ℕ} 0 1 = cc in absurd (omega arith)
-
-not-both : (b : Bool) → b ≡ true → b ≡ false → ⊥
-not-both b t f = let z : _≡_ {A = Bool} true false = sym t ∙ f in let y : _≡_ {A = ℕ} 0 1 = cc in omega arith
-
 -- a radio that is off has nothing here
 off-nothing : (s : Store) (x : Plain) → Link s x → (r : ℕ) → plainOn x r ≡ false → (x .waits r ≡ false) × (x .latest r ≡ none) × (x .flushed r ≡ none)
 unfolding plainOn
 off-nothing s x k r e =
-    let l = none-is (x .latest r) e in
+    let l = isSome-false (x .latest r) e in
     by-cases (x .waits r)
-    (λ t. absurd (not-both _ (k .waits-on r t) e))
+    (λ t. false-true (sym e ∙ k .waits-on r t))
     (λ t. (t, l, sym (k .quiet r t) ∙ l))
 
 -- a report is put among the waiting, marked where nothing of its radio was flushed

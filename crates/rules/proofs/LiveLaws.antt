@@ -9,64 +9,23 @@ use native.Mathlib.Omega.{arith}
 use lib.Dec.{eqb, ltb}
 use borrow.Author.Tests.{ltb-false, eqb-true, ne-eqb, eq-eqb}
 use Rattle.terms.specs.Terms.{Place}
-use Rattle.lists.specs.Rows.{Row, Rows, Rising, find, alter, merge, countFound, passed}
+use Rattle.lists.specs.Rows.{Row, Rows, Rising, find, alter, merge, passed}
 use Rattle.lists.specs.Sums.{sumBy, filter}
 use Rattle.lists.specs.Tests.{one-if, both, either, isSome, orElse, Each}
-use Rattle.lists.proofs.Cases.{by-cases, option-cases}
-use Rattle.lists.proofs.TestsLaws.{both-left, both-right, both-intro}
+use Rattle.lists.proofs.Cases.{by-cases, option-cases, none-some}
+use Rattle.lists.proofs.TestsLaws.{both-true, true-both, both-left-false, one-if-both-le, one-if-le, one-if-either, one-if-false}
 use Rattle.lists.proofs.SumsLaws.{sum-cons, sum-append, sum-ext, sum-le, sum-zero}
-use Rattle.lists.proofs.RowsLaws.{find-below, rising-alter, find-alter, rising-filter, find-filter, find-merge, each-find}
+use Rattle.lists.proofs.RowsLaws.{find-below, rising-alter, find-alter, rising-filter, find-filter}
 use Rattle.rules.specs.Grid.{samePlace, inside, Box}
 use Rattle.rules.specs.Store.{Report, Line, Cell, Store, others, settled}
-use Rattle.rules.specs.Sweep.{staleBy, stale, lowered, lowerEach, sweptEntries, sweptMemo, swept}
+use Rattle.rules.specs.Sweep.{staleBy, stale, lowered, sweptMemo, swept}
 use Rattle.rules.specs.Cut.{Cut, lowSide}
 use Rattle.rules.specs.Flush.{raised, entered, Work, enter, enterEach, inBox, flushedInto, lowCell, highCell}
 use Rattle.rules.specs.Carry.{liveIn, storedIn, placeOf}
-use Rattle.rules.specs.WellFormed.{countIf, liveOf, staleIn}
+use Rattle.rules.specs.WellFormed.{countIf, liveOf}
 use Rattle.rules.proofs.Parts.{staleR, missedOf, Rowed, Books, Clean}
-
--- ---- lists
-
-module _ {Val : Type 0} where
-  -- what is found is one part of the sum
-  pub sum-found : (f : ℕ → Val → ℕ) (r : ℕ) (l : Rows Val) → countFound f r (find l r) ≤ sumBy (λ x. f (x .key) (x .val)) l
-  unfolding find sumBy
-  sum-found f r [] = omega arith
-  sum-found f r (x ∷ xs) = by-cases (eqb r (x .key)) (λ e. rw (e, eqb-true r (x .key) e) (omega arith)) (λ e. rw e (omega (arith, sum-found f r xs)))
-
-both-true : (a : Bool) → both a true ≡ a
-unfolding both
-both-true true = refl
-both-true false = refl
-
-true-both : (b : Bool) → both true b ≡ b
-unfolding both
-true-both b = refl
-
-false-both : (b : Bool) → both false b ≡ false
-unfolding both
-false-both b = refl
-
-both-one-le : (a b : Bool) → one-if (both a b) ≤ one-if a
-unfolding both
-both-one-le true true = omega arith
-both-one-le true false = omega arith
-both-one-le false b = omega arith
-
-one-if-le : (a : Bool) → one-if a ≤ 1
-one-if-le true = omega arith
-one-if-le false = omega arith
-
--- ---- places
-
-same-refl : (p : Place) → samePlace p p ≡ true
-same-refl p = both-intro (eq-eqb (p .east) (p .east) refl) (eq-eqb (p .north) (p .north) refl)
-
-same-true : (p q : Place) → samePlace p q ≡ true → p ≡ q
-same-true p q e =
-    let x = eqb-true (p .east) (q .east) (both-left (eqb (p .east) (q .east)) (eqb (p .north) (q .north)) e) in
-    let y = eqb-true (p .north) (q .north) (both-right (eqb (p .east) (q .east)) (eqb (p .north) (q .north)) e) in
-    λ i. record { east = x i; north = y i }
+use Rattle.rules.proofs.BooksLaws.{loweredIf, find-sweptMemo, find-swept, withEntries, count-passed, away, count-joined}
+use Rattle.rules.proofs.PlaceLaws.{samePlace-refl, samePlace-true}
 
 -- ---- live entries by a test of the place
 
@@ -118,7 +77,7 @@ count-true o (some p) = ap one-if (both-true (not (staleBy o p)))
 
 count-le : (t : Place → Bool) (o : Option Line) (e : Option Place) → countLive t o e ≤ countIf (λ p. not (staleBy o p)) e
 count-le t o none = omega arith
-count-le t o (some p) = both-one-le (not (staleBy o p)) (t p)
+count-le t o (some p) = one-if-both-le (not (staleBy o p)) (t p)
 
 pub live-true : (memo : Rows Line) (r : ℕ) (cells : List Cell) → liveBy (λ _. true) memo r cells ≡ liveOf memo r cells
 unfolding liveBy liveOf
@@ -183,7 +142,7 @@ stored-at memo r (c ∷ cs) p h =
     option-cases (liveIn memo r c)
     (λ e. rw (stored-step memo r c cs, e) (stored-at memo r cs p (λ t. sym (none-live t memo r c cs e) ∙ h t)))
     (λ q e. rw (stored-step memo r c cs, e) (by-cases (samePlace p q)
-    (λ s. ap some (sym (same-true p q s)))
+    (λ s. ap some (sym (samePlace-true p q s)))
     (λ s. absurd (omega (
       arith,
       h (λ _. true),
@@ -191,7 +150,7 @@ stored-at memo r (c ∷ cs) p h =
       h (samePlace p),
       some-live (samePlace p) memo r c cs q e,
       ap one-if s,
-      ap one-if (same-refl p),
+      ap one-if (samePlace-refl p),
       live-le (samePlace p) memo r cs,
       live-true memo r cs,
     )))))
@@ -251,33 +210,12 @@ no-stale t o r (c ∷ cs) h = omega (arith, count-no-stale t o (find (c .entries
 
 -- ---- sweep
 
--- lowered if there is a stale entry
-abbrev loweredIf : Option Place → Option Line → Option Line
-loweredIf none o = o
-loweredIf (some p) o = lowered o
-
-find-lowerEach : (r b : ℕ) (es : Rows Place) (memo : Rows Line) → Rising b es → Rising 0 memo → find (lowerEach es memo) r ≡ loweredIf (find es r) (find memo r)
-unfolding lowerEach find
-find-lowerEach r b [] memo a m = refl
-find-lowerEach r b (e ∷ es) memo a m =
-    let pos : 0 < e .key = omega arith in
-    let ih = find-lowerEach r (e .key) es (alter lowered (e .key) memo) (a .1) (rising-alter lowered 0 (e .key) memo pos m) in
-    by-cases (eqb r (e .key))
-    (λ t. rw (t, ih, find-below r (e .key) es (omega (arith, eqb-true r (e .key) t)) (a .1), find-alter lowered 0 (e .key) r memo pos m, t))
-    (λ t. rw (t, ih, find-alter lowered 0 (e .key) r memo pos m, t))
-
-find-sweptMemo : (r : ℕ) (memo : Rows Line) (es : Rows Place) → Rising 0 es → Rising 0 memo → find (sweptMemo memo es) r ≡ loweredIf (passed (stale memo) r (find es r)) (find memo r)
-unfolding sweptMemo
-find-sweptMemo r memo es a m =
-    find-lowerEach r 0 (filter (stale memo) es) memo (rising-filter (stale memo) 0 es a) m
-    ∙ ap (λ o. loweredIf o (find memo r)) (find-filter (stale memo) 0 r es a)
-
 lowered-last : (o : Option Line) (l : Line) → lowered o ≡ some l → (k : Line) × (o ≡ some k) × (k .last ≡ l .last)
-lowered-last none l = λ e. let z : _≡_ {A = ℕ} 0 1 = cc in absurd (omega arith)
+lowered-last none l = none-some
 lowered-last (some k) l =
     by-cases (ltb 1 (k .missed))
     (λ t. rw t (λ e. (k, refl, let z : record { missed = k .missed - 1; last = k .last } ≡ l = cc in ap (λ (x : Line). x .last) z)))
-    (λ t. rw t (λ e. let z : _≡_ {A = ℕ} 0 1 = cc in absurd (omega arith)))
+    (λ t. rw t none-some)
 
 loweredIf-last : (e : Option Place) (o : Option Line) (l : Line) → loweredIf e o ≡ some l → (k : Line) × (o ≡ some k) × (k .last ≡ l .last)
 loweredIf-last none o l h = (l, h, refl)
@@ -286,11 +224,7 @@ loweredIf-last (some p) o l h = lowered-last o l h
 -- a sweep changes no line's place
 pub sweptMemo-last : (r : ℕ) (memo : Rows Line) (es : Rows Place) → Rising 0 es → Rising 0 memo → (l : Line) → find (sweptMemo memo es) r ≡ some l
     → (k : Line) × (find memo r ≡ some k) × (k .last ≡ l .last)
-sweptMemo-last r memo es a m l e = loweredIf-last (passed (stale memo) r (find es r)) (find memo r) l (sym (find-sweptMemo r memo es a m) ∙ e)
-
-find-swept : (r : ℕ) (memo : Rows Line) (d : Cell) → Rising 0 (d .entries) → find (swept memo d .entries) r ≡ passed (λ e. not (stale memo e)) r (find (d .entries) r)
-unfolding swept sweptEntries
-find-swept r memo d a = find-filter (λ e. not (stale memo e)) 0 r (d .entries) a
+sweptMemo-last r memo es a m l e = loweredIf-last (passed (stale memo) r (find es r)) (find memo r) l (sym (find-sweptMemo memo es m a r) ∙ e)
 
 -- a line that is dropped had one stale entry, and it is the one swept; else the line judges as before
 lowered-live : (t : Place → Bool) (o : Option Line) (p : Place) (r : ℕ) (cells : List Cell) → staleBy o p ≡ true → 1 + staleUnder o r cells ≡ missedOf o
@@ -319,30 +253,24 @@ pub live-sweep : (d : Cell) (rest : List Cell) (memo : Rows Line) (new on : ℕ 
     → (t : Place → Bool) (r : ℕ) → liveBy t (sweptMemo memo (d .entries)) r (swept memo d ∷ rest) ≡ liveBy t memo r (d ∷ rest)
 live-sweep d rest memo new on k t r =
     let a : Rising 0 (d .entries) = k .cells-rowed .0 .rising in
-    let e = find-sweptMemo r memo (d .entries) a (k .memo-rises) in
+    let e = find-sweptMemo memo (d .entries) (k .memo-rises) a r in
     live-cons t (sweptMemo memo (d .entries)) r (swept memo d) rest
-    ∙ ap₂ _+_ (ap₂ (countLive t) e (find-swept r memo d a)) (live-under t (sweptMemo memo (d .entries)) r rest _ e)
+    ∙ ap₂ _+_ (ap₂ (countLive t) e (find-swept memo d a r)) (live-under t (sweptMemo memo (d .entries)) r rest _ e)
     ∙ swept-live t memo (find (d .entries) r) r rest (sym (stale-cons memo r d rest) ∙ k .counted r)
     ∙ ap (λ n. countLive t (find memo r) (find (d .entries) r) + n) (sym (live-under t memo r rest (find memo r) refl))
     ∙ sym (live-cons t memo r d rest)
 
 -- ---- reports entered
 
-abbrev pub withEntries : Rows Place → Cell → Cell
-withEntries es d = record { number = d .number; edges = d .edges; chain = d .chain; entries = es }
-
 -- the line says p: an entry at p is live, one in a cell that p does not lie in is not
 at-live : (t : Place → Bool) (m : ℕ) (p : Place) → countLive t (some (record { missed = m; last = some p })) (some p) ≡ one-if (t p)
-at-live t m p = ap (λ b. one-if (both (not (not b)) (t p))) (same-refl p) ∙ ap one-if (true-both (t p))
+at-live t m p = ap (λ b. one-if (both (not (not b)) (t p))) (samePlace-refl p) ∙ ap one-if (true-both (t p))
 
 away-one : (t : Place → Bool) (m : ℕ) (p : Place) (r : ℕ) (c : Cell) → Rowed c → one-if (inside (c .edges) p) ≡ 0 → (e : Option Place) → find (c .entries) r ≡ e
     → countLive t (some (record { missed = m; last = some p })) e ≡ 0
 away-one t m p r c k h none e = refl
 away-one t m p r c k h (some q) e =
-    by-cases (samePlace p q)
-    (λ s. let i = each-find (λ _ v. inside (c .edges) v ≡ true) r q (c .entries) (k .placed) e in
-    absurd (omega (arith, ap (λ x. one-if (inside (c .edges) x)) (same-true p q s), ap one-if i)))
-    (λ s. ap (λ b. one-if (both (not (not b)) (t q))) s ∙ ap one-if (false-both (t q)))
+    ap (λ b. one-if (both (not (not b)) (t q))) (away c p k (one-if-false (inside (c .edges) p) h) r q e) ∙ ap one-if (both-left-false (t q) refl)
 
 away-live : (t : Place → Bool) (m : ℕ) (p : Place) (r : ℕ) (cells : List Cell) → Each Rowed cells → sumBy (λ c. one-if (inside (c .edges) p)) cells ≡ 0
     → liveUnder t (some (record { missed = m; last = some p })) r cells ≡ 0
@@ -370,11 +298,6 @@ entered-away t false true p (some l) r cells k h f = away-live t (l .missed) p r
 entered-away t false false p none r cells k h f = away-live t 1 p r cells k h
 entered-away t false false p (some l) r cells k h f = away-live t (l .missed + 1) p r cells k h
 
-either-one : (a b : Bool) → either a b ≡ true → 1 ≤ one-if a + one-if b
-unfolding either
-either-one true b e = omega arith
-either-one false b e = omega (arith, ap one-if e)
-
 count-held : (e : Option Place) → countLive (λ _. true) none e ≡ one-if (isSome e)
 count-held none = refl
 count-held (some p) = ap one-if (true-both true)
@@ -391,7 +314,7 @@ module _ (d : Cell) (rest : List Cell) (memo : Rows Line) (new on : ℕ → Bool
         live-cons (λ _. true) memo r d rest,
         a,
         count-held (find (d .entries) r),
-        either-one (isSome (find (d .entries) r)) n h,
+        one-if-either (isSome (find (d .entries) r)) n h,
         ap one-if e,
         live-le t memo r rest,
         live-true memo r rest,
@@ -464,16 +387,6 @@ find-enterEach-memo q b (w ∷ ws) k a c m =
     (λ t. rw (ih, t, find-enter-entries w k q pos c, find-enter-memo w k q pos m, t))
 
 module _ (d : Cell) (rest : List Cell) (memo : Rows Line) (new on : ℕ → Bool) (k : Books (d ∷ rest) memo new on) where
-  pub live-enter : (w : Row Report) → 0 < w .key → inside (d .edges) (w .val .place) ≡ true → new (w .key) ≡ w .val .new → (t : Place → Bool)
-      → liveBy t (enter w (record { entries = d .entries; memo = memo }) .memo) (w .key) (withEntries (enter w (record { entries = d .entries; memo = memo }) .entries) d ∷ rest)
-      ≡ one-if (t (w .val .place))
-  live-enter w h i e t =
-      let j : Work = record { entries = d .entries; memo = memo } in
-      let same = eq-eqb (w .key) (w .key) refl in
-      entered-live d rest memo new on k t (w .key) (w .val .new) (w .val .place) e i (enter w j .memo) (withEntries (enter w j .entries) d)
-      (rw same at (find-enter-memo w j (w .key) h (k .memo-rises)))
-      (rw same at (find-enter-entries w j (w .key) h (k .cells-rowed .0 .rising)))
-
   -- each radio's report is entered once, and the others touch neither its line nor its entry: what Books says before is all that is needed
   pub live-enterEach : (ws : Rows Report) → Rising 0 ws → (q : ℕ) (w : Report) → find ws q ≡ some w → inside (d .edges) (w .place) ≡ true → new q ≡ w .new → (t : Place → Bool)
       → liveBy t (enterEach ws (record { entries = d .entries; memo = memo }) .memo) q (withEntries (enterEach ws (record { entries = d .entries; memo = memo }) .entries) d ∷ rest)
@@ -522,8 +435,8 @@ live-off-other memo r h a cells q n t = live-line t memo (alter (raised none) r 
 -- a line that says "none" makes all stale
 raised-none : (t : Place → Bool) (o : Option Line) (e : Option Place) → countLive t (raised none o) e ≡ 0
 raised-none t o none = refl
-raised-none t none (some p) = ap one-if (false-both (t p))
-raised-none t (some l) (some p) = ap one-if (false-both (t p))
+raised-none t none (some p) = ap one-if (both-left-false (t p) refl)
+raised-none t (some l) (some p) = ap one-if (both-left-false (t p) refl)
 
 pub live-off : (memo : Rows Line) (r : ℕ) → 0 < r → Rising 0 memo → (cells : List Cell) → liveOf (alter (raised none) r memo) r cells ≡ 0
 live-off memo r h a cells =
@@ -532,11 +445,6 @@ live-off memo r h a cells =
     ∙ sum-zero _ cells (λ c. raised-none (λ _. true) (find memo r) (find (c .entries) r))
 
 -- ---- split
-
-split-count : (t : Place → Bool) (o : Option Line) (s : Row Place → Bool) (r : ℕ) (e : Option Place)
-    → countLive t o (passed s r e) + countLive t o (passed (λ x. not (s x)) r e) ≡ countLive t o e
-split-count t o s r none = refl
-split-count t o s r (some p) = by-cases (s (record { key = r; val = p })) (λ u. rw u (omega arith)) (λ u. rw u (omega arith))
 
 pub live-split : (d : Cell) (rest : List Cell) (memo : Rows Line) (c : Cut) (n : ℕ) → Rising 0 (d .entries) → (t : Place → Bool) (r : ℕ)
     → liveBy t memo r (lowCell c d ∷ highCell c n d ∷ rest) ≡ liveBy t memo r (d ∷ rest)
@@ -549,53 +457,19 @@ live-split d rest memo c n a t r =
       live-cons t memo r d rest,
       ap (countLive t (find memo r)) (find-filter (lowSide c) 0 r (d .entries) a),
       ap (countLive t (find memo r)) (find-filter (λ e. not (lowSide c e)) 0 r (d .entries) a),
-      split-count t (find memo r) (lowSide c) r (find (d .entries) r),
+      count-passed (λ p. both (not (staleBy (find memo r) p)) (t p)) (lowSide c) r (find (d .entries) r),
     )
 
 -- ---- join
 
--- an entry of a clean cell is live
-found-stale : (memo : Rows Line) (r : ℕ) (e : Option Place) → countFound (λ k v. one-if (staleBy (find memo k) v)) r e ≡ countIf (staleBy (find memo r)) e
-found-stale memo r none = refl
-found-stale memo r (some p) = refl
-
-clean-live : (memo : Rows Line) (c : Cell) (r : ℕ) → Clean memo c → countLive (λ _. true) (find memo r) (find (c .entries) r) ≡ one-if (isSome (find (c .entries) r))
-unfolding staleIn
-clean-live memo c r h =
-    count-no-stale (λ _. true) (find memo r) (find (c .entries) r)
-    (omega (arith, sum-found (λ k v. one-if (staleBy (find memo k) v)) r (c .entries), found-stale memo r (find (c .entries) r)))
-    ∙ count-held (find (c .entries) r)
-
-join-count : (t : Place → Bool) (o : Option Line) (e f : Option Place) → one-if (isSome e) + one-if (isSome f) ≤ 1 → countLive t o (orElse f e) ≡ countLive t o e + countLive t o f
-join-count t o none none h = refl
-join-count t o none (some q) h = omega arith
-join-count t o (some p) none h = omega arith
-join-count t o (some p) (some q) h = absurd (omega arith)
-
--- an entry of a radio in each would be two live ones
-apart-clean : (d n : Cell) (rest : List Cell) (memo : Rows Line) (new on : ℕ → Bool) → Books (d ∷ n ∷ rest) memo new on → Clean memo d → Clean memo n → (r : ℕ)
-    → one-if (isSome (find (d .entries) r)) + one-if (isSome (find (n .entries) r)) ≤ 1
-apart-clean d n rest memo new on k x y r =
-    omega (
-      arith,
-      live-one (d ∷ n ∷ rest) memo new on r k,
-      live-true memo r (d ∷ n ∷ rest),
-      live-cons (λ _. true) memo r d (n ∷ rest),
-      live-cons (λ _. true) memo r n rest,
-      clean-live memo d r x,
-      clean-live memo n r y,
-    )
-
 pub live-join : (d n j : Cell) (rest : List Cell) (memo : Rows Line) (new on : ℕ → Bool) → Books (d ∷ n ∷ rest) memo new on → Clean memo d → Clean memo n
     → j .entries ≡ merge (n .entries) (d .entries) → (t : Place → Bool) (r : ℕ) → liveBy t memo r (j ∷ rest) ≡ liveBy t memo r (d ∷ n ∷ rest)
 live-join d n j rest memo new on k x y e t r =
-    let f : find (j .entries) r ≡ orElse (find (n .entries) r) (find (d .entries) r) =
-    ap (λ es. find es r) e ∙ find-merge 0 r (n .entries) (d .entries) (k .cells-rowed .1 .0 .rising) (k .cells-rowed .0 .rising) in
     omega (
       arith,
       live-cons t memo r j rest,
-      ap (countLive t (find memo r)) f,
-      join-count t (find memo r) (find (d .entries) r) (find (n .entries) r) (apart-clean d n rest memo new on k x y r),
+      ap (λ es. countLive t (find memo r) (find es r)) e,
+      count-joined d n rest k x y (λ p. both (not (staleBy (find memo r) p)) (t p)) r,
       live-cons t memo r d (n ∷ rest),
       live-cons t memo r n rest,
     )

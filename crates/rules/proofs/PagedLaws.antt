@@ -8,34 +8,18 @@ use lib.Dec.{ltb}
 use lib.ListN.{length, length-append}
 use Rattle.terms.specs.Terms.{Place, pages, pageEntries, maxOn}
 use Rattle.lists.specs.Chains.{settledFree}
-use Rattle.lists.specs.Rows.{Rows, merge}
+use Rattle.lists.specs.Rows.{Rows}
 use Rattle.lists.specs.Sums.{sumBy, concat}
 use Rattle.lists.specs.Tests.{Each}
 use Rattle.lists.proofs.ChainsLaws.{sum-settled, length-settledChain, length-settledFree, settledFree-give}
-use Rattle.lists.proofs.SumsLaws.{sum-nil, sum-cons, sum-append, sum-const, sum-ext, sum-concat, sum-each, length-filter-not, length-each-once}
-use Rattle.lists.proofs.TestsLaws.{each-append, each-split}
+use Rattle.lists.proofs.SumsLaws.{sum-nil, sum-cons, sum-append, sum-const, sum-ext, sum-concat, sum-each, length-filter-not, length-each-once, sum-middle, sum-map}
+use Rattle.lists.proofs.TestsLaws.{each-append, each-split, each-middle, cond-holds}
 use Rattle.rules.specs.Limits.{maxCells, fullMemory, sweepEvery, joinEntries}
 use Rattle.rules.specs.Store.{Cell, Store, others, pagesFor, settled, freeAfter}
 use Rattle.rules.specs.Sweep.{stale, sweptEntries, swept, sweepFront}
 use Rattle.rules.specs.Cut.{Cut, lowSide}
-use Rattle.rules.specs.Flush.{Flushed, grown, unusedNumber, lowCell, highCell, splitAt, joinedEdges, smaller, larger, joinedWith}
+use Rattle.rules.specs.Flush.{joined, Flushed, grown, unusedNumber, lowCell, highCell, splitAt, smaller, larger, joinedWith}
 use Rattle.rules.proofs.Parts.{Paged}
-
--- ---- lists
-
-module _ {A : Type 0} where
-  -- an element in the middle
-  pub sum-middle : (f : A → ℕ) (xs : List A) (d : A) (ys : List A) → sumBy f (xs ++ (d ∷ ys)) ≡ sumBy f (xs ++ ys) + f d
-  sum-middle f xs d ys = omega (arith, sum-append f xs (d ∷ ys), sum-append f xs ys, sum-cons f d ys)
-
-  pub each-middle : (P : A → Type 0) (xs : List A) (d : A) (ys : List A) → Each P (xs ++ (d ∷ ys)) → P d × Each P (xs ++ ys)
-  each-middle P xs d ys h = let s = each-split P xs (d ∷ ys) h in (s .1 .0, each-append P xs ys (s .0) (s .1 .1))
-
-module _ {A B : Type 0} where
-  pub sum-map : (f : B → ℕ) (g : A → B) (l : List A) → sumBy f (map g l) ≡ sumBy (λ x. f (g x)) l
-  unfolding sumBy
-  sum-map f g [] = refl
-  sum-map f g (x ∷ xs) = omega (arith, sum-map f g xs)
 
 -- ---- pages that entries need
 
@@ -84,10 +68,6 @@ pages-few-split cells low high h l = omega (arith, pages-sum cells, pagesFor-ful
 -- ---- settling one cell
 
 module _ (free : List ℕ) (c : Cell) where
-  pub number-settled : settled free c .number ≡ c .number
-  unfolding settled
-  number-settled = refl
-
   pub entries-settled : settled free c .entries ≡ c .entries
   unfolding settled
   entries-settled = refl
@@ -209,17 +189,6 @@ paged-split xs ys d₀ low high free p e e′ h =
 
 -- ---- join
 
--- the cell that `joinedWith` puts at the end of the round
-abbrev pub joinedCell : Flushed → Cell → Cell
-joinedCell f n =
-    let d : Cell = settled (f .store .free) (f .cell) in
-    record {
-      number = smaller d n .number;
-      edges = joinedEdges (d .edges) (n .edges);
-      chain = smaller d n .chain;
-      entries = merge (sweptEntries (f .store .memo) (n .entries)) (d .entries);
-    }
-
 -- of two cells one survives, the other goes
 pub smaller-larger : (f : Cell → ℕ) (d n : Cell) → f (smaller d n) + f (larger d n) ≡ f d + f n
 smaller-larger f d n = go (ltb (d .number) (n .number))
@@ -229,11 +198,7 @@ smaller-larger f d n = go (ltb (d .number) (n .number))
     go false = omega arith
 
 pub smaller-holds : (P : Cell → Type 0) (d n : Cell) → P d → P n → P (smaller d n)
-smaller-holds P d n p q = go (ltb (d .number) (n .number))
-  where
-    go : (b : Bool) → P (cond b d n)
-    go true = p
-    go false = q
+smaller-holds P d n p q = cond-holds P (ltb (d .number) (n .number)) d n p q
 
 -- every page of a chain goes to the front of the free chain
 pub sum-freed : (f : ℕ → ℕ) (chain free : List ℕ) → sumBy f (settledFree 0 chain free) ≡ sumBy f chain + sumBy f free
@@ -299,13 +264,13 @@ module _ (f : Flushed) (xs ys : List Cell) (d₀ : Cell) (p : Paged (xs ++ (d₀
       (paged-split xs ys d₀ low high (f .store .free) p e refl (omega arith))
 
   pub joinedWith-paged : (n : Cell) (xs′ ys′ : List Cell) → xs ++ ys ≡ xs′ ++ (n ∷ ys′) → others (n .number) (f .rest) ≡ xs′ ++ ys′
-      → length (f .cell .entries) + length (n .entries) ≤ joinEntries → length (joinedCell f n .entries) ≤ length (f .cell .entries) + length (n .entries)
+      → length (f .cell .entries) + length (n .entries) ≤ joinEntries → length (joined f n .entries) ≤ length (f .cell .entries) + length (n .entries)
       → Paged (joinedWith f n .cells) (joinedWith f n .free)
   unfolding joinedWith
   joinedWith-paged n xs′ ys′ s r few h =
       let d : Cell = settled (f .store .free) (f .cell) in
-      subst (λ (l : List Cell). Paged (l ++ (joinedCell f n ∷ [])) (settledFree 0 (larger d n .chain) (freeAfter (f .store .free) (f .cell)))) (sym r)
-      (paged-join xs ys xs′ ys′ d₀ (f .cell) n (joinedCell f n) (f .store .free) p e s few refl h)
+      subst (λ (l : List Cell). Paged (l ++ (joined f n ∷ [])) (settledFree 0 (larger d n .chain) (freeAfter (f .store .free) (f .cell)))) (sym r)
+      (paged-join xs ys xs′ ys′ d₀ (f .cell) n (joined f n) (f .store .free) p e s few refl h)
 
 pub sweepFront-paged : (c : Cell) (cs : List Cell) (s : Store) → Paged (c ∷ cs) (s .free) → Paged (sweepFront (c ∷ cs) s .cells) (sweepFront (c ∷ cs) s .free)
 unfolding sweepFront swept sweptEntries

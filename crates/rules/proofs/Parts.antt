@@ -13,7 +13,7 @@ use Rattle.lists.specs.Tests.{one-if, Each, isSome}
 use Rattle.rules.specs.Limits.{lastMetre, maxCells, maxCuts, fullMemory, sweepEvery}
 use Rattle.rules.specs.Grid.{Axis, spanOf, inside, Cuts, cutsOf}
 use Rattle.rules.specs.Store.{Report, Line, Cell, Store, pagesFor}
-use Rattle.rules.specs.Sweep.{stale, staleBy}
+use Rattle.rules.specs.Sweep.{staleBy}
 use Rattle.rules.specs.Carry.{wasNew}
 use Rattle.rules.specs.WellFormed.{RisingCuts, OnCuts, countIf, liveOf, staleIn, InSquare, InSquareIf}
 

@@ -3,47 +3,47 @@ use mathlib.Core.Bool.{Bool, true, false, not, cond}
 use mathlib.Core.List.{List, [], _∷_, _++_, map}
 use mathlib.Core.Option.{Option, none, some}
 use mathlib.Core.Path.{_≡_, refl, sym, ap, _∙_, subst}
-use Prim.Native.Nat.{ℕ, _+_, _≤_}
+use Prim.Native.Nat.{ℕ, _+_, _≤_, _<_}
 use native.Mathlib.Omega.{arith}
+use lib.ListN.{length}
 use lib.Dec.{eqb, ltb}
 use borrow.Author.Tests.{eqb-true, eqb-false}
 use Rattle.terms.specs.Terms.{Place}
 use Rattle.lists.specs.Rows.{Rows, Rising, find, alter}
 use Rattle.lists.specs.Sums.{sumBy, filter, count}
 use Rattle.lists.specs.Tests.{both, isSome}
-use Rattle.lists.proofs.Cases.{by-cases, option-cases, list-cases}
+use Rattle.lists.proofs.Cases.{by-cases, option-cases, list-cases, none-some, isSome-false, false-true}
+use Rattle.lists.proofs.AmongLaws.{Among, sum-among, among-tail}
 use Rattle.lists.proofs.SumsLaws.{sum-cons}
-use Rattle.lists.proofs.TestsLaws.{both-right}
+use Rattle.lists.proofs.TestsLaws.{both-right, not-true}
 use Rattle.lists.proofs.RowsLaws.{find-alter, find-filter, rising-filter}
-use Rattle.rules.specs.Limits.{sweepEvery}
-use Rattle.rules.specs.Grid.{Box, cornerOf, inside}
+use Rattle.rules.specs.Limits.{sweepEvery, fullBox, fullMemory}
+use Rattle.rules.specs.Grid.{Box, cornerOf, inside, sameBox, boxOf}
 use Rattle.rules.specs.Store.{Report, Line, Cell, Store, others, settled, freeAfter}
 use Rattle.rules.specs.Sweep.{sweptEntries, swept, sweptMemo, sweepFront, tick}
 use Rattle.rules.specs.Cut.{Cut}
-use Rattle.rules.specs.Flush.{raised, entered, inBox, Flushed, flushedInto, grown, lowCell, highCell, unusedNumber, splitAt, beside, joinedWith, reshaped, cellOfBox, flush}
-use Rattle.rules.specs.Records.{report}
-use Rattle.rules.specs.Carry.{isOn, wasNew, placeOf, storedIn, signedOff, flushDue, afterReport}
-use Rattle.rules.specs.Plain.{Plain, plainOn, plainIn, plainFlush, plainAfter, plainOff}
+use Rattle.rules.specs.Flush.{joined, raised, entered, inBox, Flushed, flushedInto, grown, lowCell, highCell, unusedNumber, splitAt, beside, joinedWith, reshaped, cellOfBox, flush}
+use Rattle.rules.specs.Carry.{isOn, wasNew, placeOf, storedIn, signedOff, flushDue, afterReport, onCount, waitingIn, signedOn, reported, found, carriedOut, carry}
+use Rattle.rules.specs.Plain.{Plain, plainOn, plainIn, plainFlush, plainAfter, plainOff, plainPlace, plainDone, plainStep}
 use Rattle.rules.specs.WellFormed.{WellFormed}
-use Rattle.rules.proofs.Parts.{Books, Clean, Core, marks, onSet}
+use Rattle.rules.specs.Records.{Request, requestOf, refusal}
+use Rattle.lists.specs.Words.{Bytes}
+use Rattle.rules.proofs.Parts.{Books, Clean, Core, marks, onSet, Bounded}
 use Rattle.rules.proofs.WellLaws.{well-core}
 use Rattle.rules.proofs.LiveLaws.{liveBy, stored-none, stored-at, stored-same, live-one, live-order, live-back, live-swap, live-settled, live-sweep, live-off, live-off-other, live-split, live-join, live-flushed, live-flushed-other, find-enterEach-memo, sweptMemo-last}
-use Rattle.rules.proofs.BooksLaws.{books-front, books-swap, books-sweep, clean-swept, stale-sweep}
-use Rattle.rules.proofs.TilingLaws.{none-some, Among, sum-among, cellAt-split, home-some, others-among, round-others, named-neighbour}
+use Rattle.rules.proofs.BooksLaws.{books-swap, books-sweep, clean-swept, stale-sweep, books-among}
+use Rattle.rules.proofs.TilingLaws.{cellAt-split, home-some, others-among, round-others, named-neighbour}
 use Rattle.rules.proofs.CutLaws.{reshaped-cases}
-use Rattle.rules.proofs.PagedLaws.{joinedCell}
 use Rattle.rules.proofs.FlushLaws.{rest-is, tiled, books-before, books-flushed, clean-flushed, report-found, report-enters}
-use Rattle.rules.proofs.LinkLaws.{Link, due-same}
-
-none-is : {A : Type 0} (o : Option A) → not (isSome o) ≡ true → o ≡ none
-none-is none e = refl
-none-is (some a) e = let z : _≡_ {A = ℕ} 0 1 = cc in absurd (omega arith)
+use Rattle.rules.proofs.RecordLaws.{Accepted, on-passed, report-passed, off-passed, range-passed, accepted}
+use Rattle.rules.proofs.StepLaws.{report-done, on-core, report-core, off-core, put-few, put-boxes, put-bounded, answered-store}
+use Rattle.rules.proofs.LinkLaws.{Link, due-same, link-on, link-report, refusal-same}
 
 -- ---- sign-off
 
 -- a report marked new: nothing of its radio was flushed
 unflushed : (s : Store) (x : Plain) → Link s x → (r : ℕ) → wasNew (find (s .waiting) r) ≡ true → x .flushed r ≡ none
-unflushed s x k r u = none-is (x .flushed r) (both-right (x .waits r) (not (isSome (x .flushed r))) (sym (k .marked r) ∙ u))
+unflushed s x k r u = isSome-false (x .flushed r) (not-true (isSome (x .flushed r)) (both-right (x .waits r) (not (isSome (x .flushed r))) (sym (k .marked r) ∙ u)))
 
 raised-last : (o : Option Line) (l : Line) → raised none o ≡ some l → l .last ≡ none
 raised-last none l e = let z : record { missed = 1; last = none } ≡ l = cc in sym (ap (λ (y : Line). y .last) z)
@@ -154,17 +154,15 @@ module _ (f : Flushed) (b : Books (f .cell ∷ f .rest) (f .store .memo) (marks 
     left = a .before ++ a .after
 
     books-apart : Books (m ∷ f .cell ∷ left) (f .store .memo) (marks (f .store .waiting)) (onSet (f .store .on))
-    books-apart =
-        books-front (f .cell ∷ a .before) m (a .after)
-        (subst (λ (l : List Cell). Books (f .cell ∷ l) (f .store .memo) (marks (f .store .waiting)) (onSet (f .store .on))) (a .split) b)
+    books-apart = books-among (among-tail (f .cell) a) b
 
     abbrev memoThen : Rows Line
     memoThen = sweptMemo (f .store .memo) (m .entries)
 
-    join-live : (t : Place → Bool) (q : ℕ) → liveBy t memoThen q (joinedCell f m ∷ left) ≡ liveBy t (f .store .memo) q (f .cell ∷ f .rest)
+    join-live : (t : Place → Bool) (q : ℕ) → liveBy t memoThen q (joined f m ∷ left) ≡ liveBy t (f .store .memo) q (f .cell ∷ f .rest)
     unfolding settled swept
     join-live t q =
-        live-join (f .cell) (swept (f .store .memo) m) (joinedCell f m) left memoThen (marks (f .store .waiting)) (onSet (f .store .on))
+        live-join (f .cell) (swept (f .store .memo) m) (joined f m) left memoThen (marks (f .store .waiting)) (onSet (f .store .on))
         (books-swap (swept (f .store .memo) m) (f .cell) left (books-sweep m (f .cell ∷ left) books-apart)) (stale-sweep m (f .cell ∷ left) books-apart .0 ∙ clean) (clean-swept m (f .cell ∷ left) books-apart) refl t q
         ∙ live-swap t memoThen q (f .cell) (swept (f .store .memo) m) left
         ∙ live-sweep m (f .cell ∷ left) (f .store .memo) (marks (f .store .waiting)) (onSet (f .store .on)) books-apart t q
@@ -174,8 +172,8 @@ module _ (f : Flushed) (b : Books (f .cell ∷ f .rest) (f .store .memo) (marks 
     unfolding joinedWith
     leaves-join = record {
       live = λ t q.
-          subst (λ (l : List Cell). liveBy t memoThen q (l ++ (joinedCell f m ∷ [])) ≡ liveBy t (f .store .memo) q (f .cell ∷ f .rest)) (sym left-is)
-          (live-back t memoThen q left (joinedCell f m ∷ []) ∙ join-live t q);
+          subst (λ (l : List Cell). liveBy t memoThen q (l ++ (joined f m ∷ [])) ≡ liveBy t (f .store .memo) q (f .cell ∷ f .rest)) (sym left-is)
+          (live-back t memoThen q left (joined f m ∷ []) ∙ join-live t q);
       lines = λ q l e. sweptMemo-last q (f .store .memo) (m .entries) (books-apart .cells-rowed .0 .rising) (b .memo-rises) l e;
       waiting = refl;
       on = refl;
@@ -314,12 +312,9 @@ module _ (s : Store) (x : Plain) (k : Link s x) (m : Box) (d : Cell) (c : Core s
     stored = flushed-stored t v;
     lines = λ q l e. let o = v .lines q l e in sym (o .2) ∙ flushed-line q (o .0) (o .1);
     quiet = λ q. by-cases (plainIn (s .cuts) x m q) (λ u. rw u (λ e. refl)) (λ u. rw u (k .quiet q));
-    waits-on = λ q. by-cases (plainIn (s .cuts) x m q) (λ u. rw u (λ e. no-truth e)) (λ u. rw u (k .waits-on q));
+    waits-on = λ q. by-cases (plainIn (s .cuts) x m q) (λ u. rw u false-true) (λ u. rw u (k .waits-on q));
   }
     where
-      no-truth : {P : Type 0} → _≡_ {A = Bool} false true → P
-      no-truth e = let z : _≡_ {A = ℕ} 0 1 = cc in absurd (omega arith)
-
       flushed-on : flushedHere .store .on ≡ s .on
       flushed-on = unfold flushedInto in refl
 
@@ -350,3 +345,32 @@ link-after pick p s x k c =
     rw (← due-same s x k (c .waits) p) (option-cases (flushDue s p)
     (λ e. rw e k)
     (λ m e. rw e (link-flush pick m s x k c)))
+
+report-link : (pick : ℕ) (p : Place) (s : Store) (x : Plain) → Link s x → Core s → Bounded (s .memo) (s .cells) (length (s .waiting)) (s .tally + 1) → s .tally < sweepEvery
+    → length (s .waiting) ≤ fullMemory → ((n : Box) → sameBox n (boxOf (s .cuts) p) ≡ false → waitingIn (s .cuts) (s .waiting) n < fullBox)
+    → Link (tick (afterReport pick p s)) (plainAfter (s .cuts) p x)
+report-link pick p s x l k b t few boxes =
+    link-tick (afterReport pick p s) (plainAfter (s .cuts) p x) (link-after pick p s x l k) (report-done pick p s (s .tally + 1) k b (omega arith) few boxes .staged .core .books)
+
+done-link : (pick : ℕ) (q : Request) (s : Store) (x : Plain) (buffer : List ℕ) → WellFormed s → Link s x → Accepted (isOn s) (onCount s) q
+    → Link (carriedOut pick q s buffer .store) (plainDone (s .cuts) q x)
+unfolding carriedOut plainDone signedOn reported
+done-link pick q s x buffer w l (on-passed r p h k i off room) =
+    let f : Option Report → Option Report = λ _. some (record { place = p; new = true }) in
+    report-link pick p (signedOn r p s) (plainPlace r p x) (link-on s x l r p h (well-core s w .signed) (well-core s w .waits) off)
+    (on-core s w r p h k i off room) (put-bounded s w r h f p true refl) (w .tallied) (put-few s w r h f p true refl) (put-boxes s w r h f p true refl)
+done-link pick q s x buffer w l (report-passed r p h k i on) =
+    let f : Option Report → Option Report = λ o. some (record { place = p; new = wasNew o }) in
+    let b = wasNew (find (s .waiting) r) in
+    report-link pick p (reported r p s) (plainPlace r p x) (link-report s x l r p h (well-core s w .waits) on)
+    (report-core s w r p h k i on) (put-bounded s w r h f p b refl) (w .tallied) (put-few s w r h f p b refl) (put-boxes s w r h f p b refl)
+done-link pick q s x buffer w l (off-passed r h k on) = link-tick (signedOff r s) (plainOff r x) (link-off s x l r h w) (off-core s w r h k on .books)
+done-link pick q s x buffer w l (range-passed rect) = subst (λ (t : Store). Link t x) (sym (answered-store (found s rect) s buffer)) l
+
+pub step-link : (pick : ℕ) (s : Store) (x : Plain) (bytes buffer : List ℕ) → Bytes bytes → WellFormed s → Link s x
+    → Link (carry pick s bytes buffer .store) (plainStep (s .cuts) bytes x)
+unfolding carry plainStep
+step-link pick s x bytes buffer small w l =
+    rw (← refusal-same s x l (well-core s w .signed) bytes) (by-cases (eqb (refusal (isOn s) (onCount s) bytes) 0)
+    (λ t. rw t (done-link pick (requestOf bytes) s x buffer w l (accepted (isOn s) (onCount s) bytes small (eqb-true (refusal (isOn s) (onCount s) bytes) 0 t))))
+    (λ t. rw t l))

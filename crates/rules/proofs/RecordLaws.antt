@@ -2,19 +2,19 @@
 use mathlib.Core.Bool.{Bool, true, false, cond}
 use mathlib.Core.List.{List}
 use mathlib.Core.Option.{Option, none, some}
-use mathlib.Core.Path.{_≡_, refl, sym, _∙_}
+use mathlib.Core.Path.{_≡_, refl, _∙_}
 use Prim.Native.Nat.{ℕ, _≤_, _<_}
 use native.Mathlib.Omega.{arith}
 use lib.Dec.{eqb}
 use lib.ListN.{length}
 use borrow.Author.Tests.{lt-ltb, ltb-false, leb-false, eqb-true, eqb-false, not-false}
 use Rattle.terms.specs.Terms.{Place, maxRadio, maxOn}
-use Rattle.lists.specs.Rows.{Rows, Rising, UpTo, find, alter, insert}
-use Rattle.lists.specs.Tests.{both, either, Each, isSome}
+use Rattle.lists.specs.Rows.{Rows, find, alter, insert}
+use Rattle.lists.specs.Tests.{isSome}
 use Rattle.lists.specs.Words.{Bytes}
 use Rattle.lists.proofs.Cases.{by-cases}
-use Rattle.lists.proofs.RowsLaws.{find-alter, rising-alter, length-alter, length-alter-le, each-find, find-each}
-use Rattle.lists.proofs.TestsLaws.{either-left, either-right}
+use Rattle.lists.proofs.RowsLaws.{rising-alter, length-alter, length-alter-le, upTo-alter, find-alter-cases}
+use Rattle.lists.proofs.TestsLaws.{either-left, either-right, either-false, both-second}
 use Rattle.lists.proofs.WordsLaws.{word-small}
 use Rattle.rules.specs.Grid.{Rect}
 use Rattle.rules.specs.Store.{Report}
@@ -44,16 +44,6 @@ none-failed false false false false false false true h z = absurd (omega arith)
 none-failed false false false false false false false true z = absurd (omega arith)
 none-failed false false false false false false false false z = (refl, refl, refl, refl)
 
-either-false : (a b : Bool) → either a b ≡ false → (a ≡ false) × (b ≡ false)
-unfolding either
-either-false true b e = let z : _≡_ {A = ℕ} 0 1 = cc in absurd (omega arith)
-either-false false b e = (refl, e)
-
-both-false : (a b : Bool) → a ≡ true → both a b ≡ false → b ≡ false
-unfolding both
-both-false true b t e = e
-both-false false b t e = cc
-
 place-small : (b : List ℕ) → Bytes b → InSquare (placeField b)
 unfolding placeField
 place-small b small = (let h = word-small b 6 small in omega arith, let h = word-small b 8 small in omega arith)
@@ -62,7 +52,7 @@ module _ (on : ℕ → Bool) (howMany : ℕ) (b : List ℕ) (small : Bytes b) wh
   radio-small : kindField b < kindRange → noRadio b ≡ false → (1 ≤ radioField b) × (radioField b ≤ maxRadio)
   unfolding noRadio
   radio-small h e =
-      let t = either-false _ _ (both-false _ _ (lt-ltb (kindField b) kindRange h) e) in
+      let t = either-false _ _ (both-second _ _ (lt-ltb (kindField b) kindRange h) e) in
       (let u = eqb-false (radioField b) 0 (t .0) in omega (arith, u), ltb-false maxRadio (radioField b) (t .1))
 
   passed : refusal on howMany b ≡ 0 → (noRadio b ≡ false) × (onAlready on b ≡ false) × (notOn on b ≡ false) × (noRoom howMany b ≡ false)
@@ -76,60 +66,36 @@ module _ (on : ℕ → Bool) (howMany : ℕ) (b : List ℕ) (small : Bytes b) wh
       by-cases (eqb (kindField b) kindSignOn)
       (λ k. let z = eqb-true (kindField b) kindSignOn k in
       let r = radio-small (omega arith) (t .0) in
-      rw k (on-passed (radioField b) (placeField b) (r .0) (r .1) (place-small b small) (both-false _ _ k (t .1)) (leb-false maxOn howMany (both-false _ _ k (t .3)))))
+      rw k (on-passed (radioField b) (placeField b) (r .0) (r .1) (place-small b small) (both-second _ _ k (t .1)) (leb-false maxOn howMany (both-second _ _ k (t .3)))))
       (λ k. by-cases (eqb (kindField b) kindReport)
       (λ l. let z = eqb-true (kindField b) kindReport l in
       let r = radio-small (omega arith) (t .0) in
-      rw (k, l) (report-passed (radioField b) (placeField b) (r .0) (r .1) (place-small b small) (not-false _ (both-false _ _ (either-left _ l) (t .2)))))
+      rw (k, l) (report-passed (radioField b) (placeField b) (r .0) (r .1) (place-small b small) (not-false _ (both-second _ _ (either-left _ l) (t .2)))))
       (λ l. by-cases (eqb (kindField b) kindSignOff)
       (λ m. let z = eqb-true (kindField b) kindSignOff m in
       let r = radio-small (omega arith) (t .0) in
-      rw (k, l, m) (off-passed (radioField b) (r .0) (r .1) (not-false _ (both-false _ _ (either-right _ m) (t .2)))))
+      rw (k, l, m) (off-passed (radioField b) (r .0) (r .1) (not-false _ (both-second _ _ (either-right _ m) (t .2)))))
       (λ m. rw (k, l, m) (range-passed (rectField b)))))
-
--- ---- rows with one changed
-
-module _ {Val : Type 0} where
-  -- what holds of each row still does, if it holds of the new one
-  pub each-alter : (P : ℕ → Val → Type 0) (f : Option Val → Option Val) (r : ℕ) (l : Rows Val) → 0 < r → Rising 0 l
-      → Each (λ x. P (x .key) (x .val)) l → ((v : Val) → f (find l r) ≡ some v → P r v) → Each (λ x. P (x .key) (x .val)) (alter f r l)
-  each-alter P f r l h a e g =
-      find-each P 0 (alter f r l) (rising-alter f 0 r l h a) (λ q v k. changed q v (sym (find-alter f 0 r q l h a) ∙ k))
-    where
-      changed : (q : ℕ) (v : Val) → cond (eqb q r) (f (find l q)) (find l q) ≡ some v → P q v
-      changed q v =
-          by-cases (eqb q r)
-          (λ t. rw (t, eqb-true q r t) (λ k. g v k))
-          (λ t. rw t (λ k. each-find P q v l e k))
-
-  pub upTo-alter : (n : ℕ) (f : Option Val → Option Val) (r : ℕ) (l : Rows Val) → 0 < r → r ≤ n → Rising 0 l → UpTo n l → UpTo n (alter f r l)
-  upTo-alter n f r l h k a u = each-alter (λ q v. q ≤ n) f r l h a u (λ v e. k)
 
 -- ---- who is on
 
 pub signed-on : (r : ℕ) (on : Rows (Unit {0})) → 1 ≤ r → r ≤ maxRadio → length on < maxOn → Signed on → Signed (insert r tt on)
 signed-on r on h k few s = record {
   few-on = let t = length-alter-le (λ _. some tt) 0 r on h (s .rising-on) in omega arith;
-  radios-on = upTo-alter maxRadio (λ _. some tt) r on h k (s .rising-on) (s .radios-on);
+  radios-on = upTo-alter (λ _. some tt) maxRadio r on k (s .radios-on);
   rising-on = rising-alter (λ _. some tt) 0 r on h (s .rising-on);
 }
 
 pub signed-off : (r : ℕ) (on : Rows (Unit {0})) → 1 ≤ r → r ≤ maxRadio → Signed on → Signed (alter (λ _. none) r on)
 signed-off r on h k s = record {
   few-on = let t = length-alter (λ _. none) 0 r on h (s .rising-on) in let f = s .few-on in omega arith;
-  radios-on = upTo-alter maxRadio (λ _. none) r on h k (s .rising-on) (s .radios-on);
+  radios-on = upTo-alter (λ _. none) maxRadio r on k (s .radios-on);
   rising-on = rising-alter (λ _. none) 0 r on h (s .rising-on);
 }
 
 -- ---- what waits: one report put, or taken
 
 module _ (waiting : Rows Report) (on : Rows (Unit {0})) (s : Waits waiting on) (r : ℕ) (h : 1 ≤ r) (k : r ≤ maxRadio) (f : Option Report → Option Report) where
-  waiting-changed : (q : ℕ) (w : Report) (P : Type 0) → find (alter f r waiting) q ≡ some w → (q ≡ r → f (find waiting r) ≡ some w → P) → ((q ≡ r → ⊥) → find waiting q ≡ some w → P) → P
-  waiting-changed q w P e same other =
-      by-cases (eqb q r)
-      (λ t. same (eqb-true q r t) (rw (find-alter f 0 r q waiting h (s .waiting-rises), t, eqb-true q r t) at e))
-      (λ t. other (eqb-false q r t) (rw (find-alter f 0 r q waiting h (s .waiting-rises), t) at e))
-
   -- the new report's place is in the square, and it is marked or its radio on; every other radio is on as before
   pub waits-alter : (on′ : Rows (Unit {0})) → ((w : Report) → f (find waiting r) ≡ some w → InSquare (w .place))
       → ((w : Report) → f (find waiting r) ≡ some w → w .new ≡ false → isSome (find on′ r) ≡ true)
@@ -137,7 +103,7 @@ module _ (waiting : Rows Report) (on : Rows (Unit {0})) (s : Waits waiting on) (
       → Waits (alter f r waiting) on′
   waits-alter on′ placed marked kept = record {
     waiting-rises = rising-alter f 0 r waiting h (s .waiting-rises);
-    waiting-radios = upTo-alter maxRadio f r waiting h k (s .waiting-rises) (s .waiting-radios);
-    waiting-placed = λ q w e. waiting-changed q w (InSquare (w .place)) e (λ z g. placed w g) (λ z g. s .waiting-placed q w g);
-    unmarked = λ q w e u. waiting-changed q w (isSome (find on′ q) ≡ true) e (λ z g. rw z (marked w g u)) (λ z g. kept q z ∙ s .unmarked q w g u);
+    waiting-radios = upTo-alter f maxRadio r waiting k (s .waiting-radios);
+    waiting-placed = λ q w e. find-alter-cases f 0 r q w waiting h (s .waiting-rises) e (λ z g. placed w g) (λ z g. s .waiting-placed q w g);
+    unmarked = λ q w e u. find-alter-cases f 0 r q w waiting h (s .waiting-rises) e (λ z g. rw z (marked w g u)) (λ z g. kept q z ∙ s .unmarked q w g u);
   }

@@ -1,62 +1,24 @@
 -- The round inequality (Bounded): what is stale in the tails of the round, with what waits, through a record's effect, a flush and the tally's sweep.
-use mathlib.Core.Path.{_≡_, refl, sym, ap, subst, _∙_}
+use mathlib.Core.Path.{_≡_, refl, sym, subst, _∙_}
 use mathlib.Core.List.{List, [], _∷_, _++_}
-use Prim.Native.Nat.{ℕ, zero, suc, _+_, _-_, _*_, _≤_}
+use Prim.Native.Nat.{ℕ, suc, _+_, _-_, _*_, _≤_}
 use native.Mathlib.Omega.{arith}
 use lib.Dec.{ltb}
-use lib.ListN.{length, drop, length-append, drop-of-length-le}
-use lib.Seq.{drop-nil}
+use lib.ListN.{length, drop, length-append}
 use borrow.Author.Tests.{ltb-true, ltb-false}
 use Rattle.lists.specs.Rows.{Rows}
 use Rattle.lists.specs.Sums.{sumBy}
 use Rattle.lists.specs.Tests.{one-if, Each}
 use Rattle.lists.proofs.Cases.{by-cases}
-use Rattle.lists.proofs.SumsLaws.{sum-nil, sum-each, sum-filter}
+use Rattle.lists.proofs.SumsLaws.{sum-each, sum-filter, sum-drop-all, sum-drop-middle, sum-drop-ends}
+use Rattle.lists.proofs.TestsLaws.{each-drop}
 use Rattle.rules.specs.Limits.{maxCells, fullMemory, sweepEvery}
 use Rattle.rules.specs.Store.{Line, Cell, Store, others, settled, freeAfter}
 use Rattle.rules.specs.Sweep.{stale, sweptMemo, swept, sweepFront}
 use Rattle.rules.specs.Cut.{Cut, lowSide}
-use Rattle.rules.specs.Flush.{Flushed, grown, unusedNumber, lowCell, highCell, splitAt, joinedWith}
+use Rattle.rules.specs.Flush.{joined, Flushed, grown, unusedNumber, lowCell, highCell, splitAt, joinedWith}
 use Rattle.rules.specs.WellFormed.{staleIn}
 use Rattle.rules.proofs.Parts.{Clean, Bounded}
-use Rattle.rules.proofs.PagedLaws.{joinedCell}
-
--- ---- lists
-
-module _ {A : Type 0} where
-  pub each-drop : (P : A → Type 0) (k : ℕ) (l : List A) → Each P l → Each P (drop k l)
-  each-drop P zero l h = h
-  each-drop P (suc k) [] h = tt
-  each-drop P (suc k) (x ∷ xs) h = each-drop P k xs (h .1)
-
-  pub sum-drop-suc : (f : A → ℕ) (k : ℕ) (l : List A) → sumBy f (drop (suc k) l) ≤ sumBy f (drop k l)
-  unfolding sumBy
-  sum-drop-suc f zero [] = omega arith
-  sum-drop-suc f (suc k) [] = omega arith
-  sum-drop-suc f zero (x ∷ xs) = omega arith
-  sum-drop-suc f (suc k) (x ∷ xs) = sum-drop-suc f k xs
-
-  -- past the end nothing is left
-  pub sum-drop-all : (f : A → ℕ) (k : ℕ) (l : List A) → length l ≤ k → sumBy f (drop k l) ≡ 0
-  sum-drop-all f k l h = ap (sumBy f) (drop-of-length-le l {i = k} h) ∙ sum-nil f
-
-  -- an element taken out moves later ones forward: no tail sum grows
-  pub tail-without : (f : A → ℕ) (d : A) (xs ys : List A) (k : ℕ) → sumBy f (drop k (xs ++ ys)) ≤ sumBy f (drop k (xs ++ (d ∷ ys)))
-  unfolding sumBy
-  tail-without f d [] ys zero = omega arith
-  tail-without f d [] ys (suc k) = sum-drop-suc f k ys
-  tail-without f d (a ∷ xs) ys zero = omega (arith, tail-without f d xs ys zero)
-  tail-without f d (a ∷ xs) ys (suc k) = tail-without f d xs ys k
-
-  -- elements of no weight at the end weigh nothing in any tail
-  pub sum-drop-ends : (f : A → ℕ) (k : ℕ) (l ends : List A) → Each (λ e. f e ≡ 0) ends → sumBy f (drop k (l ++ ends)) ≡ sumBy f (drop k l)
-  unfolding sumBy
-  sum-drop-ends f zero [] [] z = refl
-  sum-drop-ends f zero [] (e ∷ es) z = omega (arith, z .0, sum-drop-ends f zero [] es (z .1))
-  sum-drop-ends f (suc k) [] [] z = refl
-  sum-drop-ends f (suc k) [] (e ∷ es) z = sum-drop-ends f k [] es (z .1) ∙ ap (sumBy f) (drop-nil k)
-  sum-drop-ends f zero (x ∷ xs) ends z = omega (arith, sum-drop-ends f zero xs ends z)
-  sum-drop-ends f (suc k) (x ∷ xs) ends z = sum-drop-ends f k xs ends z
 
 -- ---- single changes
 
@@ -80,7 +42,7 @@ bounded-same memo memo′ cells w c b h =
 -- a cell is taken out
 pub bounded-out : (memo : Rows Line) (xs ys : List Cell) (d : Cell) (w c : ℕ) → Bounded memo (xs ++ (d ∷ ys)) w c → Bounded memo (xs ++ ys) w c
 unfolding Bounded
-bounded-out memo xs ys d w c b = λ k l. omega (arith, b k (omega (arith, l, length-append xs ys, length-append xs (d ∷ ys))), tail-without (staleIn memo) d xs ys k)
+bounded-out memo xs ys d w c b = λ k l. omega (arith, b k (omega (arith, l, length-append xs ys, length-append xs (d ∷ ys))), sum-drop-middle (staleIn memo) d xs ys k)
 
 -- cells without stale entries come to the end; there what waits must keep the bound alone
 pub bounded-ends : (memo : Rows Line) (cells ends : List Cell) (w c : ℕ) → Bounded memo cells w c → Each (Clean memo) ends → w ≤ c + (fullMemory - 1) → Bounded memo (cells ++ ends) w c
@@ -160,12 +122,12 @@ module _ (f : Flushed) (memo : Rows Line) (xs ys : List Cell) (d : Cell) (w w′
       (bounded-flush memo memo′ xs ys _ d w w′ n c b e g (stale-settled memo′ (f .store .free) low ∙ omega arith, (stale-settled memo′ free high ∙ omega arith, tt)) h)
 
   pub joinedWith-bounded : (m : Cell) (xs′ ys′ : List Cell) → xs ++ ys ≡ xs′ ++ (m ∷ ys′) → others (m .number) (f .rest) ≡ xs′ ++ ys′
-      → Each (λ x. staleIn (joinedWith f m .memo) x ≡ staleIn (f .store .memo) x) (xs′ ++ ys′) → Clean (joinedWith f m .memo) (joinedCell f m)
+      → Each (λ x. staleIn (joinedWith f m .memo) x ≡ staleIn (f .store .memo) x) (xs′ ++ ys′) → Clean (joinedWith f m .memo) (joined f m)
       → Bounded (joinedWith f m .memo) (joinedWith f m .cells) w′ c
   unfolding joinedWith
   joinedWith-bounded m xs′ ys′ s r q z =
-      subst (λ (l : List Cell). Bounded (joinedWith f m .memo) (l ++ (joinedCell f m ∷ [])) w′ c) (sym r)
-      (bounded-join memo (f .store .memo) (joinedWith f m .memo) xs ys xs′ ys′ d m (joinedCell f m) w w′ n c b e g s q z h)
+      subst (λ (l : List Cell). Bounded (joinedWith f m .memo) (l ++ (joined f m ∷ [])) w′ c) (sym r)
+      (bounded-join memo (f .store .memo) (joinedWith f m .memo) xs ys xs′ ys′ d m (joined f m) w w′ n c b e g s q z h)
 
 pub sweepFront-bounded : (d : Cell) (cs : List Cell) (s : Store) (w c : ℕ) → Bounded (s .memo) (d ∷ cs) w c → c ≤ sweepEvery → w ≤ fullMemory - 1 → length (d ∷ cs) ≤ maxCells
     → Each (λ e. staleIn (sweptMemo (s .memo) (d .entries)) e ≡ staleIn (s .memo) e) cs → Clean (sweptMemo (s .memo) (d .entries)) (swept (s .memo) d)

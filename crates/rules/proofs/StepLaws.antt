@@ -1,4 +1,4 @@
--- Every call, with any bytes and any name of a neighbour, leaves a well-formed store where it found one, linked to the plain rule where it was.
+-- Every call, with any bytes and any name of a neighbour, leaves a well-formed store where it found one.
 use mathlib.Core.Bool.{Bool, true, false, not}
 use mathlib.Core.List.{List, [], _∷_, _++_}
 use mathlib.Core.Option.{Option, none, some}
@@ -10,32 +10,27 @@ use lib.ListN.{length}
 use borrow.Author.Tests.{ltb-true, ltb-false, eqb-true, eq-eqb, ne-eqb}
 use Rattle.terms.specs.Terms.{Place, maxRadio, maxOn}
 use Rattle.lists.specs.Rows.{Rows, find, alter, insert}
-use Rattle.lists.specs.Sums.{sumBy}
 use Rattle.lists.specs.Tests.{one-if}
 use Rattle.lists.specs.Words.{Bytes}
-use Rattle.lists.proofs.Cases.{by-cases, option-cases, list-cases}
+use Rattle.lists.proofs.Cases.{by-cases, option-cases, list-cases, none-some, false-true, some-injective}
 use Rattle.lists.proofs.RowsLaws.{find-alter, length-alter, length-alter-le}
-use Rattle.lists.proofs.SumsLaws.{sum-nil}
-use Rattle.lists.proofs.TestsLaws.{both-intro}
+use Rattle.lists.proofs.TestsLaws.{both-intro, one-if-le}
 use Rattle.rules.specs.Limits.{fullBox, fullMemory, sweepEvery}
-use Rattle.rules.specs.Grid.{Box, sameBox, boxOf, cornerOf, inside}
+use Rattle.rules.specs.Grid.{Box, sameBox, boxOf, cornerOf}
 use Rattle.rules.specs.Store.{Report, Cell, Store, settled}
 use Rattle.rules.specs.Sweep.{swept, sweptMemo, sweepFront, tick}
 use Rattle.rules.specs.Flush.{flushedInto, reshaped, cellOfBox, flush}
-use Rattle.rules.specs.Records.{Request, report, requestOf, refusal}
+use Rattle.rules.specs.Records.{Request, requestOf, refusal}
 use Rattle.rules.specs.Carry.{isOn, onCount, wasNew, signedOn, reported, signedOff, waitingIn, flushDue, afterReport, found, listBytes, answered, carriedOut, carry}
-use Rattle.rules.specs.Plain.{Plain, plainPlace, plainAfter, plainOff, plainDone, plainStep}
 use Rattle.rules.specs.WellFormed.{InSquare, WellFormed}
 use Rattle.rules.proofs.Parts.{Tiling, Books, Paged, Bounded, Core, marks, onSet}
 use Rattle.rules.proofs.WellLaws.{well-core, well-bounded, core-well}
 use Rattle.rules.proofs.RecordLaws.{Accepted, on-passed, report-passed, off-passed, range-passed, accepted, signed-on, signed-off, waits-alter}
 use Rattle.rules.proofs.BooksLaws.{books-ext, books-on, books-off, stale-off, books-sweep, clean-swept, stale-sweep, books-same, books-back, marks-signedOn, marks-reported, marks-signedOff, on-signedOn, on-signedOff}
-use Rattle.rules.proofs.TilingLaws.{none-some, cellAt-split, home-some, tiling-move}
+use Rattle.rules.proofs.TilingLaws.{cellAt-split, home-some, tiling-move, some-cell}
 use Rattle.rules.proofs.CutLaws.{box-same, waiting-new, waiting-less, length-cleared, waiting-cleared, most-some, due-none, due-some, reshaped-waiting, reshaped-tally, waiting-reshaped, flush-cases}
 use Rattle.rules.proofs.PagedLaws.{sweepFront-paged}
 use Rattle.rules.proofs.RoundLaws.{bounded-record, sweepFront-bounded}
-use Rattle.rules.proofs.LinkLaws.{Link, link-on, link-report, refusal-same}
-use Rattle.rules.proofs.PlainLaws.{link-off, link-tick, link-after}
 use Rattle.rules.proofs.FlushLaws.{Staged, ready, reshaped-staged}
 
 -- room for the next report: what holds of the waiting between two calls
@@ -149,12 +144,6 @@ module _ (s : Store) (d : Cell) (cs : List Cell) (e : s .cells ≡ d ∷ cs) (x 
       (omega (arith, x .roomy .few)) (front-tiling .few-cells) (stale-sweep d cs front-books) (clean-swept d cs front-books))
       (x .roomy .few) (x .roomy .boxes) (omega arith)
 
--- the square is tiled, so there is a cell
-some-cell : (s : Store) → Tiling (s .cuts) (s .cells) → s .cells ≡ [] → ⊥
-some-cell s t e =
-    let corner : Place = record { east = 0; north = 0 } in
-    omega (arith, t .tiled corner (omega arith, omega arith), ap (λ (l : List Cell). sumBy (λ c. one-if (inside (c .edges) corner)) l) e, sum-nil (λ (c : Cell). one-if (inside (c .edges) corner)))
-
 pub tick-well : (s : Store) → s .tally < sweepEvery → Done s (s .tally + 1) → WellFormed (tick s)
 unfolding tick
 tick-well s t x =
@@ -163,7 +152,7 @@ tick-well s t x =
     (λ u. let h = ltb-false (s .tally + 1) sweepEvery u in
     let z : s .tally + 1 ≡ sweepEvery = omega arith in
     rw u (list-cases (s .cells)
-    (λ e. absurd (some-cell s (x .staged .core .tiling) e))
+    (λ e. absurd (omega (arith, some-cell (x .staged .core .tiling), ap length e)))
     (λ d cs e. subst (λ (l : List Cell). WellFormed (sweepFront l s)) (sym e) (front-well s d cs e (subst (Done s) z x)))))
   where
     counted-core : Core s → Core (record { cuts = s .cuts; cells = s .cells; free = s .free; waiting = s .waiting; memo = s .memo; on = s .on; tally = s .tally + 1 })
@@ -175,16 +164,16 @@ box-other : (n m : Box) → sameBox n m ≡ false → sameBox m n ≡ false
 box-other n m t =
     by-cases (sameBox m n)
     (λ u. let same : sameBox n m ≡ true = subst (λ (k : Box). sameBox n k ≡ true) (sym (box-same m n u)) (both-intro (eq-eqb (n .east) (n .east) refl) (eq-eqb (n .north) (n .north) refl)) in
-    absurd (let z : _≡_ {A = Bool} true false = sym same ∙ t in let v : _≡_ {A = ℕ} 0 1 = cc in omega arith))
+    false-true (sym t ∙ same))
     (λ u. u)
 
 -- a report is put among the waiting: one more waits, in the memory cell of its place
 module _ (s : Store) (w : WellFormed s) (r : ℕ) (h : 1 ≤ r) (f : Option Report → Option Report) (p : Place) (b : Bool)
     (put : f (find (s .waiting) r) ≡ some (record { place = p; new = b })) where
-  put-few : length (alter f r (s .waiting)) ≤ fullMemory
+  pub put-few : length (alter f r (s .waiting)) ≤ fullMemory
   put-few = omega (arith, length-alter-le f 0 r (s .waiting) h (w .waiting-rises), w .few-wait)
 
-  put-boxes : (n : Box) → sameBox n (boxOf (s .cuts) p) ≡ false → waitingIn (s .cuts) (alter f r (s .waiting)) n < fullBox
+  pub put-boxes : (n : Box) → sameBox n (boxOf (s .cuts) p) ≡ false → waitingIn (s .cuts) (alter f r (s .waiting)) n < fullBox
   put-boxes n t =
       omega (
         arith,
@@ -193,12 +182,12 @@ module _ (s : Store) (w : WellFormed s) (r : ℕ) (h : 1 ≤ r) (f : Option Repo
         ap one-if (box-other n (boxOf (s .cuts) p) t),
       )
 
-  put-bounded : Bounded (s .memo) (s .cells) (length (alter f r (s .waiting))) (s .tally + 1)
+  pub put-bounded : Bounded (s .memo) (s .cells) (length (alter f r (s .waiting))) (s .tally + 1)
   put-bounded =
       bounded-record (s .memo) (s .memo) (s .cells) (length (s .waiting)) (length (alter f r (s .waiting))) (s .tally) (well-bounded s w)
       (λ k. omega (arith, length-alter-le f 0 r (s .waiting) h (w .waiting-rises)))
 
-on-core : (s : Store) (w : WellFormed s) (r : ℕ) (p : Place) → 1 ≤ r → r ≤ maxRadio → InSquare p → isOn s r ≡ false → onCount s < maxOn → Core (signedOn r p s)
+pub on-core : (s : Store) (w : WellFormed s) (r : ℕ) (p : Place) → 1 ≤ r → r ≤ maxRadio → InSquare p → isOn s r ≡ false → onCount s < maxOn → Core (signedOn r p s)
 unfolding signedOn isOn onCount
 on-core s w r p h k q off room =
     let c = well-core s w in
@@ -208,18 +197,15 @@ on-core s w r p h k q off room =
       paged = c .paged;
       signed = signed-on r (s .on) h k room (c .signed);
       waits = waits-alter (s .waiting) (s .on) (c .waits) r h k (λ _. some (record { place = p; new = true })) (insert r tt (s .on))
-          (λ v e. subst (λ (z : Report). InSquare (z .place)) (some-inj e) q)
+          (λ v e. subst (λ (z : Report). InSquare (z .place)) (some-injective e) q)
           (λ v e u. absurd (not-marked v e u))
           (λ n z. rw (find-alter (λ _. some tt) 0 r n (s .on) h (w .rising-on), ne-eqb n r z));
     }
   where
-    some-inj : {A : Type 0} {x y : A} → some x ≡ some y → x ≡ y
-    some-inj e = cc
-
     not-marked : (v : Report) → some (record { place = p; new = true }) ≡ some v → v .new ≡ false → ⊥
-    not-marked v e u = let z : true ≡ v .new = ap (λ (x : Report). x .new) (some-inj e) in let y : _≡_ {A = ℕ} 0 1 = cc in omega arith
+    not-marked v e u = false-true (sym u ∙ sym (ap (λ (x : Report). x .new) (some-injective e)))
 
-report-core : (s : Store) (w : WellFormed s) (r : ℕ) (p : Place) → 1 ≤ r → r ≤ maxRadio → InSquare p → isOn s r ≡ true → Core (reported r p s)
+pub report-core : (s : Store) (w : WellFormed s) (r : ℕ) (p : Place) → 1 ≤ r → r ≤ maxRadio → InSquare p → isOn s r ≡ true → Core (reported r p s)
 unfolding reported isOn
 report-core s w r p h k q on =
     let c = well-core s w in
@@ -229,15 +215,12 @@ report-core s w r p h k q on =
       paged = c .paged;
       signed = c .signed;
       waits = waits-alter (s .waiting) (s .on) (c .waits) r h k (λ o. some (record { place = p; new = wasNew o })) (s .on)
-          (λ v e. subst (λ (z : Report). InSquare (z .place)) (some-inj e) q)
+          (λ v e. subst (λ (z : Report). InSquare (z .place)) (some-injective e) q)
           (λ v e u. on)
           (λ n z. refl);
     }
-  where
-    some-inj : {A : Type 0} {x y : A} → some x ≡ some y → x ≡ y
-    some-inj e = cc
 
-off-core : (s : Store) (w : WellFormed s) (r : ℕ) → 1 ≤ r → r ≤ maxRadio → isOn s r ≡ true → Core (signedOff r s)
+pub off-core : (s : Store) (w : WellFormed s) (r : ℕ) → 1 ≤ r → r ≤ maxRadio → isOn s r ≡ true → Core (signedOff r s)
 unfolding signedOff isOn
 off-core s w r h k on =
     let c = well-core s w in
@@ -301,14 +284,10 @@ off-well s w r h k on =
         boxes = λ n. omega (arith, waiting-less (s .cuts) (λ _. none) r (s .waiting) n h (w .waiting-rises) refl, w .few-in-box n);
       };
     })
-  where
-    one-if-le : (b : Bool) → one-if b ≤ 1
-    one-if-le true = omega arith
-    one-if-le false = omega arith
 
 -- ---- any call
 
-answered-store : (l : Rows Place) (s : Store) (buffer : List ℕ) → answered l s buffer .store ≡ s
+pub answered-store : (l : Rows Place) (s : Store) (buffer : List ℕ) → answered l s buffer .store ≡ s
 unfolding answered
 answered-store l s buffer = by-cases (ltb (length buffer) (listBytes * length l)) (λ t. rw t) (λ t. rw t)
 
@@ -325,34 +304,3 @@ step-well pick s bytes buffer small w =
     by-cases (eqb (refusal (isOn s) (onCount s) bytes) 0)
     (λ t. rw t (done-well pick (requestOf bytes) s buffer w (accepted (isOn s) (onCount s) bytes small (eqb-true (refusal (isOn s) (onCount s) bytes) 0 t))))
     (λ t. rw t w)
-
--- ---- beside the plain rule
-
-report-link : (pick : ℕ) (p : Place) (s : Store) (x : Plain) → Link s x → Core s → Bounded (s .memo) (s .cells) (length (s .waiting)) (s .tally + 1) → s .tally < sweepEvery
-    → length (s .waiting) ≤ fullMemory → ((n : Box) → sameBox n (boxOf (s .cuts) p) ≡ false → waitingIn (s .cuts) (s .waiting) n < fullBox)
-    → Link (tick (afterReport pick p s)) (plainAfter (s .cuts) p x)
-report-link pick p s x l k b t few boxes =
-    link-tick (afterReport pick p s) (plainAfter (s .cuts) p x) (link-after pick p s x l k) (report-done pick p s (s .tally + 1) k b (omega arith) few boxes .staged .core .books)
-
-done-link : (pick : ℕ) (q : Request) (s : Store) (x : Plain) (buffer : List ℕ) → WellFormed s → Link s x → Accepted (isOn s) (onCount s) q
-    → Link (carriedOut pick q s buffer .store) (plainDone (s .cuts) q x)
-unfolding carriedOut plainDone signedOn reported
-done-link pick q s x buffer w l (on-passed r p h k i off room) =
-    let f : Option Report → Option Report = λ _. some (record { place = p; new = true }) in
-    report-link pick p (signedOn r p s) (plainPlace r p x) (link-on s x l r p h (well-core s w .signed) (well-core s w .waits) off)
-    (on-core s w r p h k i off room) (put-bounded s w r h f p true refl) (w .tallied) (put-few s w r h f p true refl) (put-boxes s w r h f p true refl)
-done-link pick q s x buffer w l (report-passed r p h k i on) =
-    let f : Option Report → Option Report = λ o. some (record { place = p; new = wasNew o }) in
-    let b = wasNew (find (s .waiting) r) in
-    report-link pick p (reported r p s) (plainPlace r p x) (link-report s x l r p h (well-core s w .waits) on)
-    (report-core s w r p h k i on) (put-bounded s w r h f p b refl) (w .tallied) (put-few s w r h f p b refl) (put-boxes s w r h f p b refl)
-done-link pick q s x buffer w l (off-passed r h k on) = link-tick (signedOff r s) (plainOff r x) (link-off s x l r h w) (off-core s w r h k on .books)
-done-link pick q s x buffer w l (range-passed rect) = subst (λ (t : Store). Link t x) (sym (answered-store (found s rect) s buffer)) l
-
-pub step-link : (pick : ℕ) (s : Store) (x : Plain) (bytes buffer : List ℕ) → Bytes bytes → WellFormed s → Link s x
-    → Link (carry pick s bytes buffer .store) (plainStep (s .cuts) bytes x)
-unfolding carry plainStep
-step-link pick s x bytes buffer small w l =
-    rw (← refusal-same s x l (well-core s w .signed) bytes) (by-cases (eqb (refusal (isOn s) (onCount s) bytes) 0)
-    (λ t. rw t (done-link pick (requestOf bytes) s x buffer w l (accepted (isOn s) (onCount s) bytes small (eqb-true (refusal (isOn s) (onCount s) bytes) 0 t))))
-    (λ t. rw t l))

@@ -1,140 +1,32 @@
 -- The cells tile the square and are whole memory cells: where a place and its memory cell lie, and that a flush, a split and a join keep the tiling.
 use mathlib.Core.Path.{_≡_, refl, sym, ap, ap₂, _∙_, subst}
-use mathlib.Core.Bool.{Bool, true, false, cond}
+use mathlib.Core.Bool.{Bool, true, false}
 use mathlib.Core.List.{List, [], _∷_, _++_, map}
-use mathlib.Core.Option.{Option, none, some}
-use Prim.Native.Nat.{ℕ, zero, suc, _+_, _-_, _≤_, _<_, min, max}
+use mathlib.Core.Option.{none, some}
+use Prim.Native.Nat.{ℕ, zero, suc, _+_, _≤_, _<_, min}
 use native.Mathlib.Omega.{arith}
 use native.Mathlib.Nat.{le-of-suc-le-suc, not-suc-le-zero}
 use lib.Dec.{eqb, leb, ltb}
 use lib.ListN.{length, getD, length-map}
 use borrow.Author.Tests.{le-leb, lt-leb, ltb-true, ltb-false, leb-true, leb-false, eqb-true, eqb-false, eq-eqb, ne-eqb}
 use Rattle.terms.specs.Terms.{Place}
-use Rattle.lists.specs.Parts.{tab}
 use Rattle.lists.specs.Sort.{sortIn}
-use Rattle.lists.specs.Sums.{sumBy, filter, count, sumTo}
-use Rattle.lists.specs.Tests.{one-if, both, either, Each, firstAt}
-use Rattle.lists.proofs.Cases.{by-cases, option-cases}
-use Rattle.lists.proofs.PartsLaws.{length-tab, getD-tab}
-use Rattle.lists.proofs.SumsLaws.{sum-cons, sum-append, sum-const, sum-le, sum-each, sumTo-le, sumTo-const, sumTo-one, sumTo-sumBy, count-head}
-use Rattle.lists.proofs.TestsLaws.{both-left, both-right, both-intro, either-cases, each-map, each-append, each-split, firstAt-some, firstAt-none}
+use Rattle.lists.specs.Sums.{sumBy, filter, count}
+use Rattle.lists.specs.Tests.{one-if, both, either, Each}
+use Rattle.lists.proofs.Cases.{by-cases, option-cases, none-some, false-true, list-cases}
+use Rattle.lists.proofs.AmongLaws.{Among, among-head, among-tail, sum-among}
+use Rattle.lists.proofs.SortLaws.{sum-sortIn, each-sortIn}
+use Rattle.lists.proofs.SumsLaws.{sum-const, sum-each, count-head, sum-middle, sum-one, sum-last, sum-last-two, length-sum, sum-map, sum-add-le, each-count, count-cons, sum-nil, firstAt-unused}
+use Rattle.lists.proofs.TestsLaws.{both-left, both-right, both-intro, either-cases, each-map, each-append, each-middle, each-getD-or, bool-ext, one-if-le}
 use Rattle.rules.specs.Limits.{lastMetre, maxCells, maxCuts, joinEntries}
-use Rattle.rules.specs.Grid.{Axis, eastward, northward, along, across, Span, within, sameSpan, Rect, spanOf, withSpan, inside, square}
+use Rattle.rules.specs.Grid.{Axis, eastward, northward, along, across, Span, within, Rect, spanOf, withSpan, inside, square}
 use Rattle.rules.specs.Grid.{Cuts, cutsOf, withCuts, stripe, stripeLow, Box, boxOf, cornerOf}
 use Rattle.rules.specs.Store.{Cell, fresh, cellAt, others}
 use Rattle.rules.specs.Cut.{Cut, through}
-use Rattle.rules.specs.Flush.{Flushed, addCut, unusedNumber, touch, beside, joinable, neighbours, named, hull, joinedEdges, smaller}
+use Rattle.rules.specs.Flush.{Flushed, addCut, unusedNumber, beside, joinable, neighbours, named, hull, joinedEdges, smaller}
 use Rattle.rules.specs.WellFormed.{RisingCuts, OnCuts, InSquare}
 use Rattle.rules.proofs.Parts.{Edged, Tiling}
-
--- ---- lists
-
-module _ {A : Type 0} where
-  -- one element of a list, wherever it stands
-  pub sum-split : (f : A → ℕ) (us : List A) (d : A) (vs : List A) → sumBy f (us ++ (d ∷ vs)) ≡ f d + sumBy f (us ++ vs)
-  unfolding sumBy
-  sum-split f [] d vs = refl
-  sum-split f (x ∷ us) d vs = omega (arith, sum-split f us d vs)
-
-  pub sum-one : (f : A → ℕ) (x : A) → sumBy f (x ∷ []) ≡ f x
-  unfolding sumBy
-  sum-one f x = omega arith
-
-  pub sum-last : (f : A → ℕ) (l : List A) (x : A) → sumBy f (l ++ (x ∷ [])) ≡ sumBy f l + f x
-  sum-last f l x = omega (arith, sum-append f l (x ∷ []), sum-one f x)
-
-  pub sum-last-two : (f : A → ℕ) (l : List A) (x y : A) → sumBy f (l ++ (x ∷ y ∷ [])) ≡ sumBy f l + f x + f y
-  sum-last-two f l x y = omega (arith, sum-append f l (x ∷ y ∷ []), sum-cons f x (y ∷ []), sum-one f y)
-
-  pub length-sum : (l : List A) → length l ≡ sumBy (λ _. 1) l
-  length-sum l = omega (arith, sum-const 1 l)
-
-  pub each-middle : (P : A → Type 0) (us : List A) (d : A) (vs : List A) → Each P (us ++ (d ∷ vs)) → P d × Each P (us ++ vs)
-  each-middle P us d vs e = let t = each-split P us (d ∷ vs) e in (t .1 .0, each-append P us vs (t .0) (t .1 .1))
-
-module _ {A B : Type 0} where
-  pub sum-map : (f : B → ℕ) (g : A → B) (l : List A) → sumBy f (map g l) ≡ sumBy (λ x. f (g x)) l
-  unfolding sumBy
-  sum-map f g [] = refl
-  sum-map f g (x ∷ xs) = ap (λ (n : ℕ). f (g x) + n) (sum-map f g xs)
-
--- what holds of each element holds of one that stands in the list
-pub each-count : (P : ℕ → Type 0) (x : ℕ) (l : List ℕ) → Each P l → 1 ≤ count x l → P x
-unfolding sumBy
-each-count P x [] e h = absurd (not-suc-le-zero h)
-each-count P x (y ∷ ys) e h =
-    by-cases (eqb x y)
-    (λ t. rw (eqb-true x y t) (e .0))
-    (λ t. each-count P x ys (e .1) (omega (arith, ap one-if t)))
-
-getD-most : (n : ℕ) (l : List ℕ) (i : ℕ) → Each (λ c. c ≤ n) l → getD l i 0 ≤ n
-getD-most n [] i e = omega arith
-getD-most n (x ∷ xs) zero e = e .0
-getD-most n (x ∷ xs) (suc i) e = getD-most n xs i (e .1)
-
-sum-two : (f g h : ℕ → ℕ) (l : List ℕ) → ((x : ℕ) → f x + g x ≤ h x) → sumBy f l + sumBy g l ≤ sumBy h l
-unfolding sumBy
-sum-two f g h [] k = omega arith
-sum-two f g h (x ∷ l) k = omega (arith, k x, sum-two f g h l k)
-
-pub count-cons : (x y : ℕ) (l : List ℕ) → count x (y ∷ l) ≡ one-if (eqb x y) + count x l
-count-cons x y l = sum-cons (λ z. one-if (eqb x z)) y l
-
-pub sum-sortIn : (f : ℕ → ℕ) (x : ℕ) (l : List ℕ) → sumBy f (sortIn x l) ≡ f x + sumBy f l
-unfolding sumBy sortIn
-sum-sortIn f x [] = refl
-sum-sortIn f x (y ∷ ys) = by-cases (leb x y) (λ t. rw t) (λ t. rw t (omega (arith, sum-sortIn f x ys)))
-
-each-sortIn : (P : ℕ → Type 0) (x : ℕ) (l : List ℕ) → P x → Each P l → Each P (sortIn x l)
-unfolding sortIn
-each-sortIn P x [] h e = (h, tt)
-each-sortIn P x (y ∷ ys) h e = by-cases (leb x y) (λ t. rw t (h, e)) (λ t. rw t (e .0, each-sortIn P x ys h (e .1)))
-
--- a list's elements, counted number by number, are no more than its length
-sumTo-count-le : (n : ℕ) (l : List ℕ) → sumTo n (λ q. count q l) ≤ length l
-sumTo-count-le n l =
-    omega (
-      arith,
-      sumTo-sumBy n (λ q x. one-if (eqb q x)) l,
-      sum-le (λ x. sumTo n (λ q. one-if (eqb q x))) (λ _. 1) l (λ x. by-cases (ltb x n) (λ t. omega (arith, sumTo-one n x, ap one-if t)) (λ t. omega (arith, sumTo-one n x, ap one-if t))),
-      length-sum l,
-    )
-
--- where an element stands
-module _ {A : Type 0} where
-  pub record Among (l : List A) (x : A) : Type 0 where
-    pub before : List A
-    pub after : List A
-    pub split : l ≡ before ++ (x ∷ after)
-
-  pub among-head : (x : A) (l : List A) → Among (x ∷ l) x
-  among-head x l = record { before = []; after = l; split = refl }
-
-  pub among-tail : {l : List A} {x : A} (y : A) → Among l x → Among (y ∷ l) x
-  among-tail y a = record { before = y ∷ a .before; after = a .after; split = ap (λ (l : List A). y ∷ l) (a .split) }
-
-  pub each-among : (P : A → Type 0) {l : List A} {x : A} → Each P l → Among l x → P x
-  each-among P e a = each-middle P (a .before) _ (a .after) (subst (Each P) (a .split) e) .0
-
-  pub sum-among : (f : A → ℕ) {l : List A} {x : A} (a : Among l x) → sumBy f l ≡ f x + sumBy f (a .before ++ a .after)
-  sum-among f {x = x} a = ap (sumBy f) (a .split) ∙ sum-split f (a .before) x (a .after)
-
--- ---- tests
-
-pub none-some : {A : Type 0} {P : Type 0} {a : A} → none ≡ some a → P
-none-some e = let z : _≡_ {A = ℕ} 0 1 = cc in absurd (omega arith)
-
-bool-same : (a b : Bool) → (a ≡ true → b ≡ true) → (b ≡ true → a ≡ true) → a ≡ b
-bool-same true b f g = sym (f refl)
-bool-same false true f g = g refl
-bool-same false false f g = refl
-
-both-comm : (a b : Bool) → both a b ≡ both b a
-unfolding both
-both-comm true true = refl
-both-comm true false = refl
-both-comm false true = refl
-both-comm false false = refl
+use Rattle.rules.proofs.PlaceLaws.{within-true, within-low, within-high, inside-along, rect-parts, through-low, through-high, lowSpan, highSpan, lowEdges, highEdges, inside-cut, span-eq, hull-same, hull-touch, beside-cases, joined-span}
 
 -- ---- one coordinate: stripes
 
@@ -147,7 +39,7 @@ below-cut x c y d h k =
 -- a cut between x and y makes the stripe greater
 pub stripe-between : (cuts : List ℕ) (x c y : ℕ) → x < c → c ≤ y → stripe cuts x + count c cuts ≤ stripe cuts y
 unfolding stripe
-stripe-between cuts x c y h k = sum-two (λ d. one-if (leb d x)) (λ d. one-if (eqb c d)) (λ d. one-if (leb d y)) cuts (λ d. below-cut x c y d h k)
+stripe-between cuts x c y h k = sum-add-le (λ d. one-if (leb d x)) (λ d. one-if (eqb c d)) (λ d. one-if (leb d y)) cuts (λ d. below-cut x c y d h k)
 
 pub stripe-most : (cuts : List ℕ) (x : ℕ) → stripe cuts x ≤ length cuts
 unfolding stripe sumBy
@@ -180,7 +72,7 @@ stripe-low cuts (suc i) r h = stripe-cut cuts 0 i r h
 
 pub stripeLow-most : (cuts : List ℕ) (i : ℕ) → Each (λ c. c ≤ lastMetre) cuts → stripeLow cuts i ≤ lastMetre
 unfolding stripeLow
-stripeLow-most cuts i e = getD-most lastMetre (0 ∷ cuts) i (omega arith, e)
+stripeLow-most cuts i e = each-getD-or (λ c. c ≤ lastMetre) (0 ∷ cuts) i 0 (omega arith) (omega arith, e)
 
 -- ---- one coordinate: a span on the cuts holds whole stripes
 
@@ -198,25 +90,9 @@ high-reached cuts e x y c s l h =
     absurd (omega (arith, stripe-between cuts x (e + 1) y (omega arith) (omega arith), count-cons (e + 1) (lastMetre + 1) cuts, ap one-if (ne-eqb (e + 1) (lastMetre + 1) (omega arith)))))
     (λ t. ltb-false e y t)
 
-pub within-true : (s : Span) (x : ℕ) → s .low ≤ x → x ≤ s .high → within s x ≡ true
-within-true s x h k = both-intro (le-leb (s .low) x h) (le-leb x (s .high) k)
-
-pub within-low : (s : Span) (x : ℕ) → within s x ≡ true → s .low ≤ x
-within-low s x t = leb-true (s .low) x (both-left (leb (s .low) x) (leb x (s .high)) t)
-
-pub within-high : (s : Span) (x : ℕ) → within s x ≡ true → x ≤ s .high
-within-high s x t = leb-true x (s .high) (both-right (leb (s .low) x) (leb x (s .high)) t)
-
-pub within-before : (s : Span) (x : ℕ) → x < s .low → within s x ≡ false
-unfolding both
-within-before s x h = rw (lt-leb (s .low) x h)
-
-pub within-after : (s : Span) (x : ℕ) → s .high < x → within s x ≡ false
-within-after s x h = by-cases (within s x) (λ t. absurd (omega (arith, within-high s x t))) (λ t. t)
-
 pub within-stripe : (cuts : List ℕ) (s : Span) (x y : ℕ) → OnCuts cuts s → x ≤ lastMetre → y ≤ lastMetre → stripe cuts x ≡ stripe cuts y → within s x ≡ within s y
 within-stripe cuts s x y o h k e =
-    bool-same (within s x) (within s y)
+    bool-ext (within s x) (within s y)
     (λ t. within-true s y (low-reached cuts (s .low) x y (o .low) e (within-low s x t)) (high-reached cuts (s .high) x y (o .high) e k (within-high s x t)))
     (λ t. within-true s x (low-reached cuts (s .low) y x (o .low) (sym e) (within-low s y t)) (high-reached cuts (s .high) y x (o .high) (sym e) h (within-high s y t)))
 
@@ -241,10 +117,6 @@ box-along northward cuts p q e = ap (λ (m : Box). m .north) e
 pub box-eq : (cuts : Cuts) (p q : Place) → ((axis : Axis) → stripe (cutsOf axis cuts) (along axis p) ≡ stripe (cutsOf axis cuts) (along axis q)) → boxOf cuts p ≡ boxOf cuts q
 unfolding boxOf
 box-eq cuts p q h = λ i. record { east = h eastward i; north = h northward i }
-
-pub inside-along : (axis : Axis) (r : Rect) (p : Place) → inside r p ≡ true → within (spanOf axis r) (along axis p) ≡ true
-inside-along eastward r p t = both-left (within (r .easts) (p .east)) (within (r .norths) (p .north)) t
-inside-along northward r p t = both-right (within (r .easts) (p .east)) (within (r .norths) (p .north)) t
 
 -- places of one memory cell lie in one cell
 pub inside-box : (cuts : Cuts) (c : Cell) (p q : Place) → Edged cuts c → InSquare p → InSquare q → boxOf cuts p ≡ boxOf cuts q → inside (c .edges) p ≡ inside (c .edges) q
@@ -335,6 +207,15 @@ cellAt-some cuts cells p t h =
 pub home-some : (cuts : Cuts) (cells : List Cell) (m : Box) → Tiling cuts cells → (d : Cell) × (cellAt cells (cornerOf cuts m) ≡ some d)
 home-some cuts cells m t = cellAt-some cuts cells (cornerOf cuts m) t (corner-square cuts m (t .cuts-end))
 
+-- so there is a cell
+pub some-cell : {cuts : Cuts} {cells : List Cell} → Tiling cuts cells → 0 < length cells
+some-cell {cells = cells} t =
+    let corner : Place = record { east = 0; north = 0 } in
+    let f : Cell → ℕ = λ c. one-if (inside (c .edges) corner) in
+    list-cases cells
+    (λ e. absurd (omega (arith, t .tiled corner (omega arith, omega arith), ap (sumBy f) e, sum-nil f)))
+    (λ c cs e. omega (arith, ap length e))
+
 pub tiling-among : {cuts : Cuts} {cells : List Cell} {d : Cell} (a : Among cells d) → Tiling cuts cells → Tiling cuts (a .before ++ (d ∷ a .after))
 tiling-among {cuts = cuts} a t = subst (Tiling cuts) (a .split) t
 
@@ -360,7 +241,7 @@ unfolding others filter sumBy
 others-one n [] d vs t h = rw t (others-none n vs (omega (arith, ap one-if t)))
 others-one n (c ∷ us) d vs t h =
     by-cases (eqb n (c .number))
-    (λ e. absurd (omega (arith, sum-split (numberIs n) us d vs, ap one-if t, ap one-if e)))
+    (λ e. absurd (omega (arith, sum-middle (numberIs n) us d vs, ap one-if t, ap one-if e)))
     (λ e. rw e (ap (λ (l : List Cell). c ∷ l) (others-one n us d vs t (omega arith))))
 
 -- the cell goes, and the others stay in their order
@@ -375,7 +256,7 @@ others-among cells d a h =
 
 -- what is left names each number once, too
 pub round-others : (us : List Cell) (d : Cell) (vs : List Cell) → ((n : ℕ) → count n (map (λ c. c .number) (us ++ (d ∷ vs))) ≤ 1) → (n : ℕ) → count n (map (λ c. c .number) (us ++ vs)) ≤ 1
-round-others us d vs h n = omega (arith, h n, count-numbers n (us ++ (d ∷ vs)), count-numbers n (us ++ vs), sum-split (numberIs n) us d vs)
+round-others us d vs h n = omega (arith, h n, count-numbers n (us ++ (d ∷ vs)), count-numbers n (us ++ vs), sum-middle (numberIs n) us d vs)
 
 -- named among those that pass a test
 pub named-filter : (t : Cell → Bool) (pick : ℕ) (l : List Cell) (n : Cell) → named pick (filter t l) ≡ some n → (n .number ≡ pick) × (t n ≡ true) × Among l n
@@ -387,56 +268,6 @@ named-filter t pick (c ∷ cs) n =
     (λ h. rw (g, h) (λ e. let z : c ≡ n = cc in rw (← z) (sym (eqb-true pick (c .number) h), g, among-head c cs)))
     (λ h. rw (g, h) (λ e. let r = named-filter t pick cs n e in (r .0, r .1, among-tail c (r .2)))))
     (λ g. rw g (λ e. let r = named-filter t pick cs n e in (r .0, r .1, among-tail c (r .2))))
-
--- ---- a rectangle and its two parts
-
--- a span in two parts, the second above the first without a gap
-span-parts : (s a b : Span) (x : ℕ) → s .low ≡ a .low → a .high + 1 ≡ b .low → s .high ≡ b .high → a .low ≤ a .high → b .low ≤ b .high
-    → one-if (within s x) ≡ one-if (within a x) + one-if (within b x)
-span-parts s a b x l m h o q =
-    by-cases (ltb x (a .low))
-    (λ t. let g = ltb-true x (a .low) t in
-    omega (arith, ap one-if (within-before s x (omega arith)), ap one-if (within-before a x g), ap one-if (within-before b x (omega arith))))
-    (λ t. let g = ltb-false x (a .low) t in
-    by-cases (leb x (a .high))
-    (λ u. let k = leb-true x (a .high) u in
-    omega (arith, ap one-if (within-true s x (omega arith) (omega arith)), ap one-if (within-true a x g k), ap one-if (within-before b x (omega arith))))
-    (λ u. let k = leb-false x (a .high) u in
-    by-cases (leb x (b .high))
-    (λ v. let j = leb-true x (b .high) v in
-    omega (arith, ap one-if (within-true s x (omega arith) (omega arith)), ap one-if (within-after a x k), ap one-if (within-true b x (omega arith) j)))
-    (λ v. let j = leb-false x (b .high) v in
-    omega (arith, ap one-if (within-after s x (omega arith)), ap one-if (within-after a x k), ap one-if (within-after b x j)))))
-
--- either direction may be named first
-inside-axis : (axis : Axis) (r : Rect) (p : Place)
-    → inside r p ≡ both (within (spanOf axis r) (along axis p)) (within (spanOf (across axis) r) (along (across axis) p))
-inside-axis eastward r p = refl
-inside-axis northward r p = both-comm (within (r .easts) (p .east)) (within (r .norths) (p .north))
-
-both-parts : (s a b t : Bool) → one-if s ≡ one-if a + one-if b → one-if (both s t) ≡ one-if (both a t) + one-if (both b t)
-unfolding both
-both-parts s a b true e = rw (both-true s, both-true a, both-true b) e
-  where
-    both-true : (c : Bool) → cond c true false ≡ c
-    both-true true = refl
-    both-true false = refl
-both-parts s a b false e = rw (both-false s, both-false a, both-false b) (omega arith)
-  where
-    both-false : (c : Bool) → cond c false false ≡ false
-    both-false true = refl
-    both-false false = refl
-
--- cut in one direction, alike in the other
-rect-parts : (axis : Axis) (r a b : Rect) (p : Place)
-    → one-if (within (spanOf axis r) (along axis p)) ≡ one-if (within (spanOf axis a) (along axis p)) + one-if (within (spanOf axis b) (along axis p))
-    → spanOf (across axis) a ≡ spanOf (across axis) r → spanOf (across axis) b ≡ spanOf (across axis) r
-    → one-if (inside r p) ≡ one-if (inside a p) + one-if (inside b p)
-rect-parts axis r a b p e f g =
-    let s = within (spanOf (across axis) r) (along (across axis) p) in
-    let x = along axis p in
-    rw (inside-axis axis r p, inside-axis axis a p, inside-axis axis b p, f, g)
-    (both-parts (within (spanOf axis r) x) (within (spanOf axis a) x) (within (spanOf axis b) x) s e)
 
 -- ---- the same cells, a cell with other entries, in another order
 
@@ -468,7 +299,7 @@ pub tiling-move : (cuts : Cuts) (us : List Cell) (d : Cell) (vs : List Cell) (d�
     → Tiling cuts ((us ++ vs) ++ (d′ ∷ []))
 tiling-move cuts us d vs d′ t n e =
     let g = each-middle (Edged cuts) us d vs (t .cells-edged) in
-    let same : (f : Cell → ℕ) → f d′ ≡ f d → sumBy f ((us ++ vs) ++ (d′ ∷ [])) ≡ sumBy f (us ++ (d ∷ vs)) = λ f h. omega (arith, h, sum-last f (us ++ vs) d′, sum-split f us d vs) in
+    let same : (f : Cell → ℕ) → f d′ ≡ f d → sumBy f ((us ++ vs) ++ (d′ ∷ [])) ≡ sumBy f (us ++ (d ∷ vs)) = λ f h. omega (arith, h, sum-last f (us ++ vs) d′, sum-middle f us d vs) in
     tiling-keeps cuts (us ++ (d ∷ vs)) ((us ++ vs) ++ (d′ ∷ [])) t
     (omega (arith, length-sum (us ++ (d ∷ vs)), length-sum ((us ++ vs) ++ (d′ ∷ [])), same (λ _. 1) refl))
     (λ p. same (holdsAt p) (ap (λ (r : Rect). one-if (inside r p)) e))
@@ -521,7 +352,7 @@ length-addCut c cuts v h =
     by-cases (ltb 0 (count c cuts))
     (λ t. rw t h)
     (λ t. rw t (either-cases (ltb 0 (count c cuts)) (ltb (length cuts) maxCuts) v
-    (λ e. let z : _≡_ {A = ℕ} 0 1 = cc in absurd (omega arith))
+    (λ e. false-true (sym t ∙ e))
     (λ e. omega (arith, ltb-true (length cuts) maxCuts e, length-sum cuts, length-sum (sortIn c cuts), sum-sortIn (λ _. 1) c cuts))))
 
 -- a fact of both directions, after one of them has changed
@@ -567,25 +398,6 @@ edged-more c cuts d g = record {
   edged = λ axis. onCuts-more (cutsOf axis cuts) (cutsOf axis (cutsWith c cuts)) (spanOf axis (d .edges)) (count-cutsWith c cuts axis) (g .edged axis);
 }
 
-pub through-low : (s : Span) (c : ℕ) → through s c ≡ true → s .low < c
-through-low s c t = ltb-true (s .low) c (both-left (ltb (s .low) c) (leb c (s .high)) t)
-
-pub through-high : (s : Span) (c : ℕ) → through s c ≡ true → c ≤ s .high
-through-high s c t = leb-true c (s .high) (both-right (ltb (s .low) c) (leb c (s .high)) t)
-
-abbrev lowSpan : Span → ℕ → Span
-lowSpan s c = record { low = s .low; high = c - 1 }
-
-abbrev highSpan : Span → ℕ → Span
-highSpan s c = record { low = c; high = s .high }
-
--- "The low side keeps d's number; the other": their edges
-abbrev pub lowEdges : Cut → Rect → Rect
-lowEdges c r = withSpan (c .axis) (record { low = spanOf (c .axis) r .low; high = c .at - 1 }) r
-
-abbrev pub highEdges : Cut → Rect → Rect
-highEdges c r = withSpan (c .axis) (record { low = c .at; high = spanOf (c .axis) r .high }) r
-
 onCuts-low : (cuts : List ℕ) (s : Span) (c : ℕ) → OnCuts cuts s → through s c ≡ true → 1 ≤ count c cuts → OnCuts cuts (lowSpan s c)
 onCuts-low cuts s c o t h =
     let k = through-low s c t in
@@ -605,67 +417,12 @@ edged-span cuts d l axis s g n e o = record {
   edged = λ a. subst (λ (r : Rect). OnCuts (cutsOf a cuts) (spanOf a r)) (sym e) (with-span (λ b t. OnCuts (cutsOf b cuts) t) axis s (d .edges) o (g .edged) a);
 }
 
-span-same : (axis : Axis) (s : Span) (r : Rect) → spanOf axis (withSpan axis s r) ≡ s
-span-same eastward s r = refl
-span-same northward s r = refl
-
-span-across : (axis : Axis) (s : Span) (r : Rect) → spanOf (across axis) (withSpan axis s r) ≡ spanOf (across axis) r
-span-across eastward s r = refl
-span-across northward s r = refl
-
-inside-span : (axis : Axis) (s : Span) (r : Rect) (p : Place) → inside r p ≡ true → within s (along axis p) ≡ true → inside (withSpan axis s r) p ≡ true
-inside-span eastward s r p t h = both-intro h (inside-along northward r p t)
-inside-span northward s r p t h = both-intro (inside-along eastward r p t) h
-
--- each place of the rectangle lies on one side
-pub inside-cut : (c : Cut) (r : Rect) (p : Place) → through (spanOf (c .axis) r) (c .at) ≡ true → one-if (inside r p) ≡ one-if (inside (lowEdges c r) p) + one-if (inside (highEdges c r) p)
-inside-cut c r p t =
-    let axis = c .axis in
-    let s = spanOf axis r in
-    let k = through-low s (c .at) t in
-    let j = through-high s (c .at) t in
-    let low = lowSpan s (c .at) in
-    let high = highSpan s (c .at) in
-    rect-parts axis r (lowEdges c r) (highEdges c r) p
-    (rw (span-same axis low r, span-same axis high r) (span-parts s low high (along axis p) refl (omega arith) refl (omega arith) (omega arith)))
-    (span-across axis low r)
-    (span-across axis high r)
-
--- a place of the rectangle lies on the side that its coordinate tells
-pub inside-low : (c : Cut) (r : Rect) (p : Place) → inside r p ≡ true → ltb (along (c .axis) p) (c .at) ≡ true → inside (lowEdges c r) p ≡ true
-inside-low c r p t h =
-    let axis = c .axis in
-    let s = spanOf axis r in
-    let x = along axis p in
-    let k = ltb-true x (c .at) h in
-    inside-span axis (lowSpan s (c .at)) r p t (within-true (lowSpan s (c .at)) x (within-low s x (inside-along axis r p t)) (omega arith))
-
-pub inside-high : (c : Cut) (r : Rect) (p : Place) → inside r p ≡ true → ltb (along (c .axis) p) (c .at) ≡ false → inside (highEdges c r) p ≡ true
-inside-high c r p t h =
-    let axis = c .axis in
-    let s = spanOf axis r in
-    let x = along axis p in
-    inside-span axis (highSpan s (c .at)) r p t (within-true (highSpan s (c .at)) x (ltb-false x (c .at) h) (within-high s x (inside-along axis r p t)))
-
 -- ---- split: the unused number
-
--- the first number that does not stand in a list shorter than n lies below n
-unused-below : (n : ℕ) (l : List ℕ) → length l < n → (o : Option ℕ) → firstAt (λ k. eqb (count k l) 0) (tab n (λ k. k)) ≡ o → (i : ℕ) × (o ≡ some i) × (i < n) × (count i l ≡ 0)
-unused-below n l h none e =
-    let all : (k : ℕ) → k < n → 1 ≤ count k l = λ k b.
-    let f : eqb (count k l) 0 ≡ false = rw (getD-tab n (λ j. j) k 0 b) at (firstAt-none (λ j. eqb (count j l) 0) (tab n (λ j. j)) k 0 e (omega (arith, length-tab n (λ j. j)))) in
-    omega (arith, eqb-false (count k l) 0 f) in
-    absurd (omega (arith, sumTo-count-le n l, sumTo-le n (λ _. 1) (λ q. count q l) all, sumTo-const 1 n))
-unused-below n l h (some i) e =
-    let r = firstAt-some (λ k. eqb (count k l) 0) (tab n (λ k. k)) i 0 e in
-    let b : i < n = omega (arith, r .0, length-tab n (λ (j : ℕ). j)) in
-    let f : eqb (count i l) 0 ≡ true = rw (getD-tab n (λ j. j) i 0 b) at (r .1) in
-    (i, refl, b, eqb-true (count i l) 0 f)
 
 pub unused-number : (cells : List Cell) → length cells < maxCells → (unusedNumber cells < maxCells) × (count (unusedNumber cells) (map (λ c. c .number) cells) ≡ 0)
 unfolding unusedNumber
 unused-number cells h =
-    let r = unused-below maxCells (map (λ c. c .number) cells) (omega (arith, length-map cells (λ c. c .number))) _ refl in
+    let r = firstAt-unused maxCells (map (λ c. c .number) cells) (omega (arith, length-map cells (λ c. c .number))) in
     rw (r .1) (r .2, r .3)
 
 -- ---- split: the tiling
@@ -719,7 +476,7 @@ module _ (cuts : Cuts) (us : List Cell) (d : Cell) (vs : List Cell) (c : Cut) (t
         omega (
           arith,
           sum-last-two (holdsAt p) (us ++ vs) l h,
-          sum-split (holdsAt p) us d vs,
+          sum-middle (holdsAt p) us d vs,
           inside-cut c (d .edges) p (g .crosses),
           ap (λ (r : Rect). one-if (inside r p)) le,
           ap (λ (r : Rect). one-if (inside r p)) he,
@@ -734,7 +491,7 @@ module _ (cuts : Cuts) (us : List Cell) (d : Cell) (vs : List Cell) (c : Cut) (t
         omega (
           arith,
           sum-last-two (numberIs n) (us ++ vs) l h,
-          sum-split (numberIs n) us d vs,
+          sum-middle (numberIs n) us d vs,
           count-numbers n (us ++ (d ∷ vs)),
           ap (λ (k : ℕ). count k (map (λ x. x .number) (us ++ (d ∷ vs)))) z,
           unused,
@@ -744,7 +501,7 @@ module _ (cuts : Cuts) (us : List Cell) (d : Cell) (vs : List Cell) (c : Cut) (t
         (λ e. omega (
           arith,
           sum-last-two (numberIs n) (us ++ vs) l h,
-          sum-split (numberIs n) us d vs,
+          sum-middle (numberIs n) us d vs,
           count-numbers n (us ++ (d ∷ vs)),
           t .round n,
           low,
@@ -755,7 +512,7 @@ module _ (cuts : Cuts) (us : List Cell) (d : Cell) (vs : List Cell) (c : Cut) (t
     pub tiling-split : Tiling (cutsWith c cuts) ((us ++ vs) ++ (l ∷ h ∷ []))
     tiling-split = record {
       few-cells =
-          omega (arith, few, length-sum (us ++ (d ∷ vs)), length-sum ((us ++ vs) ++ (l ∷ h ∷ [])), sum-split (λ _. 1) us d vs, sum-last-two (λ _. 1) (us ++ vs) l h);
+          omega (arith, few, length-sum (us ++ (d ∷ vs)), length-sum ((us ++ vs) ++ (l ∷ h ∷ [])), sum-middle (λ _. 1) us d vs, sum-last-two (λ _. 1) (us ++ vs) l h);
       few-cuts = split-few;
       cuts-rise = split-rise;
       cuts-end = split-end;
@@ -768,37 +525,6 @@ module _ (cuts : Cuts) (us : List Cell) (d : Cell) (vs : List Cell) (c : Cut) (t
     }
 
 -- ---- join
-
-pub span-eq : (s t : Span) → sameSpan s t ≡ true → s ≡ t
-span-eq s t e =
-    let low = eqb-true (s .low) (t .low) (both-left (eqb (s .low) (t .low)) (eqb (s .high) (t .high)) e) in
-    let high = eqb-true (s .high) (t .high) (both-right (eqb (s .low) (t .low)) (eqb (s .high) (t .high)) e) in
-    λ i. record { low = low i; high = high i }
-
-hull-same : (s t : Span) → s ≡ t → hull s t ≡ s
-hull-same s t e =
-    let low : min (s .low) (t .low) ≡ s .low = omega (arith, ap (λ (u : Span). u .low) e) in
-    let high : max (s .high) (t .high) ≡ s .high = omega (arith, ap (λ (u : Span). u .high) e) in
-    λ i. record { low = low i; high = high i }
-
-hull-touch : (s t : Span) (x : ℕ) → s .low ≤ s .high → t .low ≤ t .high → touch s t ≡ true → one-if (within (hull s t) x) ≡ one-if (within s x) + one-if (within t x)
-hull-touch s t x h k e =
-    either-cases (eqb (s .high + 1) (t .low)) (eqb (t .high + 1) (s .low)) e
-    (λ u. let m = eqb-true (s .high + 1) (t .low) u in span-parts (hull s t) s t x (omega arith) m (omega arith) h k)
-    (λ u. let m = eqb-true (t .high + 1) (s .low) u in omega (arith, span-parts (hull s t) t s x (omega arith) m (omega arith) k h))
-
--- the direction in which two rectangles touch, and the other, in which they are alike
-beside-cases : {P : Type 0} (r s : Rect) → beside r s ≡ true
-    → ((axis : Axis) → touch (spanOf axis r) (spanOf axis s) ≡ true → sameSpan (spanOf (across axis) r) (spanOf (across axis) s) ≡ true → P) → P
-unfolding beside
-beside-cases r s e k =
-    either-cases (both (touch (r .easts) (s .easts)) (sameSpan (r .norths) (s .norths))) (both (touch (r .norths) (s .norths)) (sameSpan (r .easts) (s .easts))) e
-    (λ b. k eastward (both-left (touch (r .easts) (s .easts)) (sameSpan (r .norths) (s .norths)) b) (both-right (touch (r .easts) (s .easts)) (sameSpan (r .norths) (s .norths)) b))
-    (λ b. k northward (both-left (touch (r .norths) (s .norths)) (sameSpan (r .easts) (s .easts)) b) (both-right (touch (r .norths) (s .norths)) (sameSpan (r .easts) (s .easts)) b))
-
-joined-span : (axis : Axis) (r s : Rect) → spanOf axis (joinedEdges r s) ≡ hull (spanOf axis r) (spanOf axis s)
-joined-span eastward r s = refl
-joined-span northward r s = refl
 
 -- each place of the joined rectangle lies in one of the two
 pub inside-joined : (cuts : Cuts) (d n : Cell) (p : Place) → Edged cuts d → Edged cuts n → beside (d .edges) (n .edges) ≡ true
@@ -813,12 +539,6 @@ inside-joined cuts d n p g f b =
     (rw (joined-span axis r s) (hull-touch (spanOf axis r) (spanOf axis s) (along axis p) (g .edged axis .order) (f .edged axis .order) e))
     (sym whole)
     (sym same ∙ sym whole))
-
-hull-left : (s t : Span) (x : ℕ) → within s x ≡ true → within (hull s t) x ≡ true
-hull-left s t x h = within-true (hull s t) x (omega (arith, within-low s x h)) (omega (arith, within-high s x h))
-
-hull-right : (s t : Span) (x : ℕ) → within t x ≡ true → within (hull s t) x ≡ true
-hull-right s t x h = within-true (hull s t) x (omega (arith, within-low t x h)) (omega (arith, within-high t x h))
 
 onCuts-hull : (cuts : List ℕ) (s t : Span) → OnCuts cuts s → OnCuts cuts t → OnCuts cuts (hull s t)
 onCuts-hull cuts s t o q = record {
@@ -862,7 +582,7 @@ tiling-join cuts us d vs n j a t b k e =
     let new = rest ++ (j ∷ []) in
     let g = each-middle (Edged cuts) us d vs (t .cells-edged) in
     let f = each-middle (Edged cuts) (a .before) n (a .after) (subst (Each (Edged cuts)) (a .split) (g .1)) in
-    let before : (w : Cell → ℕ) → sumBy w old ≡ w d + w n + sumBy w rest = λ w. omega (arith, sum-split w us d vs, sum-among w a) in
+    let before : (w : Cell → ℕ) → sumBy w old ≡ w d + w n + sumBy w rest = λ w. omega (arith, sum-middle w us d vs, sum-among w a) in
     let after : (w : Cell → ℕ) → sumBy w new ≡ sumBy w rest + w j = λ w. sum-last w rest j in
     tiling-keeps cuts old new t
     (omega (arith, length-sum old, length-sum new, before (λ _. 1), after (λ _. 1)))
@@ -886,10 +606,6 @@ by-axis : (P : Axis → Type 0) → P eastward → P northward → (axis : Axis)
 by-axis P e n eastward = e
 by-axis P e n northward = n
 
-one-at-most : (b : Bool) → one-if b ≤ 1
-one-at-most true = omega arith
-one-at-most false = omega arith
-
 whole-span : OnCuts [] (square .easts)
 whole-span = record { low = count-head 0 []; high = count-head (lastMetre + 1) []; order = omega arith }
 
@@ -905,5 +621,5 @@ tiling-fresh =
       cuts-end = by-axis (λ a. Each (λ x. x ≤ lastMetre) (cutsOf a none-yet)) tt tt;
       tiled = λ p s. omega (arith, sum-one (holdsAt p) whole, ap one-if (square-inside p s));
       cells-edged = (record { numbered = omega arith; edged = by-axis (λ a. OnCuts (cutsOf a none-yet) (spanOf a square)) whole-span whole-span }, tt);
-      round = λ n. omega (arith, count-numbers n (whole ∷ []), sum-one (numberIs n) whole, one-at-most (eqb n 0));
+      round = λ n. omega (arith, count-numbers n (whole ∷ []), sum-one (numberIs n) whole, one-if-le (eqb n 0));
     }

@@ -185,22 +185,24 @@ smaller d n = cond (ltb (d .number) (n .number)) d n
 abbrev pub larger : Cell → Cell → Cell
 larger d n = cond (ltb (d .number) (n .number)) n d
 
--- "sweep that cell and join it. The smaller number survives and goes last in the round; pages of the other are freed." d is settled first.
-unfoldable pub joinedWith : Flushed → Cell → Store
-joinedWith f n =
+-- "sweep that cell and join it. The smaller number survives": the joined cell, which keeps the survivor's pages
+abbrev pub joined : Flushed → Cell → Cell
+joined f n =
     let d : Cell = settled (f .store .free) (f .cell) in
-    let free : List ℕ = freeAfter (f .store .free) (f .cell) in
-    withCells
-    (f .store .cuts)
-    (others (n .number) (f .rest)
-    ++ (record {
+    record {
       number = smaller d n .number;
       edges = joinedEdges (d .edges) (n .edges);
       chain = smaller d n .chain;
       entries = merge (sweptEntries (f .store .memo) (n .entries)) (d .entries);
     }
-    ∷ []))
-    (settledFree 0 (larger d n .chain) free)
+
+-- it "goes last in the round; pages of the other are freed." d is settled first.
+unfoldable pub joinedWith : Flushed → Cell → Store
+joinedWith f n =
+    withCells
+    (f .store .cuts)
+    (others (n .number) (f .rest) ++ (joined f n ∷ []))
+    (settledFree 0 (larger (settled (f .store .free) (f .cell)) n .chain) (freeAfter (f .store .free) (f .cell)))
     (sweptMemo (f .store .memo) (n .entries))
     (f .store)
 

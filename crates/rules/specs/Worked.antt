@@ -1,7 +1,7 @@
 -- The starred worked points (01, "Worked points"), as one table: the records before, the record, and what is seen of its outcome.
 use mathlib.Core.List.{List, [], _∷_, _++_, map}
 use mathlib.Core.Path.{_≡_}
-use Prim.Native.Nat.{ℕ, suc, _+_, _*_}
+use Prim.Native.Nat.{ℕ, suc, _+_, _-_, _*_, _/_}
 use lib.ListN.{length, replicate}
 use Rattle.terms.specs.Terms.{Place, fieldBytes}
 use Rattle.lists.specs.Parts.{tab}
@@ -48,6 +48,10 @@ together r = record { east = 1000; north = 500 }
 -- a row of the map, spread over its width
 abbrev spread : ℕ → Place
 spread r = record { east = 127 * r; north = 500 }
+
+-- eight after eight at one place, each place further east
+abbrev grouped : ℕ → Place
+grouped r = record { east = 1000 * ((r - 1) / 8) + 500; north = 500 }
 
 -- ---- the table
 
@@ -100,6 +104,13 @@ points =
     }
     -- "West 6, east 5: 7."
     ∷ record { before = []; bytes = rangeBytes 6 5 0 9; room = 0; sees = numbered 7 }
+    -- "The 512th sign-on passes"
+    ∷ record {
+      before = signOns 511 1 grouped;
+      bytes = onBytes 512 (grouped 512);
+      room = 0;
+      sees = record { number = 0; count = 0; buffer = []; entries = replicate 14 16 ++ (272 ∷ 16 ∷ []); pages = replicate 14 1 ++ (9 ∷ 1 ∷ []); cuts = 15 };
+    }
     -- "33 entries with distinct easts in one uncut square: the cut leaves 16 and 17."
     ∷ record {
       before = thirtyTwo apart;

@@ -1,0 +1,4 @@
+pub mod SideLaws
+pub mod BestLaws
+pub mod MedianLaws
+pub mod DeskLaws

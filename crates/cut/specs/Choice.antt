@@ -1,0 +1,68 @@
+-- The choice of the cut (01, "Split") on what the desk holds: what its fields mean, and the walks by which the choice is made.
+use mathlib.Core.Bool.{Bool, cond}
+use mathlib.Core.List.{List, [], _∷_, map}
+use mathlib.Core.Option.{Option, none, some}
+use Prim.Native.Nat.{ℕ, zero, suc}
+use lib.Dec.{eqb, ltb}
+use lib.ListN.{take}
+use Rattle.terms.specs.Terms.{Place}
+use Rattle.lists.specs.Rows.{Rows}
+use Rattle.lists.specs.Tests.{both, orElse}
+use Rattle.rules.specs.Grid.{Axis, eastward, northward, along, across, Rect, spanOf, Cuts}
+use Rattle.rules.specs.Cut.{Cut, through, fits, difference, medianCut}
+use Rattle.desk.specs.declared.CutList.{CutList}
+use Rattle.desk.specs.declared.Slot.{Slot}
+use Rattle.cut.specs.declared.CutChoice.{CutChoice}
+use Rattle.cut.specs.declared.CutChoice.the-variants.{At, NoCut}
+
+-- ---- what the fields mean
+
+abbrev pub directions : ℕ
+directions = 2
+
+-- a direction as a number: 0 east, else north
+unfoldable pub axisOf : ℕ → Axis
+axisOf a = cond (eqb a 0) eastward northward
+
+abbrev pub cutAt : ℕ → ℕ → Cut
+cutAt a c = record { axis = axisOf a; at = c }
+
+-- the cut that an answer names, if any
+abbrev pub choiceOf : CutChoice → Option Cut
+choiceOf (At a c) = some (cutAt a c)
+choiceOf NoCut = none
+
+unfoldable pub listOf : CutList → List ℕ
+listOf l = take (l .n) (l .at)
+
+abbrev pub cutsIn : CutList → CutList → Cuts
+cutsIn easts norths = record { easts = listOf easts; norths = listOf norths }
+
+abbrev pub edgesOf : Slot → Rect
+edgesOf d = record { easts = record { low = d .west; high = d .east }; norths = record { low = d .south; high = d .north } }
+
+unfoldable pub coordinates : Axis → Rows Place → List ℕ
+coordinates axis es = map (λ e. along axis (e .val)) es
+
+-- ---- the best of the existing cuts, walked from the first to the last
+
+abbrev better : Rows Place → Option Cut → Cut → Cut
+better es none c = c
+better es (some b) c = cond (ltb (difference es c) (difference es b)) c b
+
+unfoldable pub eligible : Rect → Rows Place → Cut → Bool
+eligible d es c = both (through (spanOf (c .axis) d) (c .at)) (fits es c)
+
+-- the best so far, after one cut more
+unfoldable pub considered : Rect → Rows Place → Option Cut → Cut → Option Cut
+considered d es best c = cond (eligible d es c) (some (better es best c)) best
+
+unfoldable pub bestFrom : Rect → Rows Place → Axis → Option Cut → List ℕ → Option Cut
+bestFrom d es axis best [] = best
+bestFrom d es axis best (c ∷ cs) = bestFrom d es axis (considered d es best (record { axis = axis; at = c })) cs
+
+-- ---- the first valid median cut, with so many directions left to try, this one first
+
+unfoldable pub firstValid : ℕ → Axis → Cuts → Rows Place → Option Cut
+firstValid zero axis cuts es = none
+firstValid (suc k) axis cuts es = orElse (medianCut axis cuts es) (firstValid k (across axis) cuts es)

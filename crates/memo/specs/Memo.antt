@@ -1,0 +1,63 @@
+-- The memo in the desk's array as rows by rising radio (01, "A sound store": "Memo lines by rising radio").
+use mathlib.Core.Bool.{cond}
+use mathlib.Core.List.{map}
+use mathlib.Core.Option.{Option, none, some}
+use mathlib.Core.Path.{_≡_}
+use Prim.Native.Nat.{ℕ}
+use lib.Dec.{eqb}
+use lib.ListN.{take}
+use Rattle.terms.specs.Terms.{Place}
+use Rattle.lists.specs.Rows.{Row, Rows, find, rank}
+use Rattle.rules.specs.Store.{Line as StoreLine}
+use Rattle.desk.specs.declared.Line.{Line}
+use Rattle.desk.specs.declared.Memo.{Memo}
+use Rattle.desk.specs.Layout.{lineWith, lineOf, memoOf}
+use Rattle.memo.specs.declared.FoundLine.{FoundLine}
+use Rattle.memo.specs.declared.FoundLine.the-variants.{Line as Found, Missing}
+use Rattle.memo.specs.declared.Spot.{Spot}
+use Rattle.memo.specs.declared.Spot.the-variants.{Held, Open}
+
+-- ---- the array as rows
+
+-- the place of a line, or "none" where it is not marked to have one
+abbrev pub lastOf : Line → Option Place
+lastOf l = cond (eqb (l .placed) 0) none (some (record { east = l .east; north = l .north }))
+
+-- a line as a row: its radio is the key
+abbrev pub rowOf : Line → Row StoreLine
+rowOf l = record { key = l .radio; val = record { missed = l .missed; last = lastOf l } }
+
+-- what stands past the end of a list of rows
+abbrev pub noRow : Row StoreLine
+noRow = record { key = 0; val = record { missed = 0; last = none } }
+
+-- the rows that the memo holds
+unfoldable pub linesOf : Memo → Rows StoreLine
+linesOf m = map rowOf (take (m .n) (m .rows))
+
+-- a line as the desk lays it out: marked 0 or 1, with the place zero where it has none
+abbrev pub Plain : Line → Type 0
+Plain l = l ≡ lineOf (rowOf l)
+
+-- a memo as the desk lays it out: plain lines, and zero in the slots past them
+abbrev pub Whole : Memo → Type 0
+Whole m = m ≡ memoOf (linesOf m)
+
+-- the greatest missed count that a 16-bit field has room for
+abbrev pub mostMissed : ℕ
+mostMissed = 65535
+
+-- ---- answers
+
+-- the line of a radio
+abbrev pub foundLine : ℕ → Option StoreLine → FoundLine
+foundLine r none = Missing
+foundLine r (some l) = Found (lineWith r (l .missed) (l .last))
+
+abbrev spotAt : ℕ → Option StoreLine → Spot
+spotAt k none = Open k
+spotAt k (some l) = Held k
+
+-- where the line of a radio stands, or would
+unfoldable pub spotOf : ℕ → Rows StoreLine → Spot
+spotOf r l = spotAt (rank r l) (find l r)

@@ -1,0 +1,169 @@
+-- What the walks need: a law for each turn, end or return. What is still to be tested, from the marks made, is the whole.
+use mathlib.Core.Bool.{Bool, true, false, not}
+use mathlib.Core.List.{List, _∷_}
+use mathlib.Core.Path.{_≡_, sym, ap, _∙_}
+use Prim.Native.Nat.{ℕ, suc, _+_, _-_, _*_, _≤_, _<_}
+use native.Mathlib.Numerals.{add-one}
+use native.Mathlib.Omega.{arith}
+use lib.Dec.{eqb}
+use lib.ListN.{length, getD, set, take, drop, length-take, drop-of-length-le}
+use lib.Seq.{drop-cons, getD-take}
+use borrow.Author.Tests.{eq-eqb, ne-eqb, le-leb}
+use Rattle.terms.specs.Terms.{pages, noPage, noCell}
+use Rattle.lists.specs.Tests.{both, all}
+use Rattle.lists.specs.Words.{Bytes}
+use Rattle.lists.proofs.TestsLaws.{not-true, not-false}
+use Rattle.page.specs.Page.{pageBytes, kindFree, kindFurther, next, entries}
+use Rattle.page.specs.Buffer.{bufferBytes, pageAt}
+use Rattle.rules.specs.Limits.{maxCells}
+use Rattle.desk.specs.declared.Slot.{Slot}
+use Rattle.desk.specs.declared.Directory.{Directory}
+use Rattle.desk.specs.Layout.{noSlot}
+use Rattle.sound_pages.specs.declared.Walk.{Walk}
+use Rattle.sound_pages.specs.PagesSound.{PagesSound}
+use Rattle.sound_pages.specs.Walks.{isPage, lastRadio, pageOk, noMarks, unmarked, passed, failed, chainTest, slotTest, slotsTest, freeTest, frontTest, restTest, pagesTest}
+use Rattle.sound_pages.proofs.CodeLaws.{both-no, both-next}
+use Rattle.sound_pages.proofs.MarksLaws.{unmarked-bounds}
+use Rattle.sound_pages.proofs.ChainLaws.{chain-spent, chain-out, chain-bad, chain-last, chain-more, free-spent, free-last, free-out, free-bad, free-more}
+use Rattle.sound_pages.proofs.SoundLaws.{slots-none, slots-out, slots-more, sound-few, test-sound, sound-test}
+
+-- ---- an unmarked page is there
+
+module _ (m : List Bool) (p : ℕ) {r : Bool} (test : r ≡ unmarked m p) (passed-it : not r ≡ false) where
+  pub unmarked-below : p < pages
+  unmarked-below = unmarked-bounds m p (sym test ∙ not-false r passed-it) .0
+
+  pub unmarked-room : (b : List ℕ) → length b ≡ bufferBytes → pageBytes * p + pageBytes ≤ length b
+  unmarked-room b l = let h = unmarked-below in omega arith
+
+-- ---- walk_chain
+
+module _ (b : List ℕ) (s : Slot) (fuel : ℕ) (m : List Bool) (k low p : ℕ) {t : Walk} where
+  pub chain-tired : fuel ≤ 0 → chainTest fuel b s m k low p ≡ t → failed m ≡ t
+  chain-tired h so = let q : fuel ≡ 0 = omega arith in sym (chain-spent b s m k low p) ∙ rw q at so
+
+  module _ (some : 0 < fuel) (so : chainTest fuel b s m k low p ≡ t) {r : Bool} (fresh : r ≡ unmarked m p) where
+    again : chainTest (suc (fuel - 1)) b s m k low p ≡ t
+    again = let q : suc (fuel - 1) ≡ fuel = omega arith in rw q so
+
+    pub chain-met : not r ≡ true → failed m ≡ t
+    chain-met u = sym (chain-out (fuel - 1) b s m k low p (sym fresh ∙ not-true r u)) ∙ again
+
+    module _ (u : not r ≡ false) {g : List ℕ} (page : g ≡ pageAt b p) {v : Bool} (ok : v ≡ pageOk s k low g) where
+      unmarked-so : unmarked m p ≡ true
+      unmarked-so = sym fresh ∙ not-false r u
+
+      ok-is : pageOk s k low (pageAt b p) ≡ v
+      ok-is = ap (pageOk s k low) (sym page) ∙ sym ok
+
+      pub chain-wrong : not v ≡ true → failed m ≡ t
+      chain-wrong x = sym (chain-bad (fuel - 1) b s m k low p unmarked-so (ok-is ∙ not-true v x)) ∙ again
+
+      module _ (x : not v ≡ false) {n : ℕ} (following : n ≡ next g) where
+        next-so : next (pageAt b p) ≡ n
+        next-so = ap next (sym page) ∙ sym following
+
+        pub chain-ends : n ≡ noPage → passed (set m p true) ≡ t
+        chain-ends y = sym (chain-last (fuel - 1) b s m k low p unmarked-so (ok-is ∙ not-false v x) (eq-eqb _ _ (next-so ∙ y))) ∙ again
+
+        pub chain-goes-on : (n ≡ noPage → ⊥) → {l : ℕ} → l ≡ lastRadio low (entries g) → chainTest (fuel - 1) b s (set m p true) kindFurther l n ≡ t
+        chain-goes-on y last =
+            rw (last, page, ← next-so)
+            (sym (chain-more (fuel - 1) b s m k low p unmarked-so (ok-is ∙ not-false v x) (ne-eqb _ _ (λ z. y (sym next-so ∙ z)))) ∙ again)
+
+-- ---- walk_free
+
+module _ (b : List ℕ) (fuel : ℕ) (m : List Bool) (p : ℕ) {t : Walk} where
+  pub free-tired : fuel ≤ 0 → freeTest fuel b m p ≡ t → record { ok = eqb p noPage; marks = m } ≡ t
+  free-tired h so = let q : fuel ≡ 0 = omega arith in sym (free-spent b m p) ∙ rw q at so
+
+  module _ (some : 0 < fuel) (so : freeTest fuel b m p ≡ t) where
+    free-again : freeTest (suc (fuel - 1)) b m p ≡ t
+    free-again = let q : suc (fuel - 1) ≡ fuel = omega arith in rw q so
+
+    pub free-ends : p ≡ noPage → passed m ≡ t
+    free-ends e = sym (free-last (fuel - 1) b m p (eq-eqb _ _ e)) ∙ free-again
+
+    module _ (n : p ≡ noPage → ⊥) {r : Bool} (fresh : r ≡ unmarked m p) where
+      pub free-met : not r ≡ true → failed m ≡ t
+      free-met u = sym (free-out (fuel - 1) b m p (ne-eqb _ _ n) (sym fresh ∙ not-true r u)) ∙ free-again
+
+      module _ (u : not r ≡ false) {g : List ℕ} (page : g ≡ pageAt b p) {v : Bool} (ok : v ≡ isPage kindFree noCell g) where
+        free-is : isPage kindFree noCell (pageAt b p) ≡ v
+        free-is = ap (isPage kindFree noCell) (sym page) ∙ sym ok
+
+        pub free-wrong : not v ≡ true → failed m ≡ t
+        free-wrong x = sym (free-bad (fuel - 1) b m p (ne-eqb _ _ n) (sym fresh ∙ not-false r u) (free-is ∙ not-true v x)) ∙ free-again
+
+        pub free-goes-on : not v ≡ false → {q : ℕ} → q ≡ next g → freeTest (fuel - 1) b (set m p true) q ≡ t
+        free-goes-on x following =
+            ap (freeTest (fuel - 1) b (set m p true)) (following ∙ ap next page)
+            ∙ sym (free-more (fuel - 1) b m p (ne-eqb _ _ n) (sym fresh ∙ not-false r u) (free-is ∙ not-false v x)) ∙ free-again
+
+-- ---- walk_slots
+
+module _ (b : List ℕ) (d : Directory) (m : List Bool) (i : ℕ) {t : Walk} (so : slotsTest b m (drop i (take (d .n) (d .slots))) ≡ t) where
+  pub slots-end : d .n ≤ i → passed m ≡ t
+  slots-end h =
+      let l = length-take (d .n) (d .slots) in
+      sym (slots-none b m) ∙ rw (drop-of-length-le (take (d .n) (d .slots)) {i = i} (omega arith)) at so
+
+  module _ (below : i < d .n) (few : d .n ≤ maxCells) (size : length (d .slots) ≡ maxCells) {w : Walk} (walk : w ≡ slotTest b m (getD (d .slots) i noSlot)) where
+    slots-open : slotsTest b m (getD (d .slots) i noSlot ∷ drop (suc i) (take (d .n) (d .slots))) ≡ t
+    slots-open =
+        let l = length-take (d .n) (d .slots) in
+        rw (drop-cons (take (d .n) (d .slots)) i noSlot (omega arith), getD-take (d .n) (d .slots) i noSlot below) at so
+
+    pub slots-fail : not (w .ok) ≡ true → failed (w .marks) ≡ t
+    slots-fail e =
+        ap (λ (x : Walk). failed (x .marks)) walk
+        ∙ sym (slots-out b m _ (drop (suc i) (take (d .n) (d .slots))) (sym (ap (λ (x : Walk). x .ok) walk) ∙ not-true (w .ok) e)) ∙ slots-open
+
+    pub slots-turn : not (w .ok) ≡ false → slotsTest b (w .marks) (drop (i + 1) (take (d .n) (d .slots))) ≡ t
+    slots-turn e =
+        rw (add-one i)
+        (ap (λ (x : Walk). slotsTest b (x .marks) (drop (suc i) (take (d .n) (d .slots)))) walk
+        ∙ sym (slots-more b m _ (drop (suc i) (take (d .n) (d .slots))) (sym (ap (λ (x : Walk). x .ok) walk) ∙ not-false (w .ok) e)) ∙ slots-open)
+
+-- ---- rest_ok
+
+module _ (b : List ℕ) (free : ℕ) (w : Walk) where
+  pub rest-failed : not (w .ok) ≡ true → false ≡ restTest b free w
+  unfolding restTest
+  rest-failed e = both-no _ (not-true (w .ok) e)
+
+  module _ (good : not (w .ok) ≡ false) (f : Walk) (walk : f ≡ frontTest b (w .marks) free) where
+    rest-is : both (f .ok) (all (λ x. x) (f .marks)) ≡ restTest b free w
+    unfolding restTest
+    rest-is = ap (λ (x : Walk). both (x .ok) (all (λ y. y) (x .marks))) walk ∙ both-next _ (not-false (w .ok) good)
+
+    pub rest-no-chain : not (f .ok) ≡ true → false ≡ restTest b free w
+    rest-no-chain e = both-no _ (not-true (f .ok) e) ∙ rest-is
+
+    pub rest-all : not (f .ok) ≡ false → {r : Bool} → r ≡ all (λ x. x) (f .marks) → r ≡ restTest b free w
+    rest-all e g = g ∙ both-next _ (not-false (f .ok) e) ∙ rest-is
+
+-- ---- pages_sound
+
+abbrev Says : List ℕ → Directory → ℕ → Bool → Type 0
+Says b d free r = (r ≡ true → PagesSound b d free) × (PagesSound b d free → r ≡ true)
+
+-- the test has failed, and there are no such cells
+says-no : {b : List ℕ} {d : Directory} {free : ℕ} → (PagesSound b d free → ⊥) → Says b d free false
+says-no n = ((λ t. let z : _≡_ {A = ℕ} 0 1 = cc in absurd (omega arith)), (λ s. absurd (n s)))
+
+pub sound-short : (b : List ℕ) (d : Directory) (free : ℕ) → (length b ≡ bufferBytes → ⊥) → Says b d free false
+sound-short b d free n = says-no (λ s. n (s .size))
+
+module _ (b : List ℕ) (d : Directory) (free : ℕ) (slots : length (d .slots) ≡ maxCells) where
+  pub sound-many : maxCells < d .n → Says b d free false
+  sound-many h = says-no (λ s. omega (arith, sound-few b d free slots s))
+
+  pub sound-walked : Bytes b → length b ≡ bufferBytes → d .n ≤ maxCells → {z : List Bool} → z ≡ noMarks → {w : Walk} → w ≡ slotsTest b z (take (d .n) (d .slots)) → {r : Bool} → r ≡ restTest b free w
+      → Says b d free r
+  unfolding pagesTest
+  sound-walked small whole few none walk e =
+      let g =
+      e ∙ ap (restTest b free) (walk ∙ ap (λ (z : List Bool). slotsTest b z (take (d .n) (d .slots))) none)
+      ∙ both-next _ (le-leb (d .n) maxCells few) ∙ both-next _ (eq-eqb (length b) bufferBytes whole) in
+      ((λ t. test-sound b d free small slots (sym g ∙ t)), (λ s. g ∙ sound-test b d free small slots s))

@@ -1,0 +1,2 @@
+pub mod PagesSound
+pub mod Walks

@@ -1,0 +1,4 @@
+pub mod Standing
+pub mod Waiting
+pub mod On
+pub mod Boxes
