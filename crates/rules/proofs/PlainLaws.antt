@@ -1,6 +1,6 @@
 -- The link between the store and the plain rule is kept by every call.
 use mathlib.Core.Bool.{Bool, true, false, not, cond}
-use mathlib.Core.List.{List, [], _∷_, _++_, map}
+use mathlib.Core.List.{List, _∷_}
 use mathlib.Core.Option.{Option, none, some}
 use mathlib.Core.Path.{_≡_, refl, sym, ap, _∙_, subst}
 use Prim.Native.Nat.{ℕ, _+_, _≤_, _<_}
@@ -10,33 +10,29 @@ use lib.Dec.{eqb, ltb}
 use borrow.Author.Tests.{eqb-true, eqb-false}
 use Rattle.terms.specs.Terms.{Place}
 use Rattle.lists.specs.Rows.{Rows, Rising, find, alter}
-use Rattle.lists.specs.Sums.{sumBy, filter, count}
+use Rattle.lists.specs.Sums.{filter}
 use Rattle.lists.specs.Tests.{both, isSome}
 use Rattle.lists.proofs.Cases.{by-cases, option-cases, list-cases, none-some, isSome-false, false-true}
-use Rattle.lists.proofs.AmongLaws.{Among, sum-among, among-tail}
-use Rattle.lists.proofs.SumsLaws.{sum-cons}
+use Rattle.lists.proofs.AmongLaws.{Among}
 use Rattle.lists.proofs.TestsLaws.{both-right, not-true}
 use Rattle.lists.proofs.RowsLaws.{find-alter, find-filter, rising-filter}
 use Rattle.rules.specs.Limits.{sweepEvery, fullBox, fullMemory}
 use Rattle.rules.specs.Grid.{Box, cornerOf, inside, sameBox, boxOf}
-use Rattle.rules.specs.Store.{Report, Line, Cell, Store, others, settled, freeAfter}
+use Rattle.rules.specs.Store.{Report, Line, Cell, Store}
 use Rattle.rules.specs.Sweep.{sweptEntries, swept, sweptMemo, sweepFront, tick}
-use Rattle.rules.specs.Cut.{Cut}
-use Rattle.rules.specs.Flush.{joined, raised, entered, inBox, Flushed, flushedInto, grown, lowCell, highCell, unusedNumber, splitAt, beside, joinedWith, reshaped, cellOfBox, flush}
+use Rattle.rules.specs.Flush.{raised, entered, inBox, Flushed, flushedInto, flush}
 use Rattle.rules.specs.Carry.{isOn, wasNew, placeOf, storedIn, signedOff, flushDue, afterReport, onCount, waitingIn, signedOn, reported, found, carriedOut, carry}
 use Rattle.rules.specs.Plain.{Plain, plainOn, plainIn, plainFlush, plainAfter, plainOff, plainPlace, plainDone, plainStep}
 use Rattle.rules.specs.WellFormed.{WellFormed}
 use Rattle.rules.specs.Records.{Request, requestOf, refusal}
 use Rattle.lists.specs.Words.{Bytes}
-use Rattle.rules.proofs.Parts.{Books, Clean, Core, marks, onSet, Bounded}
+use Rattle.rules.proofs.Parts.{Books, Core, marks, onSet, Bounded}
 use Rattle.rules.proofs.WellLaws.{well-core}
-use Rattle.rules.proofs.LiveLaws.{liveBy, stored-none, stored-at, stored-same, live-one, live-order, live-back, live-swap, live-settled, live-sweep, live-off, live-off-other, live-split, live-join, live-flushed, live-flushed-other, find-enterEach-memo, sweptMemo-last}
-use Rattle.rules.proofs.BooksLaws.{books-swap, books-sweep, clean-swept, stale-sweep, books-among}
-use Rattle.rules.proofs.TilingLaws.{cellAt-split, home-some, others-among, round-others, named-neighbour}
-use Rattle.rules.proofs.CutLaws.{reshaped-cases}
-use Rattle.rules.proofs.FlushLaws.{rest-is, tiled, books-before, books-flushed, clean-flushed, report-found, report-enters}
+use Rattle.rules.proofs.LiveLaws.{stored-none, stored-same, live-one, live-off, live-off-other, find-enterEach-memo, sweptMemo-last}
+use Rattle.rules.proofs.FlushLaws.{report-found}
 use Rattle.rules.proofs.RecordLaws.{Accepted, on-passed, report-passed, off-passed, range-passed, accepted}
 use Rattle.rules.proofs.StepLaws.{report-done, on-core, report-core, off-core, put-few, put-boxes, put-bounded, answered-store}
+use Rattle.rules.proofs.LatestLaws.{Leaves, swept-others, books-others, stored-in, stored-out, flushes, front-books, stored-front}
 use Rattle.rules.proofs.LinkLaws.{Link, due-same, link-on, link-report, refusal-same}
 
 -- ---- sign-off
@@ -75,27 +71,15 @@ link-off s x k r h w = record {
 -- ---- the tally
 
 module _ (s : Store) (x : Plain) (k : Link s x) (b : Books (s .cells) (s .memo) (marks (s .waiting)) (onSet (s .on))) (d : Cell) (cs : List Cell) (e : s .cells ≡ d ∷ cs) where
-  front-books : Books (d ∷ cs) (s .memo) (marks (s .waiting)) (onSet (s .on))
-  front-books = subst (λ (l : List Cell). Books l (s .memo) (marks (s .waiting)) (onSet (s .on))) e b
-
-  -- the live entries stay
-  front-live : (t : Place → Bool) (q : ℕ) → liveBy t (sweptMemo (s .memo) (d .entries)) q (cs ++ (settled (s .free) (swept (s .memo) d) ∷ [])) ≡ liveBy t (s .memo) q (d ∷ cs)
-  front-live t q =
-      live-back t (sweptMemo (s .memo) (d .entries)) q cs (settled (s .free) (swept (s .memo) d) ∷ [])
-      ∙ live-settled t (sweptMemo (s .memo) (d .entries)) q (s .free) (swept (s .memo) d) cs
-      ∙ live-sweep d cs (s .memo) (marks (s .waiting)) (onSet (s .on)) front-books t q
-
   link-front : Link (sweepFront (d ∷ cs) s) x
   unfolding sweepFront isOn
   link-front = record {
     on = k .on;
     waiting = k .waiting;
     marked = k .marked;
-    stored = λ q.
-        stored-same (s .memo) (sweptMemo (s .memo) (d .entries)) q (d ∷ cs) _ (λ t. front-live t q) (live-one (d ∷ cs) (s .memo) (marks (s .waiting)) (onSet (s .on)) q front-books)
-        ∙ ap (storedIn (s .memo) q) (sym e) ∙ k .stored q;
+    stored = λ q. stored-front s b d cs e q ∙ k .stored q;
     lines = λ q l z.
-        let o = sweptMemo-last q (s .memo) (d .entries) (front-books .cells-rowed .0 .rising) (b .memo-rises) l z in
+        let o = sweptMemo-last q (s .memo) (d .entries) (front-books s b d cs e .cells-rowed .0 .rising) (b .memo-rises) l z in
         sym (o .2) ∙ k .lines q (o .0) (o .1);
     quiet = k .quiet;
     waits-on = k .waits-on;
@@ -109,80 +93,6 @@ link-tick s x k b =
     (λ t. rw t (list-cases (s .cells)
     (λ e. subst (λ (l : List Cell). Link (sweepFront l s) x) (sym e) (unfold sweepFront in k))
     (λ d cs e. subst (λ (l : List Cell). Link (sweepFront l s) x) (sym e) (link-front s x k b d cs e))))
-
--- ---- a flush: what follows the entering leaves the live entries and the lines' places
-
--- d and the other cells, once the reports are in, and the store that a step makes of them
-pub record Leaves (f : Flushed) (s : Store) : Type 0 where
-  pub live : (t : Place → Bool) (q : ℕ) → liveBy t (s .memo) q (s .cells) ≡ liveBy t (f .store .memo) q (f .cell ∷ f .rest)
-  pub lines : (q : ℕ) (l : Line) → find (s .memo) q ≡ some l → (k : Line) × (find (f .store .memo) q ≡ some k) × (k .last ≡ l .last)
-  pub waiting : s .waiting ≡ f .store .waiting
-  pub on : s .on ≡ f .store .on
-
-module _ (f : Flushed) (b : Books (f .cell ∷ f .rest) (f .store .memo) (marks (f .store .waiting)) (onSet (f .store .on))) (clean : Clean (f .store .memo) (f .cell)) where
-  leaves-grown : Leaves f (grown f)
-  unfolding grown
-  leaves-grown = record {
-    live = λ t q. live-back t (f .store .memo) q (f .rest) (settled (f .store .free) (f .cell) ∷ []) ∙ live-settled t (f .store .memo) q (f .store .free) (f .cell) (f .rest);
-    lines = λ q l e. (l, e, refl);
-    waiting = refl;
-    on = refl;
-  }
-
-  leaves-split : (c : Cut) → Leaves f (splitAt c f)
-  unfolding splitAt
-  leaves-split c =
-      let low : Cell = lowCell c (f .cell) in
-      let high : Cell = highCell c (unusedNumber (f .store .cells)) (f .cell) in
-      let laid : Cell = settled (freeAfter (f .store .free) low) high in
-      record {
-        live = λ t q.
-            live-back t (f .store .memo) q (f .rest) (settled (f .store .free) low ∷ laid ∷ [])
-            ∙ live-settled t (f .store .memo) q (f .store .free) low (laid ∷ f .rest)
-            ∙ live-swap t (f .store .memo) q low laid (f .rest)
-            ∙ live-settled t (f .store .memo) q (freeAfter (f .store .free) low) high (low ∷ f .rest)
-            ∙ live-swap t (f .store .memo) q high low (f .rest)
-            ∙ live-split (f .cell) (f .rest) (f .store .memo) c (unusedNumber (f .store .cells)) (b .cells-rowed .0 .rising) t q;
-        lines = λ q l e. (l, e, refl);
-        waiting = refl;
-        on = refl;
-      }
-
-  -- m stands among the others; it is swept, d being one of the others, and joined
-  module _ (m : Cell) (a : Among (f .rest) m) (adjoin : beside (f .cell .edges) (m .edges) ≡ true) (left-is : others (m .number) (f .rest) ≡ a .before ++ a .after) where
-    abbrev left : List Cell
-    left = a .before ++ a .after
-
-    books-apart : Books (m ∷ f .cell ∷ left) (f .store .memo) (marks (f .store .waiting)) (onSet (f .store .on))
-    books-apart = books-among (among-tail (f .cell) a) b
-
-    abbrev memoThen : Rows Line
-    memoThen = sweptMemo (f .store .memo) (m .entries)
-
-    join-live : (t : Place → Bool) (q : ℕ) → liveBy t memoThen q (joined f m ∷ left) ≡ liveBy t (f .store .memo) q (f .cell ∷ f .rest)
-    unfolding settled swept
-    join-live t q =
-        live-join (f .cell) (swept (f .store .memo) m) (joined f m) left memoThen (marks (f .store .waiting)) (onSet (f .store .on))
-        (books-swap (swept (f .store .memo) m) (f .cell) left (books-sweep m (f .cell ∷ left) books-apart)) (stale-sweep m (f .cell ∷ left) books-apart .0 ∙ clean) (clean-swept m (f .cell ∷ left) books-apart) refl t q
-        ∙ live-swap t memoThen q (f .cell) (swept (f .store .memo) m) left
-        ∙ live-sweep m (f .cell ∷ left) (f .store .memo) (marks (f .store .waiting)) (onSet (f .store .on)) books-apart t q
-        ∙ live-order t (f .store .memo) q (m ∷ f .cell ∷ left) (f .cell ∷ f .rest) (λ g. omega (arith, sum-cons g m (f .cell ∷ left), sum-cons g (f .cell) left, sum-cons g (f .cell) (f .rest), sum-among g a))
-
-    leaves-join : Leaves f (joinedWith f m)
-    unfolding joinedWith
-    leaves-join = record {
-      live = λ t q.
-          subst (λ (l : List Cell). liveBy t memoThen q (l ++ (joined f m ∷ [])) ≡ liveBy t (f .store .memo) q (f .cell ∷ f .rest)) (sym left-is)
-          (live-back t memoThen q left (joined f m ∷ []) ∙ join-live t q);
-      lines = λ q l e. sweptMemo-last q (f .store .memo) (m .entries) (books-apart .cells-rowed .0 .rising) (b .memo-rises) l e;
-      waiting = refl;
-      on = refl;
-    }
-
-  leaves-reshaped : (pick : ℕ) → ((n : ℕ) → count n (map (λ c. c .number) (f .rest)) ≤ 1) → Leaves f (reshaped pick f)
-  leaves-reshaped pick round =
-      reshaped-cases (Leaves f) pick f leaves-grown (λ c h i e. leaves-split c)
-      (λ n h e. let q = named-neighbour pick f n e in leaves-join n (q .3) (q .1) (others-among (f .rest) n (q .3) round))
 
 -- ---- a flush: the reports of m
 
@@ -262,44 +172,23 @@ module _ (s : Store) (x : Plain) (k : Link s x) (m : Box) (d : Cell) (c : Core s
 
   -- ---- the entries and the lines
 
-  books-others : Books (d ∷ others (d .number) (s .cells)) (s .memo) (marks (s .waiting)) (onSet (s .on))
-  books-others =
-      subst (λ (l : List Cell). Books (d ∷ l) (s .memo) (marks (s .waiting)) (onSet (s .on))) (sym (others-among (s .cells) d a (c .tiling .round)))
-      (books-before m s d c a home)
-
-  swept-others : Books (swept (s .memo) d ∷ others (d .number) (s .cells)) (sweptMemo (s .memo) (d .entries)) (marks (s .waiting)) (onSet (s .on))
-  swept-others = books-sweep d (others (d .number) (s .cells)) books-others
-
-  others-live : (t : Place → Bool) (q : ℕ) → liveBy t (s .memo) q (d ∷ others (d .number) (s .cells)) ≡ liveBy t (s .memo) q (s .cells)
-  others-live t q =
-      live-order t (s .memo) q (d ∷ others (d .number) (s .cells)) (s .cells)
-      (λ g. omega (arith, sum-cons g d (others (d .number) (s .cells)), ap (sumBy g) (others-among (s .cells) d a (c .tiling .round)), sum-among g a))
-
   flushed-stored : (t : Store) → Leaves flushedHere t → (q : ℕ) → storedIn (t .memo) q (t .cells) ≡ cond (plainIn (s .cuts) x m q) (x .latest q) (x .flushed q)
   flushed-stored t v q =
       option-cases (find (filter (inBox (s .cuts) m) (s .waiting)) q)
       (λ n. rw (stays-out q n)
-      (stored-same (s .memo) (t .memo) q (s .cells) (t .cells)
-      (λ p. v .live p q ∙ live-flushed-other m s d (marks (s .waiting)) (onSet (s .on)) swept-others books-others rises q n p ∙ others-live p q)
-      (live-one (s .cells) (s .memo) (marks (s .waiting)) (onSet (s .on)) q (c .books))
-      ∙ k .stored q))
-      (λ w n.
-      let g = goes-in q w n in
-      let f = report-found m s d c a home q w n in
-      rw (g .0, g .1)
-      (stored-at (t .memo) q (t .cells) (w .place)
-      (λ p. v .live p q ∙ live-flushed m s d (marks (s .waiting)) (onSet (s .on)) swept-others rises q w n (report-enters m s d c a home q w (f .0) (f .1) .here) (ap wasNew (f .0)) p)))
+      (stored-out m s d c a home t v q n ∙ k .stored q))
+      (λ w n. let g = goes-in q w n in rw (g .0, g .1) (stored-in m s d c a home t v q w n))
 
   flushed-line : (q : ℕ) (l : Line) → find (flushedHere .store .memo) q ≡ some l → l .last ≡ cond (plainIn (s .cuts) x m q) (x .latest q) (x .flushed q)
   unfolding flushedInto
   flushed-line q l e =
       let ws = filter (inBox (s .cuts) m) (s .waiting) in
-      let b = swept-others .cells-rowed .0 .rising in
+      let b = swept-others m s d c a home .cells-rowed .0 .rising in
       let z = sym (find-enterEach-memo q 0 ws (record { entries = sweptEntries (s .memo) (d .entries); memo = sweptMemo (s .memo) (d .entries) }) (rising-filter (inBox (s .cuts) m) 0 (s .waiting) rises)
-      (unfold swept in b) (swept-others .memo-rises)) ∙ e in
+      (unfold swept in b) (swept-others m s d c a home .memo-rises)) ∙ e in
       option-cases (find ws q)
       (λ n. rw (stays-out q n)
-      (let o = sweptMemo-last q (s .memo) (d .entries) (books-others .cells-rowed .0 .rising) (c .books .memo-rises) l (rw n at z) in
+      (let o = sweptMemo-last q (s .memo) (d .entries) (books-others m s d c a home .cells-rowed .0 .rising) (c .books .memo-rises) l (rw n at z) in
       sym (o .2) ∙ k .lines q (o .0) (o .1)))
       (λ w n. let g = goes-in q w n in rw (g .0, g .1) (entered-last (isSome (find (sweptEntries (s .memo) (d .entries)) q)) (w .new) (w .place) (find (sweptMemo (s .memo) (d .entries)) q) l (rw n at z)))
 
@@ -321,21 +210,10 @@ module _ (s : Store) (x : Plain) (k : Link s x) (m : Box) (d : Cell) (c : Core s
       flushed-waiting : flushedHere .store .waiting ≡ filter (λ w. not (inBox (s .cuts) m w)) (s .waiting)
       flushed-waiting = unfold flushedInto in refl
 
-books-here : (m : Box) (s : Store) (d : Cell) (c : Core s) (a : Among (s .cells) d) → inside (d .edges) (cornerOf (s .cuts) m) ≡ true
-    → Books (flushedInto m s d .cell ∷ flushedInto m s d .rest) (flushedInto m s d .store .memo) (marks (flushedInto m s d .store .waiting)) (onSet (flushedInto m s d .store .on))
-books-here m s d c a home =
-    subst (λ (l : List Cell). Books (flushedInto m s d .cell ∷ l) (flushedInto m s d .store .memo) (marks (flushedInto m s d .store .waiting)) (onSet (flushedInto m s d .store .on)))
-    (sym (rest-is m s d c a home)) (unfold flushedInto in books-flushed m s d c a home)
-
 pub link-flush : (pick : ℕ) (m : Box) (s : Store) (x : Plain) → Link s x → Core s → Link (flush pick m s) (plainFlush (s .cuts) (some m) x)
-unfolding flush cellOfBox
 link-flush pick m s x k c =
-    let h = home-some (s .cuts) (s .cells) m (c .tiling) in
-    let at = cellAt-split (s .cells) (cornerOf (s .cuts) m) (h .0) (h .1) in
-    rw (h .1) (link-leaves s x k m (h .0) c (at .0) (at .1) (reshaped pick (flushedInto m s (h .0)))
-    (leaves-reshaped (flushedInto m s (h .0)) (books-here m s (h .0) c (at .0) (at .1)) (clean-flushed m s (h .0) c (at .0) (at .1)) pick
-    (subst (λ (l : List Cell). (n : ℕ) → count n (map (λ y. y .number) l) ≤ 1) (sym (rest-is m s (h .0) c (at .0) (at .1)))
-    (round-others (at .0 .before) (h .0) (at .0 .after) (tiled m s (h .0) c (at .0) (at .1) .round)))))
+    let f = flushes pick m s c in
+    link-leaves s x k m (f .cell) c (f .among) (f .home) (flush pick m s) (f .leaves)
 
 -- ---- any call
 
