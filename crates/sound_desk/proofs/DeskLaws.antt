@@ -1,0 +1,335 @@
+-- The test of the whole desk: what its parts' tests come to, and the theorem: it passes exactly if the desk is that of the store it shows and the mirror's tests
+-- that look at the desk alone hold of that store.
+use mathlib.Core.Path.{_≡_, refl, sym, ap, ap₂, _∙_, transport}
+use mathlib.Core.Bool.{Bool, true, false, not}
+use mathlib.Core.List.{List, map}
+use Prim.Native.Nat.{ℕ, _-_, _≤_}
+use native.Mathlib.Omega.{arith}
+use lib.Dec.{eqb, leb, ltb}
+use lib.ListN.{length, length-map}
+use borrow.Author.Tests.{le-leb, leb-true}
+use Rattle.terms.specs.Terms.{maxOn}
+use Rattle.lists.specs.Rows.{Rising}
+use Rattle.lists.specs.Sums.{concat}
+use Rattle.lists.specs.Tests.{both, all}
+use Rattle.lists.proofs.TestsLaws.{both-left, both-right, both-intro, not-true, not-false}
+use Rattle.rules.specs.Limits.{maxCells, maxCuts, fullMemory, sweepEvery}
+use Rattle.rules.specs.Grid.{Cuts, Rect}
+use Rattle.rules.specs.Store.{Store, Cell}
+use Rattle.desk.specs.declared.CutList.{CutList}
+use Rattle.desk.specs.declared.Slot.{Slot}
+use Rattle.desk.specs.declared.Directory.{Directory}
+use Rattle.desk.specs.declared.Waiting.{Waiting}
+use Rattle.desk.specs.declared.Memo.{Memo}
+use Rattle.desk.specs.declared.On.{On}
+use Rattle.desk.specs.declared.Desk.{Desk}
+use Rattle.desk.specs.Layout.{lineSlots, slotted, cutListOf, slotOf, noSlot, directoryOf, gridOf, deskOf}
+use Rattle.desk.proofs.UniqueLaws.{same-cuts, same-slots, same-waiting, same-memo, same-on, same-tally}
+use Rattle.mirror.specs.Grid.{edgesTest, tileTest}
+use Rattle.mirror.specs.Cells.{numbersOf, edgesOf, rowsOf, numbersTest, roundTest}
+use Rattle.mirror.specs.Radios.{onTest, unmarkedTest, staleAt, lineTest, linesTest}
+use Rattle.mirror.specs.Round.{tallyTest}
+use Rattle.mirror.specs.Waiting.{fewTest}
+use Rattle.mirror.proofs.LoopsLaws.{all-both}
+use Rattle.mirror.proofs.RadiosLaws.{on-true}
+use Rattle.mirror.proofs.WellLaws.{Passes}
+use Rattle.sound_desk.specs.Views.{cutsBy, radiosOf, slotsIn, directoryWith, rectOf, cellOf, rectsIn}
+use Rattle.sound_desk.specs.Sound.{number, slotsTest, reportWeight, cutsSound, onSound, waitingSound, missedTest, memoSound, directorySound, edgesSound, tileSound, fewSound, unmarkedSound, gridSound, radiosSound, deskSound, shown, Tests, DeskTests, Shaped}
+use Rattle.sound_desk.proofs.LoopLaws.{false-both, true-both}
+use Rattle.sound_desk.proofs.SlotLaws.{slots-count}
+use Rattle.sound_desk.proofs.PartLaws.{map-map, map-same, cuts-in, cuts-whole, whole-cuts, on-whole, radios-on, whole-on, waiting-whole, reports-waiting, whole-waiting, memo-whole, whole-memo-sound}
+use Rattle.sound_desk.proofs.GridLaws.{directory-count, directory-whole, slots-in, whole-directory}
+
+-- ---- one test after the other
+
+stops : {a x : Bool} (rest : Bool) → a ≡ x → not a ≡ true → false ≡ both x rest
+stops {a} rest e f = sym (false-both rest (sym e ∙ not-true a f))
+
+goes : {a x r rest : Bool} → a ≡ x → not a ≡ false → r ≡ rest → r ≡ both x rest
+goes {a} {x} {r} {rest} e f q = q ∙ sym (true-both rest (sym e ∙ not-false a f))
+
+-- ---- what a part that has passed gives to the tests after it
+
+pub cuts-room : {a : Bool} (c : CutList) → a ≡ cutsSound c → not a ≡ false → c .n ≤ maxCuts
+unfolding cutsSound
+cuts-room {a} c e f = slots-count number maxCuts (c .n) (c .at) (both-left (slotsTest number maxCuts (c .n) (c .at)) _ (sym e ∙ not-false a f))
+
+pub cells-room : {a : Bool} (d : Directory) → a ≡ directorySound d → not a ≡ false → d .n ≤ maxCells
+cells-room {a} d e f = directory-count d (sym e ∙ not-false a f)
+
+pub waiting-room : {a : Bool} (w : Waiting) → a ≡ waitingSound w → not a ≡ false → w .n ≤ fullMemory
+unfolding waitingSound
+waiting-room {a} w e f = let h = slots-count reportWeight (fullMemory - 1) (w .n) (w .rows) (both-left (slotsTest reportWeight (fullMemory - 1) (w .n) (w .rows)) _ (sym e ∙ not-false a f)) in omega arith
+
+pub on-room : {a : Bool} (on : On) → a ≡ onSound on → not a ≡ false → on .n ≤ maxOn
+unfolding onSound
+on-room {a} on e f = slots-count number maxOn (on .n) (on .radios) (both-left (slotsTest number maxOn (on .n) (on .radios)) _ (sym e ∙ not-false a f))
+
+pub on-rising : {a : Bool} (on : On) → a ≡ onSound on → not a ≡ false → Rising 0 (radiosOf on)
+unfolding onSound
+on-rising {a} on e f = on-true (radiosOf on) (both-right (slotsTest number maxOn (on .n) (on .radios)) (onTest (radiosOf on)) (sym e ∙ not-false a f)) .1
+
+-- ---- the grid
+
+module _ (easts norths : CutList) (d : Directory) {a : Bool} (east : a ≡ cutsSound easts) where
+  pub grid-east : not a ≡ true → false ≡ gridSound easts norths d
+  unfolding gridSound
+  grid-east f = stops _ east f
+
+  module _ (passed : not a ≡ false) {b : Bool} (north : b ≡ cutsSound norths) where
+    pub grid-north : not b ≡ true → false ≡ gridSound easts norths d
+    unfolding gridSound
+    grid-north f = goes east passed (stops _ north f)
+
+    module _ (passed′ : not b ≡ false) {k : Bool} (cells : k ≡ directorySound d) where
+      pub grid-cells : not k ≡ true → false ≡ gridSound easts norths d
+      unfolding gridSound
+      grid-cells f = goes east passed (goes north passed′ (stops _ cells f))
+
+      module _ (passed″ : not k ≡ false) {l : Bool} (edges : l ≡ edgesSound easts norths d) where
+        pub grid-edges : not l ≡ true → false ≡ gridSound easts norths d
+        unfolding gridSound
+        grid-edges f = goes east passed (goes north passed′ (goes cells passed″ (stops _ edges f)))
+
+        pub grid-tile : {r : Bool} → not l ≡ false → r ≡ tileSound easts norths d → r ≡ gridSound easts norths d
+        unfolding gridSound
+        grid-tile f q = goes east passed (goes north passed′ (goes cells passed″ (goes edges f q)))
+
+module _ (easts norths : CutList) (d : Directory) {a : Bool} (grid : a ≡ gridSound easts norths d) (passed : not a ≡ false) where
+  all-grid : both (cutsSound easts) (both (cutsSound norths) (both (directorySound d) (both (edgesSound easts norths d) (tileSound easts norths d)))) ≡ true
+  unfolding gridSound
+  all-grid = sym grid ∙ not-false a passed
+
+  pub grid-east-room : easts .n ≤ maxCuts
+  grid-east-room = cuts-room easts (sym (both-left (cutsSound easts) _ all-grid)) refl
+
+  pub grid-north-room : norths .n ≤ maxCuts
+  grid-north-room = cuts-room norths (sym (both-left (cutsSound norths) _ (both-right (cutsSound easts) _ all-grid))) refl
+
+-- ---- waiting reports and radios on
+
+module _ (easts norths : CutList) (w : Waiting) (on : On) {a : Bool} (waits : a ≡ waitingSound w) where
+  pub radios-waiting : not a ≡ true → false ≡ radiosSound easts norths w on
+  unfolding radiosSound
+  radios-waiting f = stops _ waits f
+
+  module _ (passed : not a ≡ false) {b : Bool} (heard : b ≡ onSound on) where
+    pub radios-heard : not b ≡ true → false ≡ radiosSound easts norths w on
+    unfolding radiosSound
+    radios-heard f = goes waits passed (stops _ heard f)
+
+    module _ (passed′ : not b ≡ false) {k : Bool} (few : k ≡ fewSound easts norths w) where
+      pub radios-few : not k ≡ true → false ≡ radiosSound easts norths w on
+      unfolding radiosSound
+      radios-few f = goes waits passed (goes heard passed′ (stops _ few f))
+
+      pub radios-unmarked : {r : Bool} → not k ≡ false → r ≡ unmarkedSound w on → r ≡ radiosSound easts norths w on
+      unfolding radiosSound
+      radios-unmarked f q = goes waits passed (goes heard passed′ (goes few f q))
+
+-- ---- the desk
+
+module _ (d : Desk) {a : Bool} (grid : a ≡ gridSound (d .grid .easts) (d .grid .norths) (d .grid .cells)) where
+  pub desk-grid : not a ≡ true → false ≡ deskSound d
+  unfolding deskSound
+  desk-grid f = stops _ grid f
+
+  module _ (passed : not a ≡ false) {b : Bool} (radios : b ≡ radiosSound (d .grid .easts) (d .grid .norths) (d .waiting) (d .on)) where
+    pub desk-radios : not b ≡ true → false ≡ deskSound d
+    unfolding deskSound
+    desk-radios f = goes grid passed (stops _ radios f)
+
+    module _ (passed′ : not b ≡ false) {k : Bool} (memo : k ≡ memoSound (d .memo)) where
+      pub desk-memo : not k ≡ true → false ≡ deskSound d
+      unfolding deskSound
+      desk-memo f = goes grid passed (goes radios passed′ (stops _ memo f))
+
+      pub desk-tally : not k ≡ false → ltb (d .tally) sweepEvery ≡ deskSound d
+      unfolding deskSound tallyTest
+      desk-tally f = goes grid passed (goes radios passed′ (goes memo f refl))
+
+-- ---- the theorem
+
+-- the slots of a store's cells
+cells-slots : (cells : List Cell) → directoryOf cells ≡ directoryWith (map slotOf cells)
+unfolding directoryOf directoryWith
+cells-slots cells = let e = sym (length-map cells slotOf) in λ i. record { n = e i; slots = slotted maxCells noSlot (map slotOf cells) }
+
+shown-slots : (l : List Slot) → map slotOf (map cellOf l) ≡ l
+shown-slots l = map-map slotOf cellOf l ∙ map-same (λ x. slotOf (cellOf x)) (λ x. refl) l
+
+shown-numbers : (l : List Slot) → numbersOf (map cellOf l) ≡ map (λ x. x .number) l
+shown-numbers l = map-map (λ c. c .number) cellOf l
+
+shown-edges : (l : List Slot) → edgesOf (map cellOf l) ≡ map rectOf l
+shown-edges l = map-map (λ c. c .edges) cellOf l
+
+slot-numbers : (cells : List Cell) → map (λ x. x .number) (map slotOf cells) ≡ numbersOf cells
+slot-numbers cells = map-map (λ x. x .number) slotOf cells
+
+slot-edges : (cells : List Cell) → map rectOf (map slotOf cells) ≡ edgesOf cells
+slot-edges cells = map-map rectOf slotOf cells
+
+parts : (a b : Bool) → both a b ≡ true → (a ≡ true) × (b ≡ true)
+parts a b e = (both-left a b e, both-right a b e)
+
+-- each part's test
+record Parts (easts norths : CutList) (cells : Directory) (w : Waiting) (memo : Memo) (on : On) (tally : ℕ) : Type 0 where
+  east : cutsSound easts ≡ true
+  north : cutsSound norths ≡ true
+  directory : directorySound cells ≡ true
+  edges : edgesSound easts norths cells ≡ true
+  tile : tileSound easts norths cells ≡ true
+  waits : waitingSound w ≡ true
+  heard : onSound on ≡ true
+  few : fewSound easts norths w ≡ true
+  unmarked : unmarkedSound w on ≡ true
+  lines : memoSound memo ≡ true
+  tallied : tallyTest tally ≡ true
+
+desk-parts : (d : Desk) → deskSound d ≡ true → Parts (d .grid .easts) (d .grid .norths) (d .grid .cells) (d .waiting) (d .memo) (d .on) (d .tally)
+unfolding deskSound gridSound radiosSound
+desk-parts d t =
+    let p = parts _ _ t in
+    let g = parts _ _ (p .0) in
+    let h = parts _ _ (g .1) in
+    let k = parts _ _ (h .1) in
+    let l = parts _ _ (k .1) in
+    let q = parts _ _ (p .1) in
+    let w = parts _ _ (q .0) in
+    let x = parts _ _ (w .1) in
+    let y = parts _ _ (x .1) in
+    let m = parts _ _ (q .1) in
+    record { east = g .0; north = h .0; directory = k .0; edges = l .0; tile = l .1; waits = w .0; heard = x .0; few = y .0; unmarked = y .1; lines = m .0; tallied = m .1 }
+
+parts-desk : (d : Desk) → Parts (d .grid .easts) (d .grid .norths) (d .grid .cells) (d .waiting) (d .memo) (d .on) (d .tally) → deskSound d ≡ true
+unfolding deskSound gridSound radiosSound
+parts-desk d p =
+    both-intro (both-intro (p .east) (both-intro (p .north) (both-intro (p .directory) (both-intro (p .edges) (p .tile)))))
+    (both-intro (both-intro (p .waits) (both-intro (p .heard) (both-intro (p .few) (p .unmarked)))) (both-intro (p .lines) (p .tallied)))
+
+module _ (d : Desk) (shape : Shaped d) (sound : deskSound d ≡ true) where
+  have : Parts (d .grid .easts) (d .grid .norths) (d .grid .cells) (d .waiting) (d .memo) (d .on) (d .tally)
+  have = desk-parts d sound
+
+  cells-whole : d .grid .cells ≡ directoryOf (shown d .cells)
+  cells-whole =
+      directory-whole (d .grid .cells) (have .directory) (shape .cells) .0
+      ∙ ap directoryWith (sym (shown-slots (slotsIn (d .grid .cells))))
+      ∙ sym (cells-slots (shown d .cells))
+
+  -- the desk is that of the store it shows
+  pub desk-shown : d ≡ deskOf (shown d)
+  unfolding deskOf gridOf
+  desk-shown =
+      let e = cuts-whole (d .grid .easts) (shape .easts) (have .east) .0 in
+      let n = cuts-whole (d .grid .norths) (shape .norths) (have .north) .0 in
+      let c = cells-whole in
+      let w = waiting-whole (d .waiting) (shape .waiting) (have .waits) .0 in
+      let m = memo-whole (d .memo) (shape .memo) (have .lines) .0 in
+      let o = on-whole (d .on) (shape .on) (have .heard) .0 in
+      λ i. record { grid = record { easts = e i; norths = n i; cells = c i; free = d .grid .free }; waiting = w i; memo = m i; on = o i; tally = d .tally }
+
+  few-cells : length (slotsIn (d .grid .cells)) ≤ maxCells
+  unfolding directoryWith
+  few-cells = omega (arith, ap (λ (x : Directory). x .n) (directory-whole (d .grid .cells) (have .directory) (shape .cells) .0), directory-count (d .grid .cells) (have .directory))
+
+  -- and the mirror's tests hold of it
+  pub desk-tested : DeskTests (shown d)
+  unfolding edgesSound tileSound fewSound unmarkedSound
+  desk-tested =
+      let c = directory-whole (d .grid .cells) (have .directory) (shape .cells) in
+      let w = waiting-whole (d .waiting) (shape .waiting) (have .waits) in
+      let m = memo-whole (d .memo) (shape .memo) (have .lines) in
+      let slots = slotsIn (d .grid .cells) in
+      let cuts = cutsBy (d .grid .easts) (d .grid .norths) in
+      record {
+        few = le-leb (length (numbersOf (shown d .cells))) maxCells (rw (shown-numbers slots, length-map slots (λ x. x .number)) few-cells);
+        on = on-whole (d .on) (shape .on) (have .heard) .1;
+        easts = cuts-whole (d .grid .easts) (shape .easts) (have .east) .1;
+        norths = cuts-whole (d .grid .norths) (shape .norths) (have .north) .1;
+        numbered = ap numbersTest (shown-numbers slots) ∙ c .1;
+        edges = ap (all (edgesTest cuts)) (shown-edges slots) ∙ have .edges;
+        tile = ap (tileTest cuts) (shown-edges slots) ∙ have .tile;
+        unmarked = have .unmarked;
+        memo = m .1;
+        missed = m .2;
+        lasts = m .3;
+        waiting = w .1;
+        places = w .2;
+        boxed = have .few;
+        round = ap roundTest (shown-numbers slots) ∙ c .2;
+        tallied = have .tallied;
+      }
+
+-- ---- of a store
+
+rects-of : (cells : List Cell) → rectsIn (directoryOf cells) ≡ edgesOf cells
+rects-of cells = ap rectsIn (cells-slots cells) ∙ ap (map rectOf) (slots-in (map slotOf cells)) ∙ slot-edges cells
+
+cuts-of : (cuts : Cuts) → cutsBy (cutListOf (cuts .easts)) (cutListOf (cuts .norths)) ≡ cuts
+cuts-of cuts = let e = cuts-in (cuts .easts) in let n = cuts-in (cuts .norths) in λ i. record { easts = e i; norths = n i }
+
+-- the desk of a store whose tests hold passes
+pub tested-desk : (s : Store) → length (s .memo) ≤ lineSlots → DeskTests s → deskSound (deskOf s) ≡ true
+unfolding deskOf gridOf edgesSound tileSound fewSound unmarkedSound
+tested-desk s short t =
+    let cuts = cuts-of (s .cuts) in
+    let rects = rects-of (s .cells) in
+    let waits = reports-waiting (s .waiting) in
+    let names = slot-numbers (s .cells) in
+    let few = leb-true (length (numbersOf (s .cells))) maxCells (t .few) in
+    parts-desk (deskOf s) (record {
+      east = whole-cuts (s .cuts .easts) (t .easts);
+      north = whole-cuts (s .cuts .norths) (t .norths);
+      directory =
+          ap directorySound (cells-slots (s .cells))
+          ∙ whole-directory (map slotOf (s .cells)) (omega (arith, length-map (s .cells) slotOf, length-map (s .cells) (λ c. c .number))) (ap numbersTest names ∙ t .numbered) (ap roundTest names ∙ t .round);
+      edges = ap₂ (λ (x : Cuts) (y : List Rect). all (edgesTest x) y) cuts rects ∙ t .edges;
+      tile = ap₂ tileTest cuts rects ∙ t .tile;
+      waits = whole-waiting (s .waiting) (t .waiting) (t .places);
+      heard = whole-on (s .on) (t .on);
+      few = ap₂ fewTest cuts waits ∙ t .boxed;
+      unmarked = ap₂ unmarkedTest waits (radios-on (s .on)) ∙ t .unmarked;
+      lines = whole-memo-sound (s .memo) short (t .memo) (t .missed) (t .lasts);
+      tallied = t .tallied;
+    })
+
+-- stores of one desk have the same tests
+pub same-tests : (s t : Store) → deskOf s ≡ deskOf t → DeskTests s → DeskTests t
+same-tests s t e =
+    let cu = same-cuts s t e in
+    let sl = same-slots s t e in
+    let nu = sym (slot-numbers (s .cells)) ∙ ap (map (λ x. x .number)) sl ∙ slot-numbers (t .cells) in
+    let ed = sym (slot-edges (s .cells)) ∙ ap (map rectOf) sl ∙ slot-edges (t .cells) in
+    let wa = same-waiting s t e in
+    let me = same-memo s t e in
+    let on = same-on s t e in
+    let ta = same-tally s t e in
+    transport (λ i. Tests (cu i) (nu i) (ed i) (wa i) (me i) (on i) (ta i))
+
+-- a desk that passes: the tests hold of any store whose desk it is
+pub desk-store : (d : Desk) (s : Store) → Shaped d → d ≡ deskOf s → deskSound d ≡ true → DeskTests s
+desk-store d s shape e t = same-tests (shown d) s (sym (desk-shown d shape t) ∙ e) (desk-tested d shape t)
+
+-- those of a store that passes the whole test
+pub well-tests : (s : Store) → Passes s → DeskTests s
+unfolding missedTest linesTest lineTest
+well-tests s p = record {
+  few = ap (λ (n : ℕ). leb n maxCells) (length-map (s .cells) (λ c. c .number)) ∙ p .few;
+  on = p .on;
+  easts = p .easts;
+  norths = p .norths;
+  numbered = p .numbers;
+  edges = p .edges;
+  tile = p .tile;
+  unmarked = p .unmarked;
+  memo = p .memo;
+  missed = both-left (all (λ l. ltb 0 (l .val .missed)) (s .memo)) _ (sym (all-both (λ l. ltb 0 (l .val .missed)) (λ l. eqb (staleAt (s .memo) (l .key) (concat (rowsOf (s .cells)))) (l .val .missed)) (s .memo)) ∙ p .lines);
+  lasts = p .lasts;
+  waiting = p .waiting;
+  places = p .places;
+  boxed = p .boxed;
+  round = p .round;
+  tallied = p .tallied;
+}

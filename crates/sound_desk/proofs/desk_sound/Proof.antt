@@ -1,0 +1,37 @@
+use Rattle.sound_desk.proofs.DeskLaws.{grid-east-room, grid-north-room, desk-grid, desk-radios, desk-memo, desk-tally}
+use borrow.Author.Needs.{needs}
+use Rattle.sound_desk.proofs.desk_sound.Statement.{statement}
+use Rattle.sound_desk.proofs.desk_sound.Tie as tie
+
+grid-sound-requires : tie.Need-grid-sound-requires
+grid-sound-requires c κs = search needs
+
+returns : tie.Need-returns
+returns c = search desk-grid
+
+radios-sound-requires : tie.Need-radios-sound-requires
+radios-sound-requires c κs = (search grid-east-room, search grid-north-room)
+
+returns-2 : tie.Need-returns-2
+returns-2 c = search desk-radios
+
+memo-sound-requires : tie.Need-memo-sound-requires
+memo-sound-requires c κs = search needs
+
+returns-3 : tie.Need-returns-3
+returns-3 c = search desk-memo
+
+returns-4 : tie.Need-returns-4
+returns-4 c = search desk-tally
+
+pub desk-sound-spec : {M : Type 1} → statement M
+desk-sound-spec =
+    tie.close
+    (tie.spec
+    grid-sound-requires
+    returns
+    radios-sound-requires
+    returns-2
+    memo-sound-requires
+    returns-3
+    returns-4)

@@ -1,0 +1,22 @@
+use Rattle.sound_desk.proofs.PartLaws.{on-long, on-heavy, on-rise}
+use borrow.Author.Needs.{needs}
+use Rattle.sound_desk.proofs.on_sound.Statement.{statement}
+use Rattle.sound_desk.proofs.on_sound.Tie as tie
+
+returns : tie.Need-returns
+returns c = search on-long
+
+rest-requires : tie.Need-rest-requires
+rest-requires c κs = search needs
+
+returns-2 : tie.Need-returns-2
+returns-2 c = search on-heavy
+
+rises-requires : tie.Need-rises-requires
+rises-requires c κs = search needs
+
+returns-3 : tie.Need-returns-3
+returns-3 c = search on-rise
+
+pub on-sound-spec : {M : Type 1} → statement M
+on-sound-spec = tie.close (tie.spec returns rest-requires returns-2 rises-requires returns-3)

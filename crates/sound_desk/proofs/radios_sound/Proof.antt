@@ -1,0 +1,41 @@
+use Rattle.sound_desk.proofs.DeskLaws.{waiting-room, on-room, on-rising, radios-waiting, radios-heard, radios-few, radios-unmarked}
+use borrow.Author.Needs.{needs}
+use Rattle.sound_desk.proofs.radios_sound.Statement.{statement}
+use Rattle.sound_desk.proofs.radios_sound.Tie as tie
+
+waiting-sound-requires : tie.Need-waiting-sound-requires
+waiting-sound-requires c κs = search needs
+
+returns : tie.Need-returns
+returns c = search radios-waiting
+
+on-sound-requires : tie.Need-on-sound-requires
+on-sound-requires c κs = search needs
+
+returns-2 : tie.Need-returns-2
+returns-2 c = search radios-heard
+
+few-sound-requires : tie.Need-few-sound-requires
+few-sound-requires c κs = (search needs, search needs, search waiting-room)
+
+returns-3 : tie.Need-returns-3
+returns-3 c = search radios-few
+
+unmarked-sound-requires : tie.Need-unmarked-sound-requires
+unmarked-sound-requires c κs = (search waiting-room, search on-room, search on-rising)
+
+returns-4 : tie.Need-returns-4
+returns-4 c = search radios-unmarked
+
+pub radios-sound-spec : {M : Type 1} → statement M
+radios-sound-spec =
+    tie.close
+    (tie.spec
+    waiting-sound-requires
+    returns
+    on-sound-requires
+    returns-2
+    few-sound-requires
+    returns-3
+    unmarked-sound-requires
+    returns-4)
