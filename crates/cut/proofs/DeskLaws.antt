@@ -6,14 +6,14 @@ use lib.ListN.{length}
 use Rattle.rules.specs.Grid.{Cuts}
 use Rattle.rules.specs.Store.{Cell}
 use Rattle.desk.specs.Layout.{cutListOf, slotOf}
+use Rattle.desk.specs.Views.{cutsIn, cutsBy, edgesOf}
 use Rattle.desk.proofs.UniqueLaws.{take-cuts}
-use Rattle.cut.specs.Choice.{listOf, cutsIn, edgesOf}
 
-pub list-cuts : (l : List ℕ) → listOf (cutListOf l) ≡ l
-unfolding listOf
+pub list-cuts : (l : List ℕ) → cutsIn (cutListOf l) ≡ l
+unfolding cutsIn
 list-cuts l = take-cuts l
 
-pub store-cuts : (cuts : Cuts) → cutsIn (cutListOf (cuts .easts)) (cutListOf (cuts .norths)) ≡ cuts
+pub store-cuts : (cuts : Cuts) → cutsBy (cutListOf (cuts .easts)) (cutListOf (cuts .norths)) ≡ cuts
 store-cuts cuts = rw (list-cuts (cuts .easts), list-cuts (cuts .norths))
 
 pub count-cuts : (l : List ℕ) → cutListOf l .n ≡ length l

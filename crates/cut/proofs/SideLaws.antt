@@ -21,7 +21,8 @@ use Rattle.rules.specs.Grid.{Axis, eastward, northward, along, across, spanOf, 
 use Rattle.rules.specs.Cut.{Cut, through, lowSide, lowCount, fits, difference, longerSide}
 use Rattle.desk.specs.declared.CutList.{CutList}
 use Rattle.desk.specs.declared.Slot.{Slot}
-use Rattle.cut.specs.Choice.{axisOf, cutAt, listOf, cutsIn, edgesOf}
+use Rattle.desk.specs.Views.{cutsIn, cutsBy, edgesOf}
+use Rattle.cut.specs.Choice.{axisOf, cutAt}
 
 -- ---- the two directions
 
@@ -49,7 +50,7 @@ module _ (a : ℕ) (here : a ≡ 0) where
   pub east-high : (d : Slot) → d .east ≡ spanOf (axisOf a) (edgesOf d) .high
   east-high d = rw (axis-east a here)
 
-  pub east-cuts : (easts norths : CutList) → listOf easts ≡ cutsOf (axisOf a) (cutsIn easts norths)
+  pub east-cuts : (easts norths : CutList) → cutsIn easts ≡ cutsOf (axisOf a) (cutsBy easts norths)
   east-cuts easts norths = rw (axis-east a here)
 
   pub east-other : axisOf 1 ≡ across (axisOf a)
@@ -65,7 +66,7 @@ module _ (a : ℕ) (here : a ≡ 0 → ⊥) where
   pub north-high : (d : Slot) → d .north ≡ spanOf (axisOf a) (edgesOf d) .high
   north-high d = rw (axis-north a here)
 
-  pub north-cuts : (easts norths : CutList) → listOf norths ≡ cutsOf (axisOf a) (cutsIn easts norths)
+  pub north-cuts : (easts norths : CutList) → cutsIn norths ≡ cutsOf (axisOf a) (cutsBy easts norths)
   north-cuts easts norths = rw (axis-north a here)
 
   pub north-other : axisOf 0 ≡ across (axisOf a)

@@ -4,14 +4,11 @@ use mathlib.Core.List.{List, [], _∷_, map}
 use mathlib.Core.Option.{Option, none, some}
 use Prim.Native.Nat.{ℕ, zero, suc}
 use lib.Dec.{eqb, ltb}
-use lib.ListN.{take}
 use Rattle.terms.specs.Terms.{Place}
 use Rattle.lists.specs.Rows.{Rows}
 use Rattle.lists.specs.Tests.{both, orElse}
 use Rattle.rules.specs.Grid.{Axis, eastward, northward, along, across, Rect, spanOf, Cuts}
 use Rattle.rules.specs.Cut.{Cut, through, fits, difference, medianCut}
-use Rattle.desk.specs.declared.CutList.{CutList}
-use Rattle.desk.specs.declared.Slot.{Slot}
 use Rattle.cut.specs.declared.CutChoice.{CutChoice}
 use Rattle.cut.specs.declared.CutChoice.the-variants.{At, NoCut}
 
@@ -31,15 +28,6 @@ cutAt a c = record { axis = axisOf a; at = c }
 abbrev pub choiceOf : CutChoice → Option Cut
 choiceOf (At a c) = some (cutAt a c)
 choiceOf NoCut = none
-
-unfoldable pub listOf : CutList → List ℕ
-listOf l = take (l .n) (l .at)
-
-abbrev pub cutsIn : CutList → CutList → Cuts
-cutsIn easts norths = record { easts = listOf easts; norths = listOf norths }
-
-abbrev pub edgesOf : Slot → Rect
-edgesOf d = record { easts = record { low = d .west; high = d .east }; norths = record { low = d .south; high = d .north } }
 
 unfoldable pub coordinates : Axis → Rows Place → List ℕ
 coordinates axis es = map (λ e. along axis (e .val)) es

@@ -1,3 +1,4 @@
 pub mod Call
 pub mod Layout
 pub mod Sound
+pub mod Views

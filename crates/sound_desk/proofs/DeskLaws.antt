@@ -24,6 +24,7 @@ use Rattle.desk.specs.declared.Memo.{Memo}
 use Rattle.desk.specs.declared.On.{On}
 use Rattle.desk.specs.declared.Desk.{Desk}
 use Rattle.desk.specs.Layout.{lineSlots, slotted, cutListOf, slotOf, noSlot, directoryOf, gridOf, deskOf}
+use Rattle.desk.specs.Views.{cutsBy, radiosOf, slotsIn, directoryWith, edgesOf as rectOf}
 use Rattle.desk.proofs.UniqueLaws.{same-cuts, same-slots, same-waiting, same-memo, same-on, same-tally}
 use Rattle.mirror.specs.Grid.{edgesTest, tileTest}
 use Rattle.mirror.specs.Cells.{numbersOf, edgesOf, rowsOf, numbersTest, roundTest}
@@ -33,7 +34,7 @@ use Rattle.mirror.specs.Waiting.{fewTest}
 use Rattle.mirror.proofs.LoopsLaws.{all-both}
 use Rattle.mirror.proofs.RadiosLaws.{on-true}
 use Rattle.mirror.proofs.WellLaws.{Passes}
-use Rattle.sound_desk.specs.Views.{cutsBy, radiosOf, slotsIn, directoryWith, rectOf, cellOf, rectsIn}
+use Rattle.sound_desk.specs.Views.{cellOf, rectsIn}
 use Rattle.sound_desk.specs.Sound.{number, slotsTest, reportWeight, cutsSound, onSound, waitingSound, missedTest, memoSound, directorySound, edgesSound, tileSound, fewSound, unmarkedSound, gridSound, radiosSound, deskSound, shown, Tests, DeskTests, Shaped}
 use Rattle.sound_desk.proofs.LoopLaws.{false-both, true-both}
 use Rattle.sound_desk.proofs.SlotLaws.{slots-count}

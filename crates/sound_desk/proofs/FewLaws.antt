@@ -27,12 +27,13 @@ use Rattle.desk.specs.declared.Report.{Report}
 use Rattle.desk.specs.declared.Waiting.{Waiting}
 use Rattle.desk.specs.declared.On.{On}
 use Rattle.desk.specs.Layout.{noReport}
+use Rattle.desk.specs.Views.{cutsIn, cutsBy, radioRow, radiosOf}
 use Rattle.mirror.specs.Loops.{passing}
 use Rattle.mirror.specs.Radios.{onAt, unmarkedTest}
 use Rattle.mirror.specs.Waiting.{fewTest}
 use Rattle.mirror.proofs.LoopsLaws.{passing-some}
 use Rattle.mirror.proofs.WaitingLaws.{few-true, true-few}
-use Rattle.sound_desk.specs.Views.{cutsIn, cutsBy, radioRow, radiosOf, reportRow, reportsOf}
+use Rattle.sound_desk.specs.Views.{reportRow, reportsOf}
 use Rattle.sound_desk.specs.Sound.{maxStripes, fewSound, unmarkedSound}
 use Rattle.sound_desk.proofs.LoopLaws.{Passes, pass-fails, pass-turn, pass-end, Counted, count-end}
 use Rattle.sound_desk.proofs.PartLaws.{all-map}

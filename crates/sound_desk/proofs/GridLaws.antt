@@ -20,11 +20,12 @@ use Rattle.desk.specs.declared.CutList.{CutList}
 use Rattle.desk.specs.declared.Slot.{Slot}
 use Rattle.desk.specs.declared.Directory.{Directory}
 use Rattle.desk.specs.Layout.{noSlot}
+use Rattle.desk.specs.Views.{cutsIn, cutsBy, slotsIn, directoryWith, edgesOf as rectOf}
 use Rattle.desk.proofs.UniqueLaws.{take-slotted}
 use Rattle.mirror.specs.Cells.{numbersTest, roundTest}
 use Rattle.mirror.specs.Grid.{lowTest, highTest, spanTest, edgesTest}
 use Rattle.mirror.proofs.LoopsLaws.{all-false, at-most-twice, marks-at-most}
-use Rattle.sound_desk.specs.Views.{cutsIn, cutsBy, slotsIn, directoryWith, rectOf, numbersIn}
+use Rattle.sound_desk.specs.Views.{numbersIn}
 use Rattle.sound_desk.specs.Sound.{weighs, slotsTest, slotWeight, namesSound, directorySound, edgesSound}
 use Rattle.sound_desk.proofs.LoopLaws.{both-false, false-both, true-both, Passes, pass-fails, pass-turn, pass-end}
 use Rattle.sound_desk.proofs.SlotLaws.{slots-long, slots-heavy, slots-fit, slots-count, slots-used, slots-slotted, slotted-slots}

@@ -24,6 +24,7 @@ use Rattle.desk.specs.declared.Line.{Line}
 use Rattle.desk.specs.declared.Memo.{Memo}
 use Rattle.desk.specs.declared.On.{On}
 use Rattle.desk.specs.Layout.{lineSlots, slotted, cutListOf, reportOf, noReport, waitingOf, lineWith, lineOf, noLine, memoOf, onOf}
+use Rattle.desk.specs.Views.{cutsIn, radioRow, radiosOf}
 use Rattle.desk.proofs.UniqueLaws.{take-cuts, take-waiting, take-memo, take-on}
 use Rattle.memo.specs.Memo.{lastOf, rowOf, linesOf}
 use Rattle.memo.proofs.MemoLaws.{lines-memo}
@@ -32,7 +33,7 @@ use Rattle.mirror.specs.Grid.{cutsTest, placeTest}
 use Rattle.mirror.specs.Radios.{onTest, memoTest, lastTest, lastsTest}
 use Rattle.mirror.specs.Waiting.{waitingTest, placesTest}
 use Rattle.mirror.proofs.LoopsLaws.{all-both}
-use Rattle.sound_desk.specs.Views.{cutsIn, radioRow, radiosOf, placeOf, reportRow, reportsOf}
+use Rattle.sound_desk.specs.Views.{placeOf, reportRow, reportsOf}
 use Rattle.sound_desk.specs.Sound.{weighs, slotsTest, climbs, number, cutsSound, onSound, reportWeight, reportMarked, reportTest, waitingSound, lineWeight, lineMarked, missedTest, lineTest, memoSound}
 use Rattle.sound_desk.proofs.LoopLaws.{both-false, false-both, true-both}
 use Rattle.sound_desk.proofs.SlotLaws.{map-back, slots-long, slots-heavy, slots-fit, slots-used, slots-slotted, slotted-slots}

@@ -24,10 +24,11 @@ use Rattle.desk.specs.declared.CutList.{CutList}
 use Rattle.desk.specs.declared.Slot.{Slot}
 use Rattle.desk.specs.declared.Directory.{Directory}
 use Rattle.desk.specs.Layout.{noSlot}
+use Rattle.desk.specs.Views.{cutsIn, cutsBy, slotsIn, edgesOf as rectOf}
 use Rattle.mirror.specs.Loops.{allTo}
 use Rattle.mirror.specs.Grid.{holding, tileTest}
 use Rattle.mirror.proofs.LoopsLaws.{allTo-zero, allTo-suc, allTo-false, allTo-ext, all-allTo}
-use Rattle.sound_desk.specs.Views.{cutsIn, cutsBy, slotsIn, rectOf, rectsIn}
+use Rattle.sound_desk.specs.Views.{rectsIn}
 use Rattle.sound_desk.specs.Sound.{inRow, rowTiled, tileSound}
 use Rattle.sound_desk.proofs.LoopLaws.{both-false, Counted, count-end}
 

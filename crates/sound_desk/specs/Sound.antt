@@ -23,6 +23,7 @@ use Rattle.desk.specs.declared.Memo.{Memo}
 use Rattle.desk.specs.declared.On.{On}
 use Rattle.desk.specs.declared.Desk.{Desk}
 use Rattle.desk.specs.Layout.{lineSlots}
+use Rattle.desk.specs.Views.{cutsIn, cutsBy, radiosOf, slotsIn}
 use Rattle.memo.specs.Memo.{lastOf, linesOf}
 use Rattle.mirror.specs.Loops.{risesTo, allTo}
 use Rattle.mirror.specs.Grid.{cutsTest, placeTest, edgesTest, holding, tileTest}
@@ -30,7 +31,7 @@ use Rattle.mirror.specs.Cells.{numbersOf, edgesOf, numbersTest, roundTest}
 use Rattle.mirror.specs.Radios.{onTest, unmarkedTest, memoTest, lastTest, lastsTest}
 use Rattle.mirror.specs.Round.{tallyTest}
 use Rattle.mirror.specs.Waiting.{waitingTest, placesTest, fewTest}
-use Rattle.sound_desk.specs.Views.{cutsIn, cutsBy, radiosOf, placeOf, reportsOf, slotsIn, cellOf, numbersIn, rectsIn}
+use Rattle.sound_desk.specs.Views.{placeOf, reportsOf, cellOf, numbersIn, rectsIn}
 
 module _ {A : Type 0} where
   -- what the slots from n on weigh, a slot being weighed by w: 0 exactly if each is zero

@@ -10,10 +10,11 @@ use Rattle.lists.specs.Tests.{both, either, all}
 use Rattle.page.specs.Page.{kindFree, kindFirst, kindFurther, kind, next, cell, count, entries}
 use Rattle.page.specs.Buffer.{bufferBytes, pageAt}
 use Rattle.page.specs.Layout.{laidOut}
-use Rattle.rules.specs.Grid.{Rect, inside}
+use Rattle.rules.specs.Grid.{inside}
 use Rattle.rules.specs.Limits.{maxCells}
 use Rattle.desk.specs.declared.Slot.{Slot}
 use Rattle.desk.specs.declared.Directory.{Directory}
+use Rattle.desk.specs.Views.{edgesOf}
 use Rattle.sound_pages.specs.declared.Walk.{Walk}
 
 -- ---- a page
@@ -35,9 +36,6 @@ startsAbove low (e ∷ es) = ltb low (e .key)
 unfoldable pub lastRadio : ℕ → Rows Place → ℕ
 lastRadio low [] = low
 lastRadio low (e ∷ es) = lastRadio (e .key) es
-
-abbrev pub edgesOf : Slot → Rect
-edgesOf s = record { easts = record { low = s .west; high = s .east }; norths = record { low = s .south; high = s .north } }
 
 abbrev pub insideOf : Slot → Row Place → Bool
 insideOf s e = inside (edgesOf s) (e .val)

@@ -16,11 +16,12 @@ use Rattle.lists.proofs.SearchLaws.{Between, between-start, between-up, between
 use Rattle.lists.proofs.ShiftLaws.{Opened, Closed}
 use Rattle.desk.specs.declared.On.{On}
 use Rattle.desk.specs.Layout.{onOf}
+use Rattle.desk.specs.Views.{radioRow, radiosOf}
 use Rattle.desk.proofs.UniqueLaws.{take-on}
 use Rattle.waiting.specs.declared.Standing.{Standing}
 use Rattle.waiting.specs.declared.Standing.the-variants.{At, Before}
 use Rattle.waiting.specs.Standing.{standing}
-use Rattle.waiting.specs.On.{radioRow, radiosOf, WholeOn}
+use Rattle.waiting.specs.On.{WholeOn}
 use Rattle.waiting.proofs.SlotsLaws.{Slots, slots-get, slots-open, slots-close, standing-at, standing-other, standing-past, at-inside, at-find, at-key, before-inside, before-find, alter-at, alter-at-none, alter-before, alter-before-none}
 
 -- ---- the same rows, as the desk's array and as a list

@@ -3,11 +3,11 @@ use mathlib.Core.List.{map}
 use Prim.Native.Nat.{_≤_, _-_}
 use lib.ListN.{take}
 use Rattle.lists.proofs.SearchLaws.{Between}
-use Rattle.sound_desk.specs.Views.{radioRow}
 use Rattle.sound_desk.proofs.FewLaws.{seek-start, seek-up, seek-down, seek-past, seek-here}
 use borrow.Author.Needs.{needs}
 use Rattle.sound_desk.proofs.is_on.Statement.{statement}
 use Rattle.sound_desk.proofs.is_on.Tie as tie
+use Rattle.desk.specs.Views.{radioRow}
 
 abbrev Inv-loop : tie.InvT-loop
 Inv-loop slots n radio low₀ high₀ low high = (low ≤ high) × (high ≤ n) × Between (map radioRow (take n slots)) radio (radioRow 0) low high

@@ -1,0 +1,37 @@
+-- The parts of a desk in any condition, each as far as its count says: what a store would have there.
+use mathlib.Core.List.{List, map}
+use Prim.Native.Nat.{ℕ}
+use lib.ListN.{length, take}
+use Rattle.lists.specs.Rows.{Row, Rows}
+use Rattle.rules.specs.Limits.{maxCells}
+use Rattle.rules.specs.Grid.{Rect, Cuts}
+use Rattle.desk.specs.declared.CutList.{CutList}
+use Rattle.desk.specs.declared.Slot.{Slot}
+use Rattle.desk.specs.declared.Directory.{Directory}
+use Rattle.desk.specs.declared.On.{On}
+use Rattle.desk.specs.Layout.{slotted, noSlot}
+
+-- the cuts of one direction, and of both
+unfoldable pub cutsIn : CutList → List ℕ
+cutsIn c = take (c .n) (c .at)
+
+abbrev pub cutsBy : CutList → CutList → Cuts
+cutsBy easts norths = record { easts = cutsIn easts; norths = cutsIn norths }
+
+-- the directory's slots, in the order of the round, and the directory that has these
+unfoldable pub slotsIn : Directory → List Slot
+slotsIn d = take (d .n) (d .slots)
+
+unfoldable pub directoryWith : List Slot → Directory
+directoryWith l = record { n = length l; slots = slotted maxCells noSlot l }
+
+-- a slot's edges as a rectangle
+abbrev pub edgesOf : Slot → Rect
+edgesOf s = record { easts = record { low = s .west; high = s .east }; norths = record { low = s .south; high = s .north } }
+
+-- the radios on
+abbrev pub radioRow : ℕ → Row (Unit {0})
+radioRow r = record { key = r; val = tt }
+
+unfoldable pub radiosOf : On → Rows (Unit {0})
+radiosOf on = map radioRow (take (on .n) (on .radios))
