@@ -1,0 +1,4 @@
+pub mod CellLaws
+pub mod NumberLaws
+pub mod CutsLaws
+pub mod DirectoryLaws

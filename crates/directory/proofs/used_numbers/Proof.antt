@@ -1,0 +1,56 @@
+-- The numbers of the first i cells are marked (`Marked`).
+use Prim.Native.Nat.{_-_, _≤_}
+use Rattle.lists.proofs.ShiftLaws.{length-mapped}
+use Rattle.directory.proofs.NumberLaws.{Marked, mark-start, number-below, mark-turn, mark-end}
+use borrow.Author.Needs.{needs}
+use Rattle.directory.proofs.used_numbers.Statement.{statement}
+use Rattle.directory.proofs.used_numbers.Tie as tie
+
+abbrev Inv-loop : tie.InvT-loop
+Inv-loop cells n used₀ i₀ used i = (i ≤ n) × Marked cells i used
+
+abbrev μ-loop : tie.MeasureT-loop
+μ-loop cells n used₀ i₀ used i = n - i
+
+loop-holds : tie.Need-loop-holds Inv-loop μ-loop
+loop-holds c = (search needs, search (mark-start, length-mapped))
+
+mul-slot : tie.Need-mul-slot Inv-loop μ-loop
+mul-slot c = search needs
+
+element-copy-out-slot : tie.Need-element-copy-out-slot Inv-loop μ-loop
+element-copy-out-slot c = search needs
+
+index-requires : tie.Need-index-requires Inv-loop μ-loop
+index-requires c κs = search needs
+
+array-write-used : tie.Need-array-write-used Inv-loop μ-loop
+array-write-used c = search (number-below, length-mapped)
+
+add-i : tie.Need-add-i Inv-loop μ-loop
+add-i c = search needs
+
+loop-less : tie.Need-loop-less Inv-loop μ-loop
+loop-less c = search needs
+
+loop-again : tie.Need-loop-again Inv-loop μ-loop
+loop-again c = (search needs, search mark-turn)
+
+returns : tie.Need-returns Inv-loop μ-loop
+returns c = search mark-end
+
+pub used-numbers-spec : {M : Type 1} → statement M
+used-numbers-spec =
+    tie.close
+    (tie.spec
+    Inv-loop
+    μ-loop
+    loop-holds
+    mul-slot
+    element-copy-out-slot
+    index-requires
+    array-write-used
+    add-i
+    loop-less
+    loop-again
+    returns)

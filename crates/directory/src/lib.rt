@@ -1,0 +1,207 @@
+// The directory and the cuts as the desk holds them: in their order, unused slots zero. By value; the inner loops work in place.
+ghost use mathlib.Core.List.{[], _∷_, _++_};
+ghost use mathlib.Core.Path.{_≡_};
+ghost use Prim.Native.Nat.{_<_, _≤_};
+ghost use Rattle.lists.specs.Parts.{insertAt, removeAt};
+ghost use Rattle.rules.specs.Limits.{maxCells, maxCuts};
+ghost use Rattle.rules.specs.Grid.{within, inside, stripeLow, cornerOf};
+ghost use Rattle.rules.specs.Flush.{addCut};
+ghost use Rattle.desk.specs.Layout.{cutListOf};
+ghost use Rattle.desk.specs.Views.{cutsIn, cutsBy, slotsIn, directoryWith, edgesOf};
+ghost use Rattle.waiting.specs.Boxes.{boxIn};
+ghost use Rattle.directory.specs.Directory.{WholeDirectory, slotAt, foundAt, Numbered, usedNumbers, unusedOf};
+ghost use Rattle.directory.specs.Cuts.{WholeCuts, CutReady, placeOf};
+use desk::CutList;
+use desk::Desk;
+use desk::Directory;
+use desk::Slot;
+use waiting::BoxAt;
+
+// Where the cell of a place stands in the directory.
+pub enum FoundCell {
+    At(usize),
+    Nowhere,
+}
+
+// ---- the cell of a place
+
+// Whether a coordinate lies between two edges, "both inside".
+fn spans(low: u16, high: u16, x: u16) -> bool
+    ensures { λ r. ⌜ r ≡ within (record { low = low; high = high }) x ⌝ }
+{
+    low <= x && x <= high
+}
+
+// Whether a place lies in a cell.
+fn holds(slot: Slot, east: u16, north: u16) -> bool
+    ensures { λ r. ⌜ r ≡ inside (edgesOf slot) (record { east = east; north = north }) ⌝ }
+{
+    spans(slot.west, slot.east, east) && spans(slot.south, slot.north, north)
+}
+
+// Where the cell of a place stands; its number and its edges are in the slot there.
+pub fn cell_at(cells: Directory, east: u16, north: u16) -> FoundCell
+    requires { ⌜ cells .n ≤ maxCells ⌝ }
+    ensures { λ r. ⌜ r ≡ foundAt (slotAt (slotsIn cells) (record { east = east; north = north })) ⌝ }
+{
+    let n = cells.n;
+    let mut i: usize = 0;
+    while i < n {
+        let slot = cells.slots[i];
+        if holds(slot, east, north) {
+            return FoundCell::At(i);
+        }
+        i += 1;
+    }
+    FoundCell::Nowhere
+}
+
+// ---- the round
+
+// Without the cell at `at`; those after it stand one place nearer, and the last slot is unused.
+pub fn taken_out(cells: Directory, at: usize) -> Directory
+    requires { ⌜ WholeDirectory cells × (at < cells .n) × (cells .n ≤ maxCells) ⌝ }
+    ensures { λ r. ⌜ r ≡ directoryWith (removeAt (slotsIn cells) at) ⌝ }
+{
+    let mut d = cells;
+    let last = d.n - 1;
+    let mut i = at;
+    while i < last {
+        let j = i + 1;
+        let x = d.slots[j];
+        d.slots[i] = x;
+        i = j;
+    }
+    d.slots[last] = Slot {
+        number: 0,
+        west: 0,
+        east: 0,
+        south: 0,
+        north: 0,
+        first: 0,
+    };
+    d.n = last;
+    d
+}
+
+// With a cell that "goes last in the round".
+pub fn put_last(cells: Directory, slot: Slot) -> Directory
+    requires { ⌜ WholeDirectory cells × (cells .n < maxCells) ⌝ }
+    ensures { λ r. ⌜ r ≡ directoryWith (slotsIn cells ++ (slot ∷ [])) ⌝ }
+{
+    let mut d = cells;
+    let n = d.n;
+    d.slots[n] = slot;
+    d.n = n + 1;
+    d
+}
+
+// ---- numbers
+
+fn index(x: u16) -> usize
+    ensures { λ r. ⌜ r ≡ x ⌝ }
+{
+    x as usize
+}
+
+fn number_of(k: usize) -> u16
+    requires { ⌜ k < maxCells ⌝ }
+    ensures { λ r. ⌜ r ≡ k ⌝ }
+{
+    k as u16
+}
+
+// Which numbers the cells have: each marks its own.
+fn used_numbers(cells: Directory) -> [bool; Desk::MAX_CELLS]
+    requires { ⌜ (cells .n ≤ maxCells) × Numbered (slotsIn cells) ⌝ }
+    ensures { λ r. ⌜ r ≡ usedNumbers (slotsIn cells) ⌝ }
+{
+    let n = cells.n;
+    let mut used = [false; Desk::MAX_CELLS];
+    let mut i: usize = 0;
+    while i < n {
+        let slot = cells.slots[i];
+        let k = index(slot.number);
+        used[k] = true;
+        i += 1;
+    }
+    used
+}
+
+// "the smallest unused number"
+pub fn unused_number(cells: Directory) -> u16
+    requires { ⌜ (cells .n ≤ maxCells) × Numbered (slotsIn cells) ⌝ }
+    ensures { λ r. ⌜ r ≡ unusedOf (slotsIn cells) ⌝ }
+{
+    let used = used_numbers(cells);
+    let mut k: usize = 0;
+    while k < Desk::MAX_CELLS {
+        if !used[k] {
+            return number_of(k);
+        }
+        k += 1;
+    }
+    0
+}
+
+// ---- cuts
+
+// The south-west corner of a memory cell.
+pub struct Corner {
+    pub east: u16,
+    pub north: u16,
+}
+
+// The least coordinate of a stripe.
+fn stripe_low(cuts: CutList, i: usize) -> u16
+    requires { ⌜ (cuts .n ≤ maxCuts) × (i ≤ cuts .n) ⌝ }
+    ensures { λ r. ⌜ r ≡ stripeLow (cutsIn cuts) i ⌝ }
+{
+    if i == 0 {
+        return 0;
+    }
+    let k = i - 1;
+    cuts.at[k]
+}
+
+// The south-west corner of m.
+pub fn corner_of(easts: CutList, norths: CutList, m: BoxAt) -> Corner
+    requires { ⌜ (easts .n ≤ maxCuts) × (norths .n ≤ maxCuts) × (m .east ≤ easts .n) × (m .north ≤ norths .n) ⌝ }
+    ensures { λ r. ⌜ placeOf r ≡ cornerOf (cutsBy easts norths) (boxIn m) ⌝ }
+{
+    Corner {
+        east: stripe_low(easts, m.east),
+        north: stripe_low(norths, m.north),
+    }
+}
+
+// A cut at `place`; what stood there and after it stands one place further on.
+fn cut_opened(cuts: CutList, place: usize, at: u16) -> CutList
+    requires { ⌜ WholeCuts cuts × (place ≤ cuts .n) × (cuts .n < maxCuts) ⌝ }
+    ensures { λ r. ⌜ r ≡ cutListOf (insertAt (cutsIn cuts) place at) ⌝ }
+{
+    let mut c = cuts;
+    let n = c.n;
+    let mut i = n;
+    while place < i {
+        let j = i - 1;
+        let x = c.at[j];
+        c.at[i] = x;
+        i = j;
+    }
+    c.at[place] = at;
+    c.n = n + 1;
+    c
+}
+
+// With a cut at `at`: one that is there already, so that a stripe begins with it, is not made again.
+pub fn with_cut(cuts: CutList, at: u16) -> CutList
+    requires { ⌜ CutReady cuts at ⌝ }
+    ensures { λ r. ⌜ r ≡ cutListOf (addCut at (cutsIn cuts)) ⌝ }
+{
+    let stripe = waiting::stripe_of(cuts, at);
+    if stripe_low(cuts, stripe) == at {
+        return cuts;
+    }
+    cut_opened(cuts, stripe, at)
+}

@@ -1,0 +1,163 @@
+-- A store in the middle of a call has room for the reports of a memory cell, and what they leave is the flush of it: the swept cell has no stale entry, so it ends with one entry
+-- for each radio on at most; each line counts a stale entry, and what is stale and waits is bounded together.
+use mathlib.Core.Bool.{Bool, true}
+use mathlib.Core.List.{List, _++_}
+use mathlib.Core.Option.{Option, none, some}
+use mathlib.Core.Path.{_≡_, sym, ap, _∙_}
+use Prim.Native.Nat.{ℕ, _+_, _≤_, _<_}
+use native.Mathlib.Omega.{arith}
+use lib.ListN.{length}
+use Rattle.terms.specs.Terms.{Place, maxOn}
+use Rattle.lists.specs.Rows.{Rows, find}
+use Rattle.lists.specs.Sums.{filter}
+use Rattle.lists.specs.Tests.{one-if}
+use Rattle.lists.proofs.AmongLaws.{Among, sum-among}
+use Rattle.lists.proofs.RowsLaws.{rising-filter}
+use Rattle.lists.proofs.SumsLaws.{sum-cons, sum-le, length-sum, length-middle}
+use Rattle.lists.proofs.TestsLaws.{each-every, one-if-le}
+use Rattle.entries.specs.Entries.{rowsOf}
+use Rattle.rules.specs.Limits.{maxCuts, fullMemory, sweepEvery}
+use Rattle.rules.specs.Grid.{eastward, northward, inside, Cuts, Box, cornerOf}
+use Rattle.rules.specs.Store.{Report, Line, Cell, Store}
+use Rattle.rules.specs.Sweep.{stale, staleBy, sweptMemo, swept}
+use Rattle.rules.specs.Flush.{Work, enterEach, inBox, flushedInto, cellOfBox}
+use Rattle.rules.specs.WellFormed.{countIf, staleIn}
+use Rattle.rules.proofs.Parts.{staleR, missedOf, Books, Bounded, Core}
+use Rattle.rules.proofs.BooksLaws.{clean-swept, stale-sweep-sum, memo-total, entries-total}
+use Rattle.rules.proofs.RoundLaws.{bounded-total}
+use Rattle.rules.proofs.TilingLaws.{cellAt-split, some-cell}
+use Rattle.rules.proofs.FlushLaws.{Staged, books-before, books-swept, books-flushed, clean-flushed, waiting-flushed}
+use Rattle.desk.specs.declared.CutList.{CutList}
+use Rattle.desk.specs.declared.Waiting.{Waiting}
+use Rattle.desk.specs.Layout.{lineSlots, cutListOf, waitingOf, memoOf}
+use Rattle.desk.specs.Views.{cutsBy}
+use Rattle.memo.specs.Memo.{mostMissed}
+use Rattle.memo.proofs.MemoLaws.{lines-are, whole-is}
+use Rattle.waiting.specs.declared.BoxAt.{BoxAt}
+use Rattle.waiting.specs.Boxes.{boxIn}
+use Rattle.waiting.specs.Waiting.{reportsOf}
+use Rattle.waiting.proofs.BoxLaws.{cuts-laid}
+use Rattle.waiting.proofs.WaitingLaws.{reports-laid, count-laid}
+use Rattle.sweep.specs.declared.Swept.{Swept}
+use Rattle.enter.specs.Enter.{workOf, Room, Enterable, Entered}
+
+-- ---- counts
+
+stale-size : (memo : Rows Line) (c : Cell) → staleIn memo c ≤ length (c .entries)
+unfolding staleIn
+stale-size memo c = omega (arith, sum-le (λ e. one-if (stale memo e)) (λ _. 1) (c .entries) (λ e. one-if-le (stale memo e)), length-sum (c .entries))
+
+count-one : (t : Place → Bool) (o : Option Place) → countIf t o ≤ 1
+count-one t none = omega arith
+count-one t (some p) = one-if-le (t p)
+
+-- a radio has one entry in each cell at most
+missed-few : {cells : List Cell} {memo : Rows Line} {new on : ℕ → Bool} → Books cells memo new on → (r : ℕ) → missedOf (find memo r) ≤ length cells
+unfolding staleR
+missed-few {cells} {memo} b r =
+    omega (
+      arith,
+      b .counted r,
+      sum-le (λ c. countIf (staleBy (find memo r)) (find (c .entries) r)) (λ _. 1) cells (λ c. count-one (staleBy (find memo r)) (find (c .entries) r)),
+      length-sum cells,
+    )
+
+-- ---- d swept, before the reports go in
+
+module _ (m : Box) (s : Store) (d : Cell) (k : Core s) (a : Among (s .cells) d) (home : inside (d .edges) (cornerOf (s .cuts) m) ≡ true) where
+  abbrev rest : List Cell
+  rest = a .before ++ a .after
+
+  abbrev lines : Rows Line
+  lines = sweptMemo (s .memo) (d .entries)
+
+  abbrev reports : Rows Report
+  reports = filter (inBox (s .cuts) m) (s .waiting)
+
+  abbrev work : Work
+  work = record { entries = swept (s .memo) d .entries; memo = lines }
+
+  few-enter : length (flushedInto m s d .cell .entries) ≤ maxOn
+  few-enter =
+      let f = flushedInto m s d in
+      omega (
+        arith,
+        entries-total (s .on) (k .signed) (books-flushed m s d k a home),
+        sum-cons (λ c. length (c .entries)) (f .cell) rest,
+        sum-cons (staleIn (f .store .memo)) (f .cell) rest,
+        clean-flushed m s d k a home,
+        sum-le (staleIn (f .store .memo)) (λ c. length (c .entries)) rest (stale-size (f .store .memo)),
+        k .signed .few-on,
+      )
+
+  few-missed : (r : ℕ) → missedOf (find lines r) < mostMissed
+  few-missed r = omega (arith, missed-few (books-swept m s d k a home) r, length-middle (a .before) d (a .after), ap length (a .split), k .tiling .few-cells)
+
+  module _ (c : ℕ) (bounded : Bounded (s .memo) (s .cells) (length (s .waiting)) c) (late : c ≤ sweepEvery) where
+    few-lines : length lines + length reports ≤ lineSlots
+    few-lines =
+        omega (
+          arith,
+          memo-total (books-swept m s d k a home),
+          sum-cons (staleIn lines) (swept (s .memo) d) rest,
+          clean-swept d rest (books-before m s d k a home),
+          stale-sweep-sum d rest (books-before m s d k a home) 0,
+          sum-among (staleIn (s .memo)) a,
+          waiting-flushed m s d k a home,
+          bounded-total (s .memo) (s .cells) (length (s .waiting)) c bounded (some-cell (k .tiling)),
+        )
+
+    room : Room work reports
+    unfolding flushedInto swept
+    room = record {
+      rows-rise = books-swept m s d k a home .cells-rowed .0 .rising;
+      lines-rise = books-swept m s d k a home .memo-rises;
+      reports-rise = rising-filter (inBox (s .cuts) m) 0 (s .waiting) (k .waits .waiting-rises);
+      entries-fit = few-enter;
+      lines-fit = few-lines;
+      misses-fit = each-every _ reports (λ w. few-missed (w .key));
+    }
+
+-- ---- the call: what it asks, and what it gives
+
+cuts-count : {l : CutList} (cuts : List ℕ) → l ≡ cutListOf cuts → l .n ≡ length cuts
+unfolding cutListOf
+cuts-count cuts e = ap (λ (x : CutList). x .n) e
+
+-- the desk's parts are the store's, and the sweep of d has left `from`
+module _ (s : Store) (d : Cell) (m : BoxAt) (easts norths : CutList) (waiting : Waiting) (from : Swept) (east-laid : easts ≡ cutListOf (s .cuts .easts)) (north-laid : norths ≡ cutListOf (s .cuts .norths))
+    (waits : waiting ≡ waitingOf (s .waiting)) (rows : rowsOf (from .table) ≡ swept (s .memo) d .entries) (held : from .memo ≡ memoOf (sweptMemo (s .memo) (d .entries))) where
+  abbrev entering : Rows Report
+  entering = filter (inBox (cutsBy easts norths) (boxIn m)) (reportsOf waiting)
+
+  the-cuts : cutsBy easts norths ≡ s .cuts
+  the-cuts = λ i. record { easts = cuts-laid east-laid i; norths = cuts-laid north-laid i }
+
+  the-reports : entering ≡ filter (inBox (s .cuts) (boxIn m)) (s .waiting)
+  the-reports = rw (reports-laid waits) (ap (λ (x : Cuts). filter (inBox x (boxIn m)) (s .waiting)) the-cuts)
+
+  the-work : workOf from ≡ record { entries = swept (s .memo) d .entries; memo = sweptMemo (s .memo) (d .entries) }
+  the-work = λ i. record { entries = rows i; memo = lines-are (sweptMemo (s .memo) (d .entries)) held i }
+
+  pub enter-asks : {c : ℕ} → Staged s c → c ≤ sweepEvery → cellOfBox s (boxIn m) ≡ some d → length (s .waiting) ≤ fullMemory → from .table .n ≡ length (swept (s .memo) d .entries)
+      → (easts .n ≤ maxCuts) × (norths .n ≤ maxCuts) × (waiting .n ≤ fullMemory) × Enterable from entering
+  unfolding cellOfBox
+  enter-asks {c} g late home few many =
+      let k = g .core in
+      let q = cellAt-split (s .cells) (cornerOf (s .cuts) (boxIn m)) d home in (
+        omega (arith, cuts-count (s .cuts .easts) east-laid, k .tiling .few-cuts eastward),
+        omega (arith, cuts-count (s .cuts .norths) north-laid, k .tiling .few-cuts northward),
+        omega (arith, count-laid waiting (s .waiting) waits),
+        record {
+          counted = many ∙ ap length (sym rows);
+          whole = whole-is (sweptMemo (s .memo) (d .entries)) held;
+          room = rw (the-work, the-reports) (room (boxIn m) s d k (q .0) (q .1) c (g .bounded) late);
+        },
+      )
+
+  pub enter-gives : (r : Swept) → Entered from entering r
+      → (rowsOf (r .table) ≡ flushedInto (boxIn m) s d .cell .entries) × (r .table .n ≡ length (flushedInto (boxIn m) s d .cell .entries)) × (r .memo ≡ memoOf (flushedInto (boxIn m) s d .store .memo))
+  unfolding flushedInto swept
+  enter-gives r e =
+      let k : enterEach entering (workOf from) ≡ enterEach (filter (inBox (s .cuts) (boxIn m)) (s .waiting)) (record { entries = swept (s .memo) d .entries; memo = sweptMemo (s .memo) (d .entries) }) = rw (the-work, the-reports) in
+      (e .table ∙ ap (λ (x : Work). x .entries) k, e .count ∙ ap (λ (x : Work). length (x .entries)) k, e .memo ∙ ap (λ (x : Work). memoOf (x .memo)) k)

@@ -1,0 +1,19 @@
+use borrow.Author.Needs.{needs}
+use Rattle.enter.proofs.EnterLaws.{memo-fits, missing-fits, still-missing, adds}
+use Rattle.enter.proofs.added.Statement.{statement}
+use Rattle.enter.proofs.added.Tie as tie
+
+entry-of-requires : tie.Need-entry-of-requires
+entry-of-requires c κs = search needs
+
+inserted-requires : tie.Need-inserted-requires
+inserted-requires c κs = (search missing-fits, search needs, search still-missing)
+
+memo-added-requires : tie.Need-memo-added-requires
+memo-added-requires c κs = (search needs, search memo-fits, search needs, search needs)
+
+returns : tie.Need-returns
+returns c = search adds
+
+pub added-spec : {M : Type 1} → statement M
+added-spec = tie.close (tie.spec entry-of-requires inserted-requires memo-added-requires returns)

@@ -1,0 +1,54 @@
+-- The reports of m among the first i are entered (`Entering`).
+use Prim.Native.Nat.{_-_, _≤_}
+use borrow.Author.Needs.{needs}
+use Rattle.lists.proofs.ShiftLaws.{length-mapped}
+use Rattle.desk.specs.Views.{cutsBy}
+use Rattle.waiting.specs.Boxes.{boxIn}
+use Rattle.enter.proofs.EnterLaws.{Entering, entering-start, entering-ready, entering-turn, entering-end}
+use Rattle.enter.proofs.enter_all.Statement.{statement}
+use Rattle.enter.proofs.enter_all.Tie as tie
+
+abbrev Inv-loop : tie.InvT-loop
+Inv-loop easts norths m waiting n done₀ i₀ done i = (i ≤ n) × Entering (cutsBy easts norths) (boxIn m) waiting done₀ i done
+
+abbrev μ-loop : tie.MeasureT-loop
+μ-loop easts norths m waiting n done₀ i₀ done i = n - i
+
+loop-holds : tie.Need-loop-holds Inv-loop μ-loop
+loop-holds c = (search needs, search entering-start)
+
+mul-x : tie.Need-mul-x Inv-loop μ-loop
+mul-x c = search needs
+
+element-copy-out-x : tie.Need-element-copy-out-x Inv-loop μ-loop
+element-copy-out-x c = search needs
+
+enter-if-requires : tie.Need-enter-if-requires Inv-loop μ-loop
+enter-if-requires c κs = (search needs, search needs, search (entering-ready, length-mapped))
+
+add-i : tie.Need-add-i Inv-loop μ-loop
+add-i c = search needs
+
+loop-less : tie.Need-loop-less Inv-loop μ-loop
+loop-less c = search needs
+
+loop-again : tie.Need-loop-again Inv-loop μ-loop
+loop-again c = (search needs, search (entering-turn, length-mapped))
+
+returns : tie.Need-returns Inv-loop μ-loop
+returns c = search (entering-end, length-mapped)
+
+pub enter-all-spec : {M : Type 1} → statement M
+enter-all-spec =
+    tie.close
+    (tie.spec
+    Inv-loop
+    μ-loop
+    loop-holds
+    mul-x
+    element-copy-out-x
+    enter-if-requires
+    add-i
+    loop-less
+    loop-again
+    returns)

@@ -1,0 +1,39 @@
+-- Entering the waiting reports of a memory cell (01, "Flush"): what a run of reports makes of the swept cell's table and the memo.
+use mathlib.Core.Path.{_≡_}
+use Prim.Native.Nat.{_+_, _≤_, _<_}
+use lib.ListN.{length}
+use Rattle.terms.specs.Terms.{maxOn}
+use Rattle.lists.specs.Rows.{Rows, Rising, find}
+use Rattle.lists.specs.Tests.{Each}
+use Rattle.entries.specs.Entries.{rowsOf}
+use Rattle.rules.specs.Store.{Report}
+use Rattle.rules.specs.Flush.{Work, enterEach}
+use Rattle.rules.proofs.Parts.{missedOf}
+use Rattle.desk.specs.Layout.{lineSlots, memoOf}
+use Rattle.memo.specs.Memo.{linesOf, Whole, mostMissed}
+use Rattle.sweep.specs.declared.Swept.{Swept}
+
+-- d's entries and the memo, as the reports come in
+abbrev pub workOf : Swept → Work
+workOf s = record { entries = rowsOf (s .table); memo = linesOf (s .memo) }
+
+-- these reports have room: the table for the entries that they leave, the memo for a line and a miss more for each
+pub record Room (k : Work) (ws : Rows Report) : Type 0 where
+  pub rows-rise : Rising 0 (k .entries)
+  pub lines-rise : Rising 0 (k .memo)
+  pub reports-rise : Rising 0 ws
+  pub entries-fit : length (enterEach ws k .entries) ≤ maxOn
+  pub lines-fit : length (k .memo) + length ws ≤ lineSlots
+  pub misses-fit : Each (λ w. missedOf (find (k .memo) (w .key)) < mostMissed) ws
+
+-- these reports may come next: table and memo are as they are laid out, and there is room
+pub record Enterable (from : Swept) (ws : Rows Report) : Type 0 where
+  pub counted : from .table .n ≡ length (rowsOf (from .table))
+  pub whole : Whole (from .memo)
+  pub room : Room (workOf from) ws
+
+-- these reports are entered, one after the other
+pub record Entered (from : Swept) (ws : Rows Report) (to : Swept) : Type 0 where
+  pub table : rowsOf (to .table) ≡ enterEach ws (workOf from) .entries
+  pub count : to .table .n ≡ length (enterEach ws (workOf from) .entries)
+  pub memo : to .memo ≡ memoOf (enterEach ws (workOf from) .memo)
