@@ -60,7 +60,7 @@ pub record Sweepable (b : List ℕ) (memo : Rows Line) (c : Cell) : Type 0 where
   pub rising : Rising 0 (c .entries)
   pub room : length (sweptEntries memo (c .entries)) ≤ maxOn
 
-sweepable : (b : List ℕ) (memo : Rows Line) (c : Cell) → CellRead b c → Paged c → Rising 0 (c .entries) → length (sweptEntries memo (c .entries)) ≤ maxOn → Sweepable b memo c
+pub sweepable : (b : List ℕ) (memo : Rows Line) (c : Cell) → CellRead b c → Paged c → Rising 0 (c .entries) → length (sweptEntries memo (c .entries)) ≤ maxOn → Sweepable b memo c
 unfolding entriesOn
 sweepable b memo c k p a r = record { read = k .read .chain; all-there = k .read .all-there; entries = sym (k .entries (pages-enough c p)); rising = a; room = r }
 
