@@ -1,0 +1,86 @@
+// A record's own effect on the parts of the desk, before any flush: what waits, who is on, and the memo. By value.
+ghost use mathlib.Core.Bool.{true, cond};
+ghost use mathlib.Core.Option.{none, some};
+ghost use mathlib.Core.Path.{_≡_};
+ghost use Prim.Native.Nat.{_<_, _≤_};
+ghost use Rattle.terms.specs.Terms.{maxOn};
+ghost use Rattle.lists.specs.Rows.{Rising, find, alter, insert};
+ghost use Rattle.rules.specs.Limits.{fullMemory};
+ghost use Rattle.rules.specs.Flush.{raised};
+ghost use Rattle.rules.specs.Carry.{wasNew};
+ghost use Rattle.rules.proofs.Parts.{missedOf};
+ghost use Rattle.desk.specs.Layout.{lineSlots, waitingOf, memoOf, onOf};
+ghost use Rattle.desk.specs.Views.{radiosOf};
+ghost use Rattle.memo.specs.Memo.{linesOf, Whole, mostMissed};
+ghost use Rattle.waiting.specs.Waiting.{reportsOf, WholeWaiting};
+ghost use Rattle.waiting.specs.On.{WholeOn};
+use desk::Memo;
+use desk::On;
+use desk::Waiting;
+use waiting::Waited;
+
+// What a sign-on changes.
+pub struct SignedOn {
+    pub waiting: Waiting,
+    pub on: On,
+}
+
+// What a sign-off changes.
+pub struct SignedOff {
+    pub waiting: Waiting,
+    pub memo: Memo,
+    pub on: On,
+}
+
+// "Sign-on puts a report marked new among the waiting.", and its radio is on.
+pub fn signed_on(waiting: Waiting, on: On, radio: u16, east: u16, north: u16) -> SignedOn
+    requires { ⌜ (waiting .n < fullMemory) × WholeWaiting waiting × Rising 0 (reportsOf waiting) × (on .n < maxOn) × WholeOn on × Rising 0 (radiosOf on) ⌝ }
+    ensures { λ r. ⌜ r ≡ record { waiting = waitingOf (insert radio (record { place = record { east = east; north = north }; new = true }) (reportsOf waiting)); on = onOf (insert radio tt (radiosOf on)) } ⌝ }
+{
+    SignedOn {
+        waiting: waiting::put_new(waiting, radio, east, north),
+        on: waiting::signed_on(on, radio),
+    }
+}
+
+// "Report replaces a waiting report of that radio, keeping its mark new; otherwise it waits unmarked."
+pub fn reported(waiting: Waiting, radio: u16, east: u16, north: u16) -> Waiting
+    requires { ⌜ (waiting .n < fullMemory) × WholeWaiting waiting × Rising 0 (reportsOf waiting) ⌝ }
+    ensures { λ r. ⌜ r ≡ waitingOf (alter (λ w. some (record { place = record { east = east; north = north }; new = wasNew w })) radio (reportsOf waiting)) ⌝ }
+{
+    waiting::put_report(waiting, radio, east, north)
+}
+
+// Whether a report of `radio` waits and is marked new.
+fn waits_new(waiting: Waiting, radio: u16) -> bool
+    requires { ⌜ (waiting .n ≤ fullMemory) × WholeWaiting waiting × Rising 0 (reportsOf waiting) ⌝ }
+    ensures { λ r. ⌜ r ≡ wasNew (find (reportsOf waiting) radio) ⌝ }
+{
+    let Waited::Found(report) = waiting::find_report(waiting, radio) else {
+        return false;
+    };
+    report.new != 0
+}
+
+// "If the discarded one was not marked new, or none waited, the memo's missed count for the radio grows by 1 (made as 1 if absent) and its place becomes none."
+fn missed(waiting: Waiting, memo: Memo, radio: u16) -> Memo
+    requires { ⌜ (waiting .n ≤ fullMemory) × WholeWaiting waiting × Rising 0 (reportsOf waiting) × Whole memo × (memo .n < lineSlots) × Rising 0 (linesOf memo) × (missedOf (find (linesOf memo) radio) < mostMissed) ⌝ }
+    ensures { λ r. ⌜ r ≡ memoOf (cond (wasNew (find (reportsOf waiting) radio)) (linesOf memo) (alter (raised none) radio (linesOf memo))) ⌝ }
+{
+    if waits_new(waiting, radio) {
+        return memo;
+    }
+    memo::raised_none(memo, radio)
+}
+
+// "Sign-off discards a waiting report", the memo counts what is missed, and the radio is on no longer.
+pub fn signed_off(waiting: Waiting, memo: Memo, on: On, radio: u16) -> SignedOff
+    requires { ⌜ (waiting .n ≤ fullMemory) × WholeWaiting waiting × Rising 0 (reportsOf waiting) × Whole memo × (memo .n < lineSlots) × Rising 0 (linesOf memo) × (missedOf (find (linesOf memo) radio) < mostMissed) × (on .n ≤ maxOn) × WholeOn on × Rising 0 (radiosOf on) ⌝ }
+    ensures { λ r. ⌜ r ≡ record { waiting = waitingOf (alter (λ _. none) radio (reportsOf waiting)); memo = memoOf (cond (wasNew (find (reportsOf waiting) radio)) (linesOf memo) (alter (raised none) radio (linesOf memo))); on = onOf (alter (λ _. none) radio (radiosOf on)) } ⌝ }
+{
+    SignedOff {
+        waiting: waiting::discarded(waiting, radio),
+        memo: missed(waiting, memo, radio),
+        on: waiting::signed_off(on, radio),
+    }
+}

@@ -1,0 +1,327 @@
+-- Each check on a record's bytes, read off its fields one test at a time, and the first that fails.
+use mathlib.Core.Bool.{Bool, true, false, not, cond}
+use mathlib.Core.List.{List}
+use mathlib.Core.Logic.{_≢_}
+use mathlib.Core.Path.{_≡_, refl, sym, ap, ap₂, _∙_}
+use Prim.Native.Nat.{ℕ, _≤_, _<_}
+use native.Mathlib.Omega.{arith}
+use lib.Dec.{eqb, leb, ltb}
+use lib.ListN.{length}
+use borrow.Author.Tests.{lt-ltb, le-ltb, ltb-false, eq-eqb, ne-eqb, eqb-true, eqb-false}
+use Rattle.terms.specs.Terms.{maxRadio, maxOn}
+use Rattle.lists.specs.Tests.{both, either}
+use Rattle.lists.proofs.Cases.{by-cases}
+use Rattle.lists.proofs.TestsLaws.{both-left-false, both-second, either-left, either-right, either-false, not-false}
+use Rattle.rules.specs.Records.{Request, signOn, report, signOff, range, lengthField, kindField, lengthOf, radioField, placeField, rectField, requestOf, kindSignOn, kindReport, kindSignOff, kindRange, notAtHand, unknownKind, wrongLength, noRadio, reversed, onAlready, notOn, noRoom, refusal}
+use Rattle.desk.specs.declared.On.{On}
+use Rattle.desk.specs.Views.{radiosOf}
+use Rattle.waiting.specs.On.{WholeOn}
+use Rattle.waiting.proofs.OnLaws.{count-on-laid}
+use Rattle.records.specs.declared.Asked.{Asked}
+use Rattle.records.specs.declared.Asked.the-variants.{SignOn, Report, SignOff, Range, Refused}
+use Rattle.records.specs.declared.Placed.{Placed}
+use Rattle.records.specs.declared.Edges.{Edges}
+use Rattle.records.specs.Asked.{headBytes, signOffBytes, placedBytes, rangeBytes, Whole, caseOf, askedOf}
+
+-- ---- lengths
+
+module _ (kind : ℕ) where
+  pub length-range : kind ≡ kindRange → rangeBytes ≡ lengthOf kind
+  unfolding lengthOf
+  length-range e = rw (eq-eqb kind kindRange e)
+
+  pub length-off : kind ≢ kindRange → kind ≡ kindSignOff → signOffBytes ≡ lengthOf kind
+  unfolding lengthOf
+  length-off n e = rw (ne-eqb kind kindRange n, eq-eqb kind kindSignOff e)
+
+  pub length-placed : kind ≢ kindRange → kind ≢ kindSignOff → placedBytes ≡ lengthOf kind
+  unfolding lengthOf
+  length-placed n m = rw (ne-eqb kind kindRange n, ne-eqb kind kindSignOff m)
+
+  length-least : signOffBytes ≤ lengthOf kind
+  unfolding lengthOf
+  length-least = least (eqb kind kindRange) (eqb kind kindSignOff)
+    where
+      least : (a b : Bool) → signOffBytes ≤ cond a rangeBytes (cond b signOffBytes placedBytes)
+      least true b = omega arith
+      least false true = omega arith
+      least false false = omega arith
+
+module _ (b : List ℕ) where
+  -- ---- 3
+
+  pub few-bytes : length b < headBytes → true ≡ notAtHand b
+  unfolding notAtHand
+  few-bytes h = sym (either-left _ (lt-ltb (length b) 4 h))
+
+  module _ {n : ℕ} (stated : n ≡ lengthField b) where
+    pub stated-below : n < headBytes → true ≡ notAtHand b
+    unfolding notAtHand
+    stated-below h = sym (either-right _ (either-left _ (lt-ltb (lengthField b) 4 (omega (arith, stated)))))
+
+    pub stated-above : headBytes ≤ length b → headBytes ≤ n → ltb (length b) n ≡ notAtHand b
+    unfolding notAtHand either
+    stated-above g h = rw (le-ltb (length b) 4 g, le-ltb (lengthField b) 4 (omega (arith, stated))) (ap (ltb (length b)) stated)
+
+    -- ---- 5
+
+    pub length-differs : {k m : ℕ} → k ≡ kindField b → m ≡ lengthOf k → not (eqb n m) ≡ wrongLength b
+    unfolding wrongLength
+    length-differs e f = ap₂ (λ (x y : ℕ). not (eqb x y)) stated (f ∙ ap lengthOf e)
+
+  -- ---- by the kind
+
+  module _ {k : ℕ} (kind : k ≡ kindField b) where
+    -- 4
+
+    pub kind-below : k < kindSignOn → true ≡ unknownKind b
+    unfolding unknownKind
+    kind-below h = sym (either-left _ (lt-ltb (kindField b) 1 (omega (arith, kind))))
+
+    pub kind-above : kindSignOn ≤ k → ltb kindRange k ≡ unknownKind b
+    unfolding unknownKind either
+    kind-above h = rw (le-ltb (kindField b) 1 (omega (arith, kind))) (ap (ltb kindRange) kind)
+
+    -- 6
+
+    pub radio-range : kindRange ≤ k → false ≡ noRadio b
+    unfolding noRadio
+    radio-range h = sym (both-left-false _ (le-ltb (kindField b) kindRange (omega (arith, kind))))
+
+    module _ {r : ℕ} (radio : r ≡ radioField b) (h : k < kindRange) where
+      pub radio-zero : r ≡ 0 → true ≡ noRadio b
+      unfolding noRadio both either
+      radio-zero e = rw (lt-ltb (kindField b) kindRange (omega (arith, kind)), eq-eqb (radioField b) 0 (omega (arith, radio)))
+
+      pub radio-above : r ≢ 0 → ltb maxRadio r ≡ noRadio b
+      unfolding noRadio both either
+      radio-above n = rw (lt-ltb (kindField b) kindRange (omega (arith, kind)), ne-eqb (radioField b) 0 (λ z. n (radio ∙ z))) (ap (ltb maxRadio) radio)
+
+    -- 7
+
+    pub rect-there : Whole b → k ≡ kindRange → rangeBytes ≤ length b
+    rect-there w h = omega (arith, length-range (kindField b) (omega (arith, kind)), w .body)
+
+    pub rect-other : k ≢ kindRange → false ≡ reversed b
+    unfolding reversed
+    rect-other n = sym (both-left-false _ (ne-eqb (kindField b) kindRange (λ z. n (kind ∙ z))))
+
+    module _ (rect : Edges) (e : rect ≡ record { west = rectField b .easts .low; east = rectField b .easts .high; south = rectField b .norths .low; north = rectField b .norths .high }) (h : k ≡ kindRange) where
+      pub rect-east : rect .east < rect .west → true ≡ reversed b
+      unfolding reversed both either
+      rect-east l =
+          rw (eq-eqb (kindField b) kindRange (omega (arith, kind)), lt-ltb (rectField b .easts .high) (rectField b .easts .low) (omega (arith, ap (λ (x : Edges). x .east) e, ap (λ (x : Edges). x .west) e)))
+
+      pub rect-north : rect .west ≤ rect .east → ltb (rect .north) (rect .south) ≡ reversed b
+      unfolding reversed both either
+      rect-north l =
+          rw (eq-eqb (kindField b) kindRange (omega (arith, kind)), le-ltb (rectField b .easts .high) (rectField b .easts .low) (omega (arith, ap (λ (x : Edges). x .east) e, ap (λ (x : Edges). x .west) e)))
+          (ap (λ (x : Edges). ltb (x .north) (x .south)) e)
+
+    module _ (on : ℕ → Bool) where
+      -- 8
+
+      pub already-other : k ≢ kindSignOn → false ≡ onAlready on b
+      unfolding onAlready
+      already-other n = sym (both-left-false _ (ne-eqb (kindField b) kindSignOn (λ z. n (kind ∙ z))))
+
+      pub already-on : {r : ℕ} {t : Bool} → k ≡ kindSignOn → r ≡ radioField b → t ≡ on r → t ≡ onAlready on b
+      unfolding onAlready both
+      already-on h radio e = rw (eq-eqb (kindField b) kindSignOn (omega (arith, kind))) (e ∙ ap on radio)
+
+      -- 9
+
+      pub not-on-named : {r : ℕ} {t : Bool} → kindReport ≤ k → k < kindRange → r ≡ radioField b → t ≡ on r → not t ≡ notOn on b
+      unfolding notOn both either
+      not-on-named g h radio e =
+          by-cases (eqb (kindField b) kindReport)
+          (λ u. rw u (ap not (e ∙ ap on radio)))
+          (λ u. let z = eqb-false (kindField b) kindReport u in rw (u, eq-eqb (kindField b) kindSignOff (omega (arith, kind, z))) (ap not (e ∙ ap on radio)))
+
+      pub not-on-below : k < kindReport → false ≡ notOn on b
+      unfolding notOn both either
+      not-on-below h = rw (ne-eqb (kindField b) kindReport (omega (arith, kind)), ne-eqb (kindField b) kindSignOff (omega (arith, kind)))
+
+      pub not-on-above : kindRange ≤ k → false ≡ notOn on b
+      unfolding notOn both either
+      not-on-above h = rw (ne-eqb (kindField b) kindReport (omega (arith, kind)), ne-eqb (kindField b) kindSignOff (omega (arith, kind)))
+
+    -- 10
+
+    pub room-other : (many : ℕ) → k ≢ kindSignOn → false ≡ noRoom many b
+    unfolding noRoom
+    room-other many n = sym (both-left-false _ (ne-eqb (kindField b) kindSignOn (λ z. n (kind ∙ z))))
+
+    pub room-full : (o : On) → WholeOn o → k ≡ kindSignOn → leb maxOn (o .n) ≡ noRoom (length (radiosOf o)) b
+    unfolding noRoom both
+    room-full o w h = rw (eq-eqb (kindField b) kindSignOn (omega (arith, kind))) (ap (leb maxOn) (count-on-laid o (radiosOf o) w))
+
+-- ---- the first check that fails
+
+module _ (on : ℕ → Bool) (many : ℕ) (b : List ℕ) {t₃ : Bool} (e₃ : t₃ ≡ notAtHand b) where
+  pub refused-3 : t₃ ≡ true → 3 ≡ refusal on many b
+  unfolding refusal
+  refused-3 f = rw (sym e₃ ∙ f)
+
+  module _ (p₃ : t₃ ≡ false) {t₄ : Bool} (e₄ : t₄ ≡ unknownKind b) where
+    pub refused-4 : t₄ ≡ true → 4 ≡ refusal on many b
+    unfolding refusal
+    refused-4 f = rw (sym e₃ ∙ p₃, sym e₄ ∙ f)
+
+    module _ (p₄ : t₄ ≡ false) {t₅ : Bool} (e₅ : t₅ ≡ wrongLength b) where
+      pub refused-5 : t₅ ≡ true → 5 ≡ refusal on many b
+      unfolding refusal
+      refused-5 f = rw (sym e₃ ∙ p₃, sym e₄ ∙ p₄, sym e₅ ∙ f)
+
+      module _ (p₅ : t₅ ≡ false) {t₆ : Bool} (e₆ : t₆ ≡ noRadio b) where
+        pub refused-6 : t₆ ≡ true → 6 ≡ refusal on many b
+        unfolding refusal
+        refused-6 f = rw (sym e₃ ∙ p₃, sym e₄ ∙ p₄, sym e₅ ∙ p₅, sym e₆ ∙ f)
+
+        module _ (p₆ : t₆ ≡ false) {t₇ : Bool} (e₇ : t₇ ≡ reversed b) where
+          pub refused-7 : t₇ ≡ true → 7 ≡ refusal on many b
+          unfolding refusal
+          refused-7 f = rw (sym e₃ ∙ p₃, sym e₄ ∙ p₄, sym e₅ ∙ p₅, sym e₆ ∙ p₆, sym e₇ ∙ f)
+
+          module _ (p₇ : t₇ ≡ false) {t₈ : Bool} (e₈ : t₈ ≡ onAlready on b) where
+            pub refused-8 : t₈ ≡ true → 8 ≡ refusal on many b
+            unfolding refusal
+            refused-8 f = rw (sym e₃ ∙ p₃, sym e₄ ∙ p₄, sym e₅ ∙ p₅, sym e₆ ∙ p₆, sym e₇ ∙ p₇, sym e₈ ∙ f)
+
+            module _ (p₈ : t₈ ≡ false) {t₉ : Bool} (e₉ : t₉ ≡ notOn on b) where
+              pub refused-9 : t₉ ≡ true → 9 ≡ refusal on many b
+              unfolding refusal
+              refused-9 f = rw (sym e₃ ∙ p₃, sym e₄ ∙ p₄, sym e₅ ∙ p₅, sym e₆ ∙ p₆, sym e₇ ∙ p₇, sym e₈ ∙ p₈, sym e₉ ∙ f)
+
+              module _ (p₉ : t₉ ≡ false) {t₁₀ : Bool} (e₁₀ : t₁₀ ≡ noRoom many b) where
+                pub refused-10 : t₁₀ ≡ true → 10 ≡ refusal on many b
+                unfolding refusal
+                refused-10 f = rw (sym e₃ ∙ p₃, sym e₄ ∙ p₄, sym e₅ ∙ p₅, sym e₆ ∙ p₆, sym e₇ ∙ p₇, sym e₈ ∙ p₈, sym e₉ ∙ p₉, sym e₁₀ ∙ f)
+
+                pub refused-none : t₁₀ ≡ false → 0 ≡ refusal on many b
+                unfolding refusal
+                refused-none f = rw (sym e₃ ∙ p₃, sym e₄ ∙ p₄, sym e₅ ∙ p₅, sym e₆ ∙ p₆, sym e₇ ∙ p₇, sym e₈ ∙ p₈, sym e₉ ∙ p₉, sym e₁₀ ∙ f)
+
+-- ---- what is at hand once the first checks pass
+
+module _ (b : List ℕ) {t₃ : Bool} (e₃ : t₃ ≡ notAtHand b) (p₃ : t₃ ≡ false) where
+  at-hand : (headBytes ≤ length b) × (lengthField b ≤ length b)
+  unfolding notAtHand
+  at-hand =
+      let u = either-false _ _ (sym e₃ ∙ p₃) in
+      let v = either-false _ _ (u .1) in
+      (ltb-false (length b) 4 (u .0), ltb-false (length b) (lengthField b) (v .1))
+
+  pub head-there : headBytes ≤ length b
+  head-there = at-hand .0
+
+  module _ {t₄ t₅ : Bool} (e₄ : t₄ ≡ unknownKind b) (p₄ : t₄ ≡ false) (e₅ : t₅ ≡ wrongLength b) (p₅ : t₅ ≡ false) where
+    kinds : (kindSignOn ≤ kindField b) × (kindField b ≤ kindRange)
+    unfolding unknownKind
+    kinds = let u = either-false _ _ (sym e₄ ∙ p₄) in (ltb-false (kindField b) 1 (u .0), ltb-false 4 (kindField b) (u .1))
+
+    lengths : lengthField b ≡ lengthOf (kindField b)
+    unfolding wrongLength
+    lengths = eqb-true (lengthField b) (lengthOf (kindField b)) (not-false _ (sym e₅ ∙ p₅))
+
+    pub whole : Whole b
+    whole =
+        let l = length-least (kindField b) in
+        record { named = kinds .0; known = kinds .1; least = omega (arith, lengths, at-hand); body = omega (arith, lengths, at-hand) }
+
+-- ---- what is asked
+
+module _ (b : List ℕ) (w : Whole b) {k : ℕ} (kind : k ≡ kindField b) where
+  pub on-there : k ≡ kindSignOn → placedBytes ≤ length b
+  on-there h = omega (arith, length-placed (kindField b) (omega (arith, kind)) (omega (arith, kind)), w .body)
+
+  pub report-there : k ≡ kindReport → placedBytes ≤ length b
+  report-there h = omega (arith, length-placed (kindField b) (omega (arith, kind)) (omega (arith, kind)), w .body)
+
+  pub range-there : k ≢ kindSignOn → k ≢ kindReport → k ≢ kindSignOff → rangeBytes ≤ length b
+  range-there l m n = rect-there b kind w (omega (arith, l, m, n, w, kind))
+
+  module _ (p : Placed) (body : p ≡ record { radio = radioField b; east = placeField b .east; north = placeField b .north }) where
+    pub asked-on : k ≡ kindSignOn → SignOn (p .radio) (p .east) (p .north) ≡ caseOf (requestOf b)
+    unfolding requestOf
+    asked-on h = rw (eq-eqb (kindField b) kindSignOn (omega (arith, kind))) (ap (λ (x : Placed). SignOn (x .radio) (x .east) (x .north)) body)
+
+    pub asked-report : k ≡ kindReport → Report (p .radio) (p .east) (p .north) ≡ caseOf (requestOf b)
+    unfolding requestOf
+    asked-report h =
+        rw (ne-eqb (kindField b) kindSignOn (omega (arith, kind)), eq-eqb (kindField b) kindReport (omega (arith, kind)))
+        (ap (λ (x : Placed). Report (x .radio) (x .east) (x .north)) body)
+
+  pub asked-off : {r : ℕ} → r ≡ radioField b → k ≡ kindSignOff → SignOff r ≡ caseOf (requestOf b)
+  unfolding requestOf
+  asked-off radio h =
+      rw (ne-eqb (kindField b) kindSignOn (omega (arith, kind)), ne-eqb (kindField b) kindReport (omega (arith, kind)), eq-eqb (kindField b) kindSignOff (omega (arith, kind)))
+      (ap SignOff radio)
+
+  pub asked-range : (rect : Edges) → rect ≡ record { west = rectField b .easts .low; east = rectField b .easts .high; south = rectField b .norths .low; north = rectField b .norths .high }
+      → k ≢ kindSignOn → k ≢ kindReport → k ≢ kindSignOff → Range (rect .west) (rect .east) (rect .south) (rect .north) ≡ caseOf (requestOf b)
+  unfolding requestOf
+  asked-range rect body l m n =
+      rw (ne-eqb (kindField b) kindSignOn (λ z. l (kind ∙ z)), ne-eqb (kindField b) kindReport (λ z. m (kind ∙ z)), ne-eqb (kindField b) kindSignOff (λ z. n (kind ∙ z)))
+      (ap (λ (x : Edges). Range (x .west) (x .east) (x .south) (x .north)) body)
+
+-- ---- every check passed
+
+-- each edge of a range is in its order
+abbrev pub Ordered : Request → Type 0
+Ordered (signOn r p) = Unit {0}
+Ordered (report r p) = Unit {0}
+Ordered (signOff r) = Unit {0}
+Ordered (range rect) = (rect .easts .low ≤ rect .easts .high) × (rect .norths .low ≤ rect .norths .high)
+
+-- the first of the checks passed, and so did the rest
+first-passed : (t : Bool) {n m : ℕ} → 0 < n → cond t n m ≡ 0 → (t ≡ false) × (m ≡ 0)
+first-passed true h e = absurd (omega arith)
+first-passed false h e = (refl, e)
+
+module _ (on : ℕ → Bool) (many : ℕ) (b : List ℕ) (zero : refusal on many b ≡ 0) where
+  -- those on the bytes alone
+  passed : (notAtHand b ≡ false) × (unknownKind b ≡ false) × (wrongLength b ≡ false) × (reversed b ≡ false)
+  unfolding refusal
+  passed =
+      let a₃ = first-passed (notAtHand b) (omega arith) zero in
+      let a₄ = first-passed (unknownKind b) (omega arith) (a₃ .1) in
+      let a₅ = first-passed (wrongLength b) (omega arith) (a₄ .1) in
+      let a₆ = first-passed (noRadio b) (omega arith) (a₅ .1) in
+      let a₇ = first-passed (reversed b) (omega arith) (a₆ .1) in
+      (a₃ .0, a₄ .0, a₅ .0, a₇ .0)
+
+  passed-whole : Whole b
+  passed-whole = let p = passed in whole b refl (p .0) refl (p .1) refl (p .2)
+
+  -- "west above east or south above north" is no range's edges
+  pub ordered : Ordered (requestOf b)
+  unfolding requestOf reversed
+  ordered =
+      by-cases (eqb (kindField b) kindSignOn)
+      (λ t. rw t tt)
+      (λ t. by-cases (eqb (kindField b) kindReport)
+      (λ u. rw (t, u) tt)
+      (λ u. by-cases (eqb (kindField b) kindSignOff)
+      (λ v. rw (t, u, v) tt)
+      (λ v. let l = eqb-false (kindField b) kindSignOn t in
+      let m = eqb-false (kindField b) kindReport u in
+      let n = eqb-false (kindField b) kindSignOff v in
+      let w = passed-whole in
+      let e = either-false _ _ (both-second _ _ (eq-eqb (kindField b) kindRange (omega (arith, l, m, n, w))) (passed .3)) in
+      rw (t, u, v) (ltb-false (rectField b .easts .high) (rectField b .easts .low) (e .0), ltb-false (rectField b .norths .high) (rectField b .norths .low) (e .1)))))
+
+-- ---- the whole
+
+module _ (on : ℕ → Bool) (many : ℕ) (b : List ℕ) {n : ℕ} (told : n ≡ refusal on many b) where
+  pub turned-down : (q : Request) → n ≢ 0 → Refused n ≡ askedOf (refusal on many b) q
+  unfolding askedOf
+  turned-down q h = rw (ne-eqb (refusal on many b) 0 (λ z. h (told ∙ z))) (ap Refused told)
+
+  module _ (h : n ≡ 0) where
+    pub accepted-whole : Whole b
+    accepted-whole = passed-whole on many b (sym told ∙ h)
+
+    pub accepted : {o : Asked} (q : Request) → o ≡ caseOf q → o ≡ askedOf (refusal on many b) q
+    unfolding askedOf
+    accepted q e = rw (eq-eqb (refusal on many b) 0 (sym told ∙ h)) e
