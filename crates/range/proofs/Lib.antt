@@ -1,0 +1,4 @@
+pub mod TableLaws
+pub mod ListLaws
+pub mod LatestLaws
+pub mod StoreLaws

@@ -1,0 +1,123 @@
+-- A range on the desk and pages of a well-formed store: what the call asks, and that it is answered as the rules answer.
+use mathlib.Core.Path.{_≡_, refl, sym, ap, ap₂, _∙_, subst}
+use mathlib.Core.List.{List, [], _∷_, map}
+use Prim.Native.Nat.{ℕ, _*_, _≤_}
+use native.Mathlib.Omega.{arith}
+use lib.Dec.{ltb}
+use lib.ListN.{length}
+use Rattle.terms.specs.Terms.{Place, maxRadio, maxOn, noPage}
+use Rattle.lists.specs.Chains.{firstOf}
+use Rattle.lists.specs.Rows.{Rows, UpTo}
+use Rattle.lists.specs.Tests.{Each}
+use Rattle.lists.proofs.Cases.{by-cases}
+use Rattle.lists.proofs.TestsLaws.{each-map, each-zip, each-over-map}
+use Rattle.rules.specs.Grid.{Rect}
+use Rattle.rules.specs.Store.{Line, Report, Cell, Store}
+use Rattle.rules.specs.Carry.{listBytes, listOf, found, Outcome, answered}
+use Rattle.rules.specs.Told.{Told, toldList}
+use Rattle.rules.specs.WellFormed.{WellFormed, GoodCell}
+use Rattle.desk.specs.declared.Slot.{Slot}
+use Rattle.desk.specs.declared.Directory.{Directory}
+use Rattle.desk.specs.declared.Desk.{Desk}
+use Rattle.desk.specs.Layout.{slotOf, directoryOf, gridOf, waitingOf, memoOf, onOf, deskOf, Laid}
+use Rattle.desk.specs.Views.{slotsIn, radiosOf}
+use Rattle.desk.proofs.UniqueLaws.{take-slots}
+use Rattle.memo.specs.Memo.{linesOf}
+use Rattle.memo.proofs.MemoLaws.{lines-are, count-is}
+use Rattle.waiting.specs.Waiting.{reportsOf}
+use Rattle.waiting.proofs.WaitingLaws.{reports-laid, count-laid}
+use Rattle.waiting.proofs.OnLaws.{radios-laid, count-on-laid}
+use Rattle.sweep.specs.Sweep.{entriesOn}
+use Rattle.sweep.proofs.CellLaws.{Sweepable, well-sweep, well-memo}
+use Rattle.range.specs.Range.{Places, noPlaces, over, linesOver, reportsOver, entriesFrom, slotOver, placesOf, foundIn, Readable}
+use Rattle.range.proofs.LatestLaws.{cellOver, tableOf, found-table}
+
+-- ---- cells in the directory
+
+-- the pages that a slot leads to have the cell's entries
+abbrev Read : List ℕ → Cell → Type 0
+Read b c = entriesFrom b (firstOf noPage (c .chain)) ≡ c .entries
+
+cells-read : (s : Store) (b : List ℕ) → WellFormed s → Laid s b → Each (Read b) (s .cells)
+unfolding entriesFrom
+cells-read s b w l = each-map (Sweepable b (s .memo)) (Read b) (s .cells) (λ c k. ap (entriesOn b) (k .read) ∙ k .entries) (well-sweep s b w l)
+
+slot-cell : (b : List ℕ) (rect : Rect) (c : Cell) (f : Places) → Read b c → slotOver b rect (slotOf c) f ≡ cellOver rect c f
+unfolding slotOver
+slot-cell b rect c f e = rw e
+
+cells-over : (b : List ℕ) (rect : Rect) (cells : List Cell) (f : Places) → Each (Read b) cells → over (slotOver b rect) (map slotOf cells) f ≡ over (cellOver rect) cells f
+unfolding over
+cells-over b rect [] f e = refl
+cells-over b rect (c ∷ cs) f e = ap (over (slotOver b rect) (map slotOf cs)) (slot-cell b rect c f (e .0)) ∙ cells-over b rect cs (cellOver rect c f) (e .1)
+
+slots-laid : (d : Directory) (cells : List Cell) → d ≡ directoryOf cells → slotsIn d ≡ map slotOf cells
+unfolding slotsIn
+slots-laid d cells e = ap (λ (x : Directory). slotsIn x) e ∙ take-slots cells
+
+count-slots : (d : Directory) (cells : List Cell) → d ≡ directoryOf cells → d .n ≡ length cells
+unfolding directoryOf
+count-slots d cells e = ap (λ (x : Directory). x .n) e
+
+-- ---- the answer
+
+abbrev outcome : Store → Told → Outcome
+outcome s t = record { number = t .number; count = t .count; buffer = t .buffer; store = s }
+
+told-answered : (s : Store) (l : Rows Place) (buffer : List ℕ) → outcome s (toldList l buffer) ≡ answered l s buffer
+unfolding toldList answered
+told-answered s l buffer = by-cases (ltb (length buffer) (listBytes * length l)) (λ t. rw t) (λ t. rw t)
+
+-- ---- the call
+
+module _ (s : Store) (b : List ℕ) (desk : Desk) (w : WellFormed s) (l : Laid s b) (held : desk ≡ deskOf s) where
+  cells-are : desk .grid .cells ≡ directoryOf (s .cells)
+  unfolding deskOf gridOf
+  cells-are = ap (λ (d : Desk). d .grid .cells) held
+
+  waiting-is : desk .waiting ≡ waitingOf (s .waiting)
+  unfolding deskOf
+  waiting-is = ap (λ (d : Desk). d .waiting) held
+
+  memo-is : desk .memo ≡ memoOf (s .memo)
+  unfolding deskOf
+  memo-is = ap (λ (d : Desk). d .memo) held
+
+  on-is : desk .on ≡ onOf (s .on)
+  unfolding deskOf
+  on-is = ap (λ (d : Desk). d .on) held
+
+  radios-read : Each (λ x. UpTo maxRadio (entriesFrom b (x .first))) (slotsIn (desk .grid .cells))
+  radios-read =
+      subst (λ (x : List Slot). Each (λ y. UpTo maxRadio (entriesFrom b (y .first))) x) (sym (slots-laid (desk .grid .cells) (s .cells) cells-are))
+      (each-over-map _ slotOf (s .cells) (each-zip (GoodCell (s .cuts)) (Read b) _ (s .cells) (λ c g e. subst (λ (x : Rows Place). UpTo maxRadio x) (sym e) (g .radios)) (w .cells) (cells-read s b w l)))
+
+  pub range-asks : Readable b (desk .grid .cells) (desk .waiting) (desk .memo) × (desk .on .n ≤ maxOn) × UpTo maxRadio (radiosOf (desk .on))
+  range-asks = (
+    record {
+      few-cells = omega (arith, count-slots (desk .grid .cells) (s .cells) cells-are, w .few-cells);
+      few-waiting = omega (arith, count-laid (desk .waiting) (s .waiting) waiting-is, w .few-wait);
+      few-lines = omega (arith, count-is (s .memo) memo-is, well-memo s w);
+      entry-radios = radios-read;
+      report-radios = subst (λ (x : Rows Report). UpTo maxRadio x) (sym (reports-laid waiting-is)) (w .waiting-radios);
+      line-radios = subst (λ (x : Rows Line). UpTo maxRadio x) (sym (lines-are (s .memo) memo-is)) (w .memo-radios);
+    },
+    omega (arith, count-on-laid (desk .on) (s .on) on-is, w .few-on),
+    subst (λ (x : Rows (Unit {0})). UpTo maxRadio x) (sym (radios-laid on-is)) (w .radios-on),
+  )
+
+  places-are : (rect : Rect) → placesOf b rect (slotsIn (desk .grid .cells)) (linesOf (desk .memo)) (reportsOf (desk .waiting)) ≡ tableOf rect s
+  unfolding placesOf
+  places-are rect =
+      ap₂ (λ (x : Rows Report) (f : Places). reportsOver x f) (reports-laid waiting-is)
+      (ap₂ (λ (x : Rows Line) (f : Places). linesOver x f) (lines-are (s .memo) memo-is)
+      (ap (λ (x : List Slot). over (slotOver b rect) x noPlaces) (slots-laid (desk .grid .cells) (s .cells) cells-are) ∙ cells-over b rect (s .cells) noPlaces (cells-read s b w l)))
+
+  pub found-is : (rect : Rect) → foundIn b rect (desk .grid .cells) (desk .waiting) (desk .memo) (desk .on) ≡ found s rect
+  unfolding foundIn
+  found-is rect = ap₂ (λ (f : Places) (x : Rows (Unit {0})). listOf rect f x) (places-are rect) (radios-laid on-is) ∙ found-table s w rect
+
+  pub range-gives : (rect : Rect) (buffer : List ℕ) {number count : ℕ} {after : List ℕ}
+      → record { number = number; count = count; buffer = after } ≡ toldList (foundIn b rect (desk .grid .cells) (desk .waiting) (desk .memo) (desk .on)) buffer
+      → record { number = number; count = count; buffer = after; store = s } ≡ answered (found s rect) s buffer
+  range-gives rect buffer e = ap (outcome s) (e ∙ ap (λ (l : Rows Place). toldList l buffer) (found-is rect)) ∙ told-answered s (found s rect) buffer

@@ -1,0 +1,46 @@
+use Rattle.range.proofs.TableLaws.{empty-table}
+use Rattle.range.proofs.ListLaws.{found-radios, told-short, told-listed}
+use borrow.Author.Needs.{needs}
+use Rattle.range.proofs.list.Statement.{statement}
+use Rattle.range.proofs.list.Tie as tie
+
+hold-all-requires : tie.Need-hold-all-requires
+hold-all-requires c κs = (empty-table, search needs)
+
+found-on-requires : tie.Need-found-on-requires
+found-on-requires c κs = search needs
+
+mul-if1 : tie.Need-mul-if1
+mul-if1 c = search needs
+
+cast-t23 : tie.Need-cast-t23
+cast-t23 c = search needs
+
+returns : tie.Need-returns
+returns c = told-short _ _ _ _ _ _ _ (c .before .before .before .before .before .hold-all .ensures) (c .before .found-on .ensures .0) _ (search needs) (c .before .found-on .ensures .1) (c .if1 .taken)
+
+write-rows-requires : tie.Need-write-rows-requires
+write-rows-requires c κs = (search needs, search needs, search needs, found-radios _ _ _ (c .before .before .before .before .found-on .ensures .0) (c .before .before .before .before .before .before .before .before .before .before .before .before .before .before .pre .2), search needs)
+
+cast-t28 : tie.Need-cast-t28
+cast-t28 c = search needs
+
+same-length : tie.Need-same-length
+same-length c = search needs
+
+returns-2 : tie.Need-returns-2
+returns-2 c = told-listed _ _ _ _ _ _ _ (c .before .before .before .before .before .before .before .before .before .before .before .hold-all .ensures) (c .before .before .before .before .before .before .before .found-on .ensures .0) _ (search needs) (c .before .before .before .before .before .before .before .found-on .ensures .1) (c .before .before .before .before .before .before .if1 .left) (c .before .before .write-rows .ensures)
+
+pub list-spec : {M : Type 1} → statement M
+list-spec =
+    tie.close
+    (tie.spec
+    hold-all-requires
+    found-on-requires
+    mul-if1
+    cast-t23
+    returns
+    write-rows-requires
+    cast-t28
+    same-length
+    returns-2)

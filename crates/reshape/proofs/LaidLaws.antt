@@ -1,0 +1,255 @@
+-- The bytes after a flush's last step lay out the store that the rules say: d grown, split or joined. The pages are written by settling chains and giving them up.
+use mathlib.Core.Bool.{true, false, not}
+use mathlib.Core.List.{List, [], _∷_, _++_, map, append-assoc, append-nil}
+use mathlib.Core.Path.{_≡_, refl, sym, ap, ap₂, subst, _∙_}
+use Prim.Native.Nat.{ℕ, _+_, _-_, _≤_, _<_}
+use native.Mathlib.Omega.{arith}
+use lib.Dec.{ltb}
+use lib.ListN.{length, length-append, take-append-drop}
+use Rattle.terms.specs.Terms.{Place, pages, noPage}
+use Rattle.lists.specs.Chains.{firstOf, settledChain, settledFree}
+use Rattle.lists.specs.Rows.{Rows, merge}
+use Rattle.lists.specs.Sums.{count}
+use Rattle.lists.proofs.AmongLaws.{Among, each-among}
+use Rattle.lists.proofs.RowsLaws.{rising-filter, length-merge-le}
+use Rattle.lists.proofs.SumsLaws.{sum-middle, length-filter-not}
+use Rattle.lists.proofs.TestsLaws.{each-middle}
+use Rattle.rules.specs.Limits.{maxCells, joinEntries}
+use Rattle.rules.specs.Store.{Line, Cell, Store, others, pagesFor, settled, freeAfter}
+use Rattle.rules.specs.Sweep.{stale, sweptEntries}
+use Rattle.rules.specs.Cut.{Cut}
+use Rattle.rules.specs.Flush.{Flushed, grown, lowCell, highCell, unusedNumber, splitAt, joinedEdges, joined, joinedWith}
+use Rattle.rules.specs.WellFormed.{chains}
+use Rattle.rules.proofs.Parts.{Rowed, Paged}
+use Rattle.rules.proofs.PagedLaws.{size, needed, pagesFor-one, pages-few, pages-few-split, room-pages, length-freeAfter, size-split}
+use Rattle.rules.proofs.TilingLaws.{others-split, round-others}
+use Rattle.rules.proofs.FlushLaws.{Ready}
+use Rattle.desk.specs.Layout.{Laid}
+use Rattle.desk.proofs.PagesLaws.{PagesOnce}
+use Rattle.reshape.specs.Reshape.{onPages}
+use Rattle.settle.specs.Settle.{written, givenLeaves, settledLeaves}
+use Rattle.settle.proofs.SettleLaws.{Apart, apart-cell, apart-new, settled-laid, settled-once, settled-even, given-laid, given-once}
+
+paged-once : (s : Store) → Paged (s .cells) (s .free) → PagesOnce s
+unfolding chains
+paged-once s p = p .once
+
+module _ {f : Flushed} {d₀ : Cell} {before after : List Cell} {old : Rows Line} {n c : ℕ} (r : Ready f d₀ before after old n c) (b : List ℕ) (l : Laid (f .store) b) where
+  pub store-once : PagesOnce (f .store)
+  store-once = paged-once (f .store) (subst (λ (cs : List Cell). Paged cs (f .store .free)) (sym (r .cells)) (r .paged))
+
+  -- d's chain beside all that the bytes lay out
+  pub d-apart : Apart b (before ++ after) (f .cell .chain) (f .store .free)
+  d-apart = apart-cell (f .store) store-once b l before d₀ after (r .cells) (r .chain)
+
+  -- ---- grown
+
+  -- the free chain has the pages that d needs
+  pub d-room : pagesFor (length (f .cell .entries)) ≤ length (f .cell .chain) + length (f .store .free)
+  d-room =
+      omega (
+        arith,
+        room-pages before after d₀ (f .store .free) (r .paged),
+        pages-few (before ++ (f .cell ∷ after)) (omega (arith, r .few, sum-middle size before (f .cell) after))
+            (omega (arith, r .tiled .few-cells, length-append before (d₀ ∷ after), length-append before (f .cell ∷ after))),
+        sum-middle needed before (f .cell) after,
+        ap (λ (x : List ℕ). length x) (r .chain),
+      )
+
+  pub grown-laid : Laid (grown f) (written b (settledLeaves (f .cell .number) (f .cell .chain) (f .store .free) (f .cell .entries)))
+  unfolding grown
+  grown-laid =
+      settled-laid (f .cell) d-apart (grown f) (before ++ after) [] (append-nil (before ++ after))
+      (ap (λ (x : List Cell). x ++ (settled (f .store .free) (f .cell) ∷ [])) (r .rest)) refl
+
+  -- ---- split
+
+  module _ (cut : Cut) (number : ℕ) (few : length (before ++ (d₀ ∷ after)) < maxCells) where
+    abbrev low : Cell
+    low = lowCell cut (f .cell)
+
+    abbrev high : Cell
+    high = highCell cut number (f .cell)
+
+    low-chain : low .chain ≡ f .cell .chain
+    unfolding lowCell
+    low-chain = refl
+
+    high-chain : high .chain ≡ []
+    unfolding highCell
+    high-chain = refl
+
+    split-needs : needed low + needed high ≤ length (f .cell .chain) + length (f .store .free)
+    split-needs =
+        omega (
+          arith,
+          room-pages before after d₀ (f .store .free) (r .paged),
+          pages-few-split (before ++ after) low high (omega (arith, r .few, size-split cut number (f .cell)))
+              (omega (arith, few, length-append before (d₀ ∷ after), length-append before after)),
+          ap (λ (x : List ℕ). length x) (r .chain),
+        )
+
+    -- the low side keeps d's chain and is settled first
+    abbrev midway : Store
+    midway = onPages ((before ++ after) ++ (settled (f .store .free) low ∷ [])) (freeAfter (f .store .free) low) (f .store)
+
+    abbrev bytesLow : List ℕ
+    bytesLow = written b (settledLeaves (low .number) (low .chain) (f .store .free) (low .entries))
+
+    pub low-apart : Apart b (before ++ after) (low .chain) (f .store .free)
+    low-apart = apart-cell (f .store) store-once b l before d₀ after (r .cells) (low-chain ∙ r .chain)
+
+    pub low-room : needed low ≤ length (low .chain) + length (f .store .free)
+    low-room = omega (arith, split-needs, ap (λ (x : List ℕ). length x) low-chain)
+
+    low-laid : Laid midway bytesLow
+    low-laid = settled-laid low low-apart midway (before ++ after) [] (append-nil (before ++ after)) refl refl
+
+    -- then the other takes from what is left
+    pub high-apart : Apart bytesLow (midway .cells) (high .chain) (midway .free)
+    high-apart = apart-new midway (settled-once low low-apart midway (before ++ after) [] (append-nil (before ++ after)) refl refl) bytesLow low-laid high-chain
+
+    pub high-room : needed high ≤ length (high .chain) + length (freeAfter (f .store .free) low)
+    high-room = omega (arith, split-needs, length-freeAfter (f .store .free) low low-room, ap (λ (x : List ℕ). length x) low-chain)
+
+    pub high-laid : (s : Store) → s .cells ≡ (before ++ after) ++ (settled (f .store .free) low ∷ settled (freeAfter (f .store .free) low) high ∷ [])
+        → s .free ≡ freeAfter (freeAfter (f .store .free) low) high
+        → Laid s (written bytesLow (settledLeaves (high .number) (high .chain) (midway .free) (high .entries)))
+    high-laid s e g =
+        settled-laid high high-apart s (midway .cells) [] (append-nil (midway .cells))
+        (e ∙ sym (append-assoc (before ++ after) (settled (f .store .free) low ∷ []) (settled (freeAfter (f .store .free) low) high ∷ []))) g
+
+  pub split-laid : (cut : Cut) (few : length (before ++ (d₀ ∷ after)) < maxCells) → Laid (splitAt cut f) (written (bytesLow cut (unusedNumber (f .store .cells)) few) (settledLeaves (high cut (unusedNumber (f .store .cells)) few .number) (high cut (unusedNumber (f .store .cells)) few .chain) (midway cut (unusedNumber (f .store .cells)) few .free) (high cut (unusedNumber (f .store .cells)) few .entries)))
+  unfolding splitAt
+  split-laid cut few = high-laid cut (unusedNumber (f .store .cells)) few (splitAt cut f) (ap (λ (x : List Cell). x ++ (settled (f .store .free) (lowCell cut (f .cell)) ∷ settled (freeAfter (f .store .free) (lowCell cut (f .cell))) (highCell cut (unusedNumber (f .store .cells)) (f .cell)) ∷ [])) (r .rest)) refl
+
+  -- ---- join
+
+  module _ (m : Cell) (a : Among (before ++ after) m) (small : length (f .cell .entries) + length (m .entries) ≤ joinEntries) where
+    abbrev left : List Cell
+    left = a .before ++ a .after
+
+    abbrev entries : Rows Place
+    entries = merge (sweptEntries (f .store .memo) (m .entries)) (f .cell .entries)
+
+    pub few-joined : length entries ≤ length (f .cell .entries) + length (m .entries)
+    unfolding sweptEntries
+    few-joined =
+        let b = r .books .cells-rowed in
+        let rises = each-among Rowed (b .1) a .rising in
+        omega (
+          arith,
+          length-merge-le 0 (sweptEntries (f .store .memo) (m .entries)) (f .cell .entries) (rising-filter (λ e. not (stale (f .store .memo) e)) 0 (m .entries) rises) (b .0 .rising),
+          length-filter-not (stale (f .store .memo)) (m .entries),
+        )
+
+    joined-one : pagesFor (length entries) ≡ 1
+    joined-one = pagesFor-one (length entries) (omega (arith, few-joined))
+
+    d-one : pagesFor (length (f .cell .entries)) ≡ 1
+    d-one = pagesFor-one (length (f .cell .entries)) (omega arith)
+
+    m-one : length (m .chain) ≡ 1
+    m-one =
+        each-among (λ c. length (c .chain) ≡ needed c) (each-middle (λ c. length (c .chain) ≡ needed c) before d₀ after (r .paged .cells-paged) .1) a
+        ∙ pagesFor-one (length (m .entries)) (omega arith)
+
+    -- the joined cell with the pages of d, or of m
+    abbrev joinedOn : ℕ → List ℕ → Cell
+    joinedOn number chain = record { number = number; edges = joinedEdges (f .cell .edges) (m .edges); chain = chain; entries = entries }
+
+    -- ---- d survives: it is settled with all entries, then m's page is given up
+
+    abbrev pub onD : Cell
+    onD = joinedOn (f .cell .number) (f .cell .chain)
+
+    abbrev settledD : Store
+    settledD = onPages ((before ++ after) ++ (settled (f .store .free) onD ∷ [])) (freeAfter (f .store .free) onD) (f .store)
+
+    abbrev bytesD : List ℕ
+    bytesD = written b (settledLeaves (onD .number) (onD .chain) (f .store .free) (onD .entries))
+
+    pub onD-room : needed onD ≤ length (onD .chain) + length (f .store .free)
+    onD-room = omega (arith, d-room, joined-one, d-one)
+
+    settledD-once : PagesOnce settledD
+    settledD-once = settled-once onD d-apart settledD (before ++ after) [] (append-nil (before ++ after)) refl refl
+
+    settledD-laid : Laid settledD bytesD
+    settledD-laid = settled-laid onD d-apart settledD (before ++ after) [] (append-nil (before ++ after)) refl refl
+
+    settledD-cells : settledD .cells ≡ a .before ++ (m ∷ (a .after ++ (settled (f .store .free) onD ∷ [])))
+    settledD-cells = ap (λ (x : List Cell). x ++ (settled (f .store .free) onD ∷ [])) (a .split) ∙ append-assoc (a .before) (m ∷ a .after) (settled (f .store .free) onD ∷ [])
+
+    pub m-apart : Apart bytesD (a .before ++ (a .after ++ (settled (f .store .free) onD ∷ []))) (m .chain) (settledD .free)
+    m-apart = apart-cell settledD settledD-once bytesD settledD-laid (a .before) m (a .after ++ (settled (f .store .free) onD ∷ [])) settledD-cells refl
+
+    pub d-survives : (s : Store) → s .cells ≡ left ++ (settled (f .store .free) onD ∷ []) → s .free ≡ settledFree 0 (m .chain) (freeAfter (f .store .free) onD)
+        → Laid s (written bytesD (givenLeaves (firstOf noPage (freeAfter (f .store .free) onD)) (m .chain)))
+    d-survives s e g = given-laid m-apart s (e ∙ append-assoc (a .before) (a .after) (settled (f .store .free) onD ∷ [])) g
+
+    -- ---- m survives: d's pages are given up, then m is written with all entries
+
+    abbrev pub onM : Cell
+    onM = joinedOn (m .number) (m .chain)
+
+    abbrev freeD : List ℕ
+    freeD = settledFree 0 (f .cell .chain) (f .store .free)
+
+    abbrev withoutD : Store
+    withoutD = onPages (before ++ after) freeD (f .store)
+
+    abbrev bytesM : List ℕ
+    bytesM = written b (givenLeaves (firstOf noPage (f .store .free)) (f .cell .chain))
+
+    withoutD-laid : Laid withoutD bytesM
+    withoutD-laid = given-laid d-apart withoutD refl refl
+
+    pub onM-apart : Apart bytesM left (onM .chain) freeD
+    onM-apart = apart-cell withoutD (given-once d-apart withoutD refl refl) bytesM withoutD-laid (a .before) m (a .after) (a .split) refl
+
+    pub onM-room : needed onM ≤ length (onM .chain) + length freeD
+    onM-room = omega (arith, joined-one, m-one)
+
+    pub m-survives : (s : Store) → s .cells ≡ left ++ (settled freeD onM ∷ []) → s .free ≡ freeAfter freeD onM
+        → Laid s (written bytesM (settledLeaves (onM .number) (onM .chain) freeD (onM .entries)))
+    m-survives s e g = settled-laid onM onM-apart s left [] (append-nil left) e g
+
+    -- ---- these are the cells and the free chain of the join
+
+    others-left : others (m .number) (f .rest) ≡ left
+    others-left =
+        ap (others (m .number)) (r .rest ∙ a .split)
+        ∙ others-split (a .before) m (a .after) (subst (λ (l : List Cell). (q : ℕ) → count q (map (λ x. x .number) l) ≤ 1) (a .split) (round-others before d₀ after (r .tiled .round)))
+
+    pub joined-low : ltb (f .cell .number) (m .number) ≡ true → joined f m ≡ settled (f .store .free) onD
+    unfolding settled
+    joined-low t = rw (t, d-one, joined-one)
+
+    freed-low : ltb (f .cell .number) (m .number) ≡ true → joinedWith f m .free ≡ settledFree 0 (m .chain) (freeAfter (f .store .free) onD)
+    unfolding joinedWith settled freeAfter
+    freed-low t = rw (t, d-one, joined-one)
+
+    -- d's pages and the free ones are the same list, settled or not
+    settled-whole : settledFree 0 (settled (f .store .free) (f .cell) .chain) (freeAfter (f .store .free) (f .cell)) ≡ freeD
+    unfolding settled freeAfter settledChain settledFree
+    settled-whole = take-append-drop (pagesFor (length (f .cell .entries))) (f .cell .chain ++ f .store .free)
+
+    pub joined-high : ltb (f .cell .number) (m .number) ≡ false → joined f m ≡ settled freeD onM
+    unfolding settled
+    joined-high t = rw t (ap (λ (l : List ℕ). joinedOn (m .number) l) (sym (settled-even freeD onM (m-one ∙ sym joined-one) .0)))
+
+    freed-high : ltb (f .cell .number) (m .number) ≡ false → joinedWith f m .free ≡ freeAfter freeD onM
+    unfolding joinedWith settled
+    freed-high t = rw t (settled-whole ∙ sym (settled-even freeD onM (m-one ∙ sym joined-one) .1))
+
+    pub cells-joined : {j : Cell} → joined f m ≡ j → joinedWith f m .cells ≡ left ++ (j ∷ [])
+    unfolding joinedWith
+    cells-joined e = ap₂ (λ (l : List Cell) (j : Cell). l ++ (j ∷ [])) others-left e
+
+    pub join-low : ltb (f .cell .number) (m .number) ≡ true
+        → (joinedWith f m .cells ≡ left ++ (settled (f .store .free) onD ∷ [])) × (joinedWith f m .free ≡ settledFree 0 (m .chain) (freeAfter (f .store .free) onD))
+    join-low t = (cells-joined (joined-low t), freed-low t)
+
+    pub join-high : ltb (f .cell .number) (m .number) ≡ false → (joinedWith f m .cells ≡ left ++ (settled freeD onM ∷ [])) × (joinedWith f m .free ≡ freeAfter freeD onM)
+    join-high t = (cells-joined (joined-high t), freed-high t)

@@ -1,0 +1,17 @@
+use borrow.Author.Needs.{needs}
+use Rattle.reshape.proofs.cut_north.Statement.{statement}
+use Rattle.reshape.proofs.cut_north.Tie as tie
+use Rattle.reshape.proofs.cut_north.Reads as reads
+use Rattle.reshape.proofs.cut_north.Lts as lts
+use Rattle.directory.proofs.with_cut.Reads as with-cut-reads
+
+-- src/lib.rt:93:5
+with-cut-requires : tie.Need-with-cut-requires
+with-cut-requires c κs = search needs
+
+-- src/lib.rt:87:1
+returns : tie.Need-returns
+returns c = cc
+
+pub cut-north-spec : {M : Type 1} → statement M
+cut-north-spec = tie.close (tie.spec with-cut-requires returns)

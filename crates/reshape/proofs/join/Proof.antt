@@ -1,0 +1,105 @@
+use mathlib.Core.Path.{refl, ap}
+use native.Mathlib.Omega.{arith}
+use lib.ListN.{length}
+use borrow.Author.Needs.{needs}
+use Rattle.entries.specs.Entries.{rowsOf}
+use Rattle.reshape.proofs.NearLaws.{near-d, near-m, near-asks, near-merges, near-fits, near-joins, near-puts, near-returns}
+use Rattle.reshape.proofs.join.Statement.{statement}
+use Rattle.reshape.proofs.join.Tie as tie
+use Rattle.reshape.proofs.join.Reads as reads
+use Rattle.reshape.proofs.join.Lts as lts
+use Rattle.join.proofs.merged.Reads as merged-reads
+use Rattle.page.proofs.read_chain.Reads as read-chain-reads
+use Rattle.reshape.proofs.join_pages.Reads as join-pages-reads
+use Rattle.reshape.proofs.joined_cells.Reads as joined-cells-reads
+use Rattle.reshape.proofs.with_cells.Reads as with-cells-reads
+use Rattle.sweep.proofs.sweep_chain.Reads as sweep-chain-reads
+
+-- src/lib.rt:211:13
+mul-d : tie.Need-mul-d
+mul-d c = let h = near-d (c .before .before .pre .2) in omega arith
+
+-- src/lib.rt:211:13
+element-copy-out-d : tie.Need-element-copy-out-d
+element-copy-out-d c = near-d (c .before .before .pre .2)
+
+-- src/lib.rt:212:13
+mul-m : tie.Need-mul-m
+mul-m c = let h = near-m (c .before .before .before .pre .2) in omega arith
+
+-- src/lib.rt:212:13
+element-copy-out-m : tie.Need-element-copy-out-m
+element-copy-out-m c = near-m (c .before .before .before .pre .2)
+
+-- src/lib.rt:213:9
+read-chain-requires : tie.Need-read-chain-requires
+read-chain-requires c κs = search needs
+
+-- src/lib.rt:214:9
+sweep-chain-requires : tie.Need-sweep-chain-requires
+sweep-chain-requires c κs =
+    let o = c .before in
+    let e = o .before .before .before .before .before .before in
+    near-asks (e .pre .2) (o .read-chain .result) (o .read-chain .ensures .0) (o .read-chain .ensures .2)
+
+-- src/lib.rt:216:9
+merged-requires : tie.Need-merged-requires
+merged-requires c κs =
+    let w = c .before in
+    let o = w .before .before in
+    let e = o .before .before .before .before .before .before in
+    near-merges (e .pre .2) (o .read-chain .result) (o .read-chain .ensures .0) (w .sweep-chain .result) (w .sweep-chain .ensures) (e .args .table) (e .pre .1) refl
+
+-- src/lib.rt:217:9
+join-pages-requires : tie.Need-join-pages-requires
+join-pages-requires c κs =
+    let a = c .before in
+    let w = a .before .before in
+    let o = w .before .before in
+    let e = o .before .before .before .before .before .before in
+    let n = near-fits (e .pre .2) (o .read-chain .result) (o .read-chain .ensures .0) (w .sweep-chain .result) (w .sweep-chain .ensures) (rowsOf (a .merged .result)) (a .merged .ensures .0) in (
+      e .pre .0,
+      o .read-chain .ensures .2,
+      omega (arith, n, a .merged .ensures .1, ap length (a .merged .ensures .0)),
+      near-joins (e .pre .2) (o .read-chain .result) (o .read-chain .ensures .0) (w .sweep-chain .result) (w .sweep-chain .ensures) (rowsOf (a .merged .result)) (a .merged .ensures .0),
+    )
+
+-- src/lib.rt:218:9
+joined-cells-requires : tie.Need-joined-cells-requires
+joined-cells-requires c κs = near-puts (c .before .before .before .before .before .before .before .before .before .before .before .before .before .before .pre .2)
+
+-- src/lib.rt:221:15
+with-cells-requires : tie.Need-with-cells-requires
+with-cells-requires c κs = search needs
+
+-- src/lib.rt:206:1
+same-length : tie.Need-same-length
+same-length c = search needs
+
+-- src/lib.rt:206:1
+returns : tie.Need-returns
+returns c = λ x.
+    let j = c .before .before in
+    let p = j .before .before .before in
+    let a = p .before .before in
+    let w = a .before .before in
+    let o = w .before .before in
+    let b = near-joins x (o .read-chain .result) (o .read-chain .ensures .0) (w .sweep-chain .result) (w .sweep-chain .ensures) (rowsOf (a .merged .result)) (a .merged .ensures .0) in
+    near-returns x (o .read-chain .result) (o .read-chain .ensures .0) (w .sweep-chain .result) (w .sweep-chain .ensures) (p .join-pages .ensures b) (j .joined-cells .ensures) (c .with-cells .ensures)
+
+pub join-spec : {M : Type 1} → statement M
+join-spec =
+    tie.close
+    (tie.spec
+    mul-d
+    element-copy-out-d
+    mul-m
+    element-copy-out-m
+    read-chain-requires
+    sweep-chain-requires
+    merged-requires
+    join-pages-requires
+    joined-cells-requires
+    with-cells-requires
+    same-length
+    returns)
