@@ -21,7 +21,8 @@ give-up-requires c κs =
     let s = c .before .before .before in
     let e = s .before .before .before in
     let q = m-given-asks (e .pre .4) (s .settle .ensures .0) (s .settle .ensures .1) in
-    (q .0, e .pre .1, q .1)
+    let p = d-asks (e .pre .4) in
+    search (q .0, q .1, p .0, e .pre .0, e .pre .1)
 
 -- src/lib.rt:164:1
 same-length : tie.Need-same-length
