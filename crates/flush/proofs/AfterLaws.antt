@@ -1,0 +1,119 @@
+-- After a sign-on or report: the memory cell that the code finds due is the one that the rules say, and what it leaves goes on to the tally.
+use mathlib.Core.Bool.{true, false}
+use mathlib.Core.List.{List}
+use mathlib.Core.Option.{Option, none, some}
+use mathlib.Core.Path.{_≡_, refl, sym, ap, ap₂, _∙_, subst}
+use Prim.Native.Nat.{ℕ, _+_, _≤_, _<_}
+use native.Mathlib.Omega.{arith}
+use lib.ListN.{length}
+use Rattle.terms.specs.Terms.{Place}
+use Rattle.lists.specs.Rows.{Rows}
+use Rattle.lists.proofs.Cases.{option-cases}
+use Rattle.rules.specs.Limits.{maxCuts, fullBox, fullMemory}
+use Rattle.rules.specs.Grid.{Cuts, Box, sameBox, boxOf}
+use Rattle.rules.specs.Store.{Report, Cell, Store}
+use Rattle.rules.specs.Flush.{flushedInto}
+use Rattle.rules.specs.Records.{signOn, report}
+use Rattle.rules.specs.Carry.{signedOn, reported, boxToFlush, waitingIn, flushDue, afterReport, allowedIn}
+use Rattle.rules.proofs.CutLaws.{reshaped-tally, flush-cases}
+use Rattle.rules.proofs.StepLaws.{Done, report-done}
+use Rattle.desk.specs.declared.Grid.{Grid}
+use Rattle.desk.specs.declared.Waiting.{Waiting}
+use Rattle.desk.specs.declared.Memo.{Memo}
+use Rattle.desk.specs.Views.{cutsBy}
+use Rattle.waiting.specs.declared.BoxAt.{BoxAt}
+use Rattle.waiting.specs.declared.BoxDue.{BoxDue}
+use Rattle.waiting.specs.declared.BoxDue.the-variants.{Flush, Nothing}
+use Rattle.waiting.specs.Boxes.{boxIn, dueOf}
+use Rattle.waiting.specs.Waiting.{reportsOf}
+use Rattle.waiting.proofs.WaitingLaws.{reports-laid}
+use Rattle.directory.proofs.DirectoryLaws.{Boxed, boxed-due, boxed-counts}
+use Rattle.flush.specs.Flush.{Tallied, Reported, Flushes, allowedIf, After}
+use Rattle.flush.proofs.FlushLaws.{holds-easts, holds-norths, holds-cuts, few-easts, few-norths, few-wait}
+
+-- ---- the memory cell that is due
+
+due-none : (o : Option Box) → dueOf o ≡ Nothing → o ≡ none
+due-none none e = refl
+due-none (some n) e = let z : _≡_ {A = ℕ} 0 1 = cc in absurd (omega arith)
+
+due-some : (o : Option Box) (m : BoxAt) → dueOf o ≡ Flush m → o ≡ some (boxIn m)
+due-some none m e = let z : _≡_ {A = ℕ} 0 1 = cc in absurd (omega arith)
+due-some (some n) m e = let z : record { east = n .east; north = n .north } ≡ m = cc in ap (λ (k : BoxAt). some (boxIn k)) z
+
+module _ {grid : Grid} {waiting : Waiting} {memo : Memo} {b : List ℕ} (x : Reported grid waiting memo b) where
+  -- what `box_due` asks
+  pub due-asks : (waiting .n ≤ fullMemory) × (grid .easts .n ≤ maxCuts) × (grid .norths .n ≤ maxCuts)
+  due-asks = (few-wait x, few-easts x, few-norths x)
+
+  module _ (p : Place) {o : BoxDue}
+      (told : o ≡ dueOf (boxToFlush (cutsBy (grid .easts) (grid .norths)) (waitingIn (cutsBy (grid .easts) (grid .norths)) (reportsOf waiting)) (length (reportsOf waiting)) p)) where
+    due-told : o ≡ dueOf (flushDue (x .store) p)
+    unfolding flushDue
+    due-told =
+        told
+        ∙ ap₂ (λ (c : Cuts) (w : Rows Report). dueOf (boxToFlush c (waitingIn c w) (length w) p)) (holds-cuts (x .holds)) (reports-laid (x .waiting-is))
+
+    -- none is
+    pub after-nothing : o ≡ Nothing → After (x .store) p grid waiting memo b
+    unfolding afterReport
+    after-nothing e =
+        let z : flushDue (x .store) p ≡ none = due-none (flushDue (x .store) p) (sym due-told ∙ e) in
+        record { pick = 0; permitted = rw z refl; holds = rw z (x .holds); waiting-is = rw z (x .waiting-is) }
+
+    -- m is: `flush` may be called, and what it leaves
+    module _ (m : BoxAt) (e : o ≡ Flush m) where
+      due-is : flushDue (x .store) p ≡ some (boxIn m)
+      due-is = due-some (flushDue (x .store) p) m (sym due-told ∙ e)
+
+      due-boxed : Boxed (x .store .cuts) (boxIn m)
+      unfolding flushDue
+      due-boxed = boxed-due (x .store .cuts) (waitingIn (x .store .cuts) (x .store .waiting)) (length (x .store .waiting)) p (boxIn m) due-is
+
+      pub flush-asks : Reported grid waiting memo b × (m .east ≤ grid .easts .n) × (m .north ≤ grid .norths .n)
+      flush-asks = let k = boxed-counts (holds-easts (x .holds)) (holds-norths (x .holds)) due-boxed in (x, k .0, k .1)
+
+      pub after-flush : {g : Grid} {w : Waiting} {lines : Memo} {b′ : List ℕ}
+          → ((y : Reported grid waiting memo b) → Flushes (y .store) (boxIn m) g w lines b′) → After (x .store) p g w lines b′
+      unfolding afterReport
+      after-flush {g = g} {w = w} {lines = lines} {b′ = b′} f =
+          let k = f x in
+          record { pick = k .pick; permitted = rw due-is (k .permitted); holds = rw due-is (k .holds); waiting-is = rw due-is (k .waiting-is) }
+
+-- ---- on to the tally
+
+-- a flush leaves the tally
+after-tally : (pick : ℕ) (p : Place) (s : Store) → afterReport pick p s .tally ≡ s .tally
+unfolding afterReport
+after-tally pick p s =
+    option-cases (flushDue s p)
+    (λ e. rw e)
+    (λ m e. rw e (flush-cases (λ t. t .tally ≡ s .tally) pick m s (λ n. refl) (λ d n. reshaped-tally pick (flushedInto m s d) ∙ flushed-tally m d)))
+  where
+    flushed-tally : (m : Box) (d : Cell) → flushedInto m s d .store .tally ≡ s .tally
+    flushed-tally m d = unfold flushedInto in refl
+
+-- what `tick` asks, where no memory cell but that of p was full
+pub after-tallied : {grid : Grid} {waiting : Waiting} {memo : Memo} {b : List ℕ} (x : Reported grid waiting memo b) (p : Place) (tally : ℕ) {g : Grid} {w : Waiting} {lines : Memo} {b′ : List ℕ}
+    → ((n : Box) → sameBox n (boxOf (x .store .cuts) p) ≡ false → waitingIn (x .store .cuts) (x .store .waiting) n < fullBox)
+    → After (x .store) p g w lines b′ → tally ≡ x .store .tally → Tallied g lines tally b′
+after-tallied x p tally others-few a e =
+    let s = x .store in
+    let same = after-tally (a .pick) p s in
+    record {
+      store = afterReport (a .pick) p s;
+      early = omega (arith, same, x .early);
+      done = subst (λ (c : ℕ). Done (afterReport (a .pick) p s) (c + 1)) (sym same) (report-done (a .pick) p s (s .tally + 1) (x .staged .core) (x .staged .bounded) (omega (arith, x .early)) (x .few) others-few);
+      holds = a .holds;
+      tally-is = e ∙ sym same;
+    }
+
+-- ---- what is allowed of the neighbour's name, in the words of the call
+
+pub allowed-signOn : (pick r : ℕ) (p : Place) (s : Store) → allowedIf pick (flushDue (signedOn r p s) p) (signedOn r p s) ≡ true → allowedIn pick (signOn r p) s ≡ true
+unfolding allowedIn
+allowed-signOn pick r p s = option-cases (flushDue (signedOn r p s) p) (λ e. rw e (λ h. h)) (λ m e. rw e (λ h. h))
+
+pub allowed-report : (pick r : ℕ) (p : Place) (s : Store) → allowedIf pick (flushDue (reported r p s) p) (reported r p s) ≡ true → allowedIn pick (report r p) s ≡ true
+unfolding allowedIn
+allowed-report pick r p s = option-cases (flushDue (reported r p s) p) (λ e. rw e (λ h. h)) (λ m e. rw e (λ h. h))

@@ -1,0 +1,85 @@
+-- A cell of a store in the middle of a call, swept: what the code asks for that, and what it leaves at hand.
+use mathlib.Core.Bool.{true}
+use mathlib.Core.List.{List}
+use mathlib.Core.Path.{_≡_, ap, _∙_}
+use Prim.Native.Nat.{ℕ, suc, _≤_}
+use native.Mathlib.Omega.{arith}
+use lib.ListN.{length, getD, take, drop}
+use Rattle.terms.specs.Terms.{maxOn, pages, noPage}
+use Rattle.lists.specs.Chains.{firstOf}
+use Rattle.lists.specs.Rows.{Rising}
+use Rattle.lists.specs.Tests.{Each}
+use Rattle.lists.proofs.AmongLaws.{Among, each-among}
+use Rattle.entries.specs.Entries.{rowsOf}
+use Rattle.page.specs.Buffer.{there, pagesOf, chainFrom, endFrom}
+use Rattle.page.specs.declared.Chain.{Chain}
+use Rattle.rules.specs.Limits.{sweepEvery}
+use Rattle.rules.specs.Store.{Store}
+use Rattle.rules.specs.Sweep.{sweptEntries, sweptMemo, swept}
+use Rattle.rules.proofs.BooksLaws.{memo-total}
+use Rattle.rules.proofs.FlushLaws.{Staged}
+use Rattle.rules.proofs.RoundLaws.{bounded-total}
+use Rattle.rules.proofs.TilingLaws.{some-cell}
+use Rattle.desk.specs.declared.Grid.{Grid}
+use Rattle.desk.specs.declared.Memo.{Memo}
+use Rattle.desk.specs.declared.Slot.{Slot}
+use Rattle.desk.specs.Layout.{lineSlots, noSlot, directoryOf, gridOf, memoOf}
+use Rattle.memo.specs.Memo.{linesOf, Whole}
+use Rattle.reshape.specs.Reshape.{Lays}
+use Rattle.reshape.proofs.MovedLaws.{lays-same}
+use Rattle.sweep.specs.declared.Swept.{Swept}
+use Rattle.sweep.specs.Sweep.{entriesOn}
+use Rattle.sweep.proofs.CellLaws.{Sweepable, cells-sweep, cell-asks, cell-gives}
+use Rattle.flush.specs.Flush.{Holds, AtPlace, InHand}
+
+-- ---- what is held
+
+pub holds-lays : {s : Store} {g : Grid} {memo : Memo} {b : List ℕ} → Holds s g memo b → Lays s g b
+holds-lays h = record { held = h .grid-is; laid = h .laid }
+
+-- parts and pages that lay out a store lay out any other with the same cuts, cells, free chain and memo
+pub holds-same : {g : Grid} {memo : Memo} {b : List ℕ} (s t : Store) → s .cuts ≡ t .cuts → s .cells ≡ t .cells → s .free ≡ t .free → memo ≡ memoOf (t .memo) → Lays s g b → Holds t g memo b
+holds-same s t e f h m l = let k = lays-same s t e f h l in record { grid-is = k .held; memo-is = m; laid = k .laid }
+
+pub holds-cells : {s : Store} {g : Grid} {memo : Memo} {b : List ℕ} → Holds s g memo b → g .cells ≡ directoryOf (s .cells)
+unfolding gridOf
+holds-cells h = ap (λ (g : Grid). g .cells) (h .grid-is)
+
+-- ---- a cell of the store
+
+-- the memo has room for its lines
+pub few-lines : (s : Store) (c : ℕ) → Staged s c → c ≤ sweepEvery → length (s .memo) ≤ lineSlots
+few-lines s c g late =
+    omega (arith, memo-total (g .core .books), bounded-total (s .memo) (s .cells) (length (s .waiting)) c (g .bounded) (some-cell (g .core .tiling)))
+
+module _ {grid : Grid} {at : ℕ} {memo : Memo} {b : List ℕ} (x : AtPlace grid at memo b) where
+  abbrev pub among-place : Among (x .store .cells) (x .cell)
+  among-place = record { before = take at (x .store .cells); after = drop (suc at) (x .store .cells); split = x .stands .split }
+
+  sweepable-place : Sweepable b (x .store .memo) (x .cell)
+  sweepable-place = each-among (Sweepable b (x .store .memo)) (cells-sweep (x .store) b (x .staged .core) (x .holds .laid)) among-place
+
+  -- `read_chain` has read its pages
+  module _ (chain : Chain) (read : (pagesOf chain ≡ chainFrom pages b (getD (grid .cells .slots) at noSlot .first)) × (chain .end ≡ endFrom pages b (getD (grid .cells .slots) at noSlot .first)) × (chain .n ≤ pages)) where
+    first-place : pagesOf chain ≡ chainFrom pages b (firstOf noPage (x .cell .chain))
+    first-place = read .0 ∙ ap (λ (s : Slot). chainFrom pages b (s .first)) (x .stands .element)
+
+    -- what `sweep_chain` asks
+    pub place-asks : (chain .n ≤ pages) × Each (λ p. there b p ≡ true) (pagesOf chain) × Rising 0 (entriesOn b (pagesOf chain)) × Whole memo × (memo .n ≤ lineSlots) × Rising 0 (linesOf memo) × (length (sweptEntries (linesOf memo) (entriesOn b (pagesOf chain))) ≤ maxOn)
+    place-asks = cell-asks sweepable-place chain memo first-place (x .holds .memo-is) (read .2) (few-lines (x .store) (x .c) (x .staged) (x .late)) (x .staged .core .books .memo-rises)
+
+    -- what it leaves
+    pub place-gives : (s : Swept)
+        → (rowsOf (s .table) ≡ sweptEntries (linesOf memo) (entriesOn b (pagesOf chain))) × (s .table .n ≡ length (sweptEntries (linesOf memo) (entriesOn b (pagesOf chain)))) × (s .memo ≡ memoOf (sweptMemo (linesOf memo) (entriesOn b (pagesOf chain))))
+        → InHand (swept (x .store .memo) (x .cell)) (sweptMemo (x .store .memo) (x .cell .entries)) (record { chain = chain; table = s .table; memo = s .memo })
+    unfolding swept
+    place-gives s g =
+        let k = cell-gives sweepable-place chain memo first-place (x .holds .memo-is) s g in
+        record {
+          bound = read .2;
+          chained = first-place ∙ sweepable-place .read;
+          few = omega (arith, k .1, sweepable-place .room);
+          count = k .1;
+          rows = k .0;
+          memo-is = k .2;
+        }

@@ -1,0 +1,4 @@
+pub mod HandLaws
+pub mod TickLaws
+pub mod FlushLaws
+pub mod AfterLaws

@@ -1,0 +1,119 @@
+-- The tally: the front of the round is a cell at hand, and settled last it leaves the store that the rules say.
+use mathlib.Core.Bool.{true, false}
+use mathlib.Core.List.{List, [], _∷_, _++_}
+use mathlib.Core.Path.{_≡_, refl, sym, ap, _∙_, subst}
+use Prim.Native.Nat.{ℕ, _+_, _≤_, _<_}
+use native.Mathlib.Omega.{arith}
+use lib.Dec.{ltb}
+use lib.ListN.{length, drop}
+use borrow.Author.Tests.{lt-ltb, le-ltb}
+use Rattle.terms.specs.Terms.{maxOn, pages}
+use Rattle.lists.proofs.SumsLaws.{length-filter-not}
+use Rattle.entries.specs.Entries.{rowsOf}
+use Rattle.page.specs.Buffer.{pagesOf}
+use Rattle.rules.specs.Limits.{sweepEvery}
+use Rattle.rules.specs.Store.{Line, Cell}
+use Rattle.rules.specs.Sweep.{stale, sweptEntries, sweptMemo, swept, sweepFront, tick}
+use Rattle.rules.specs.WellFormed.{chains}
+use Rattle.rules.proofs.PagedLaws.{pagesFor-le}
+use Rattle.rules.proofs.StepLaws.{Done}
+use Rattle.rules.proofs.TilingLaws.{some-cell}
+use Rattle.lists.specs.Rows.{Rows}
+use Rattle.lists.proofs.AmongLaws.{each-among}
+use Rattle.desk.specs.declared.Grid.{Grid}
+use Rattle.desk.specs.declared.Memo.{Memo}
+use Rattle.directory.proofs.DirectoryLaws.{stands-index}
+use Rattle.reshape.specs.Reshape.{Loose, Lays, movedLast}
+use Rattle.flush.specs.declared.Hand.{Hand}
+use Rattle.flush.specs.Flush.{Holds, AtPlace, InHand, Tallied, Sixteenth, Ticks}
+use Rattle.flush.proofs.HandLaws.{holds-lays, holds-same, holds-cells, among-place}
+
+-- ---- the front of the round
+
+few-stay : (memo : Rows Line) (c : Cell) → length (swept memo c .entries) ≤ length (c .entries)
+unfolding swept sweptEntries
+few-stay memo c = omega (arith, length-filter-not (stale memo) (c .entries))
+
+module _ {grid : Grid} {memo : Memo} {b : List ℕ} (x : Sixteenth grid memo b) where
+  abbrev pub front-place : AtPlace grid 0 memo b
+  front-place =
+      let f = stands-index (x .store .cells) (holds-cells (x .holds)) 0 (some-cell (x .done .staged .core .tiling)) in
+      record { store = x .store; c = sweepEvery; staged = x .done .staged; late = omega arith; holds = x .holds; cell = f .0; stands = f .1 }
+
+  abbrev front : Cell
+  front = front-place .cell
+
+  -- `swept_at` has read it
+  module _ (hand : Hand) (given : (y : AtPlace grid 0 memo b) → InHand (swept (y .store .memo) (y .cell)) (sweptMemo (y .store .memo) (y .cell .entries)) hand) where
+    front-swept : InHand (swept (x .store .memo) front) (sweptMemo (x .store .memo) (front .entries)) hand
+    front-swept = given front-place
+
+    front-loose : Loose grid 0 (pagesOf (hand .chain)) (rowsOf (hand .table)) b
+    unfolding swept chains
+    front-loose =
+        let k = x .done .staged .core in
+        record {
+          store = x .store;
+          before = [];
+          old = front;
+          after = drop 1 (x .store .cells);
+          cell = swept (x .store .memo) front;
+          cells = front-place .stands .split;
+          few = k .tiling .few-cells;
+          number = refl;
+          edges = refl;
+          chain-kept = refl;
+          once = k .paged .once;
+          room =
+              omega (
+                arith,
+                each-among _ (k .paged .cells-paged) (among-place front-place),
+                pagesFor-le (length (swept (x .store .memo) front .entries)) (length (front .entries)) (few-stay (x .store .memo) front),
+              );
+          place = refl;
+          held = x .holds .grid-is;
+          chained = front-swept .chained;
+          entered = front-swept .rows;
+          laid = x .holds .laid;
+        }
+
+    -- what `settled_last` asks
+    pub front-asks : (hand .chain .n ≤ pages) × (hand .table .n ≤ maxOn) × Loose grid 0 (pagesOf (hand .chain)) (rowsOf (hand .table)) b
+    front-asks = (front-swept .bound, front-swept .few, front-loose)
+
+    -- what it leaves
+    pub front-holds : {g : Grid} {b′ : List ℕ}
+        → ((y : Loose grid 0 (pagesOf (hand .chain)) (rowsOf (hand .table)) b) → Lays (movedLast (y .store) (y .before ++ y .after) (y .cell)) g b′)
+        → Holds (sweepFront (x .store .cells) (x .store)) g (hand .memo) b′
+    unfolding sweepFront movedLast front-loose
+    front-holds {g = g} {b′ = b′} l =
+        subst (λ (cells : List Cell). Holds (sweepFront cells (x .store)) g (hand .memo) b′) (sym (front-place .stands .split))
+        (holds-same (movedLast (x .store) (drop 1 (x .store .cells)) (swept (x .store .memo) front)) (sweepFront (front ∷ drop 1 (x .store .cells)) (x .store)) refl refl refl (front-swept .memo-is) (l front-loose))
+
+  front-tally : sweepFront (x .store .cells) (x .store) .tally ≡ 0
+  unfolding sweepFront
+  front-tally = ap (λ (cells : List Cell). sweepFront cells (x .store) .tally) (front-place .stands .split)
+
+-- ---- the whole
+
+module _ {grid : Grid} {memo : Memo} {tally : ℕ} {b : List ℕ} (x : Tallied grid memo tally b) where
+  pub tick-counts : tally + 1 < sweepEvery → Ticks (x .store) grid memo (tally + 1) b
+  unfolding tick
+  tick-counts h =
+      let u : ltb (x .store .tally + 1) sweepEvery ≡ true = lt-ltb (x .store .tally + 1) sweepEvery (omega (arith, x .tally-is)) in
+      record { holds = rw u (holds-same (x .store) _ refl refl refl (x .holds .memo-is) (holds-lays (x .holds))); tally-is = rw u (ap (λ (n : ℕ). n + 1) (x .tally-is)) }
+
+  module _ (h : sweepEvery ≤ tally + 1) where
+    abbrev pub tick-sixteenth : Sixteenth grid memo b
+    tick-sixteenth = record {
+      store = x .store;
+      done = let z : x .store .tally + 1 ≡ sweepEvery = omega (arith, x .tally-is, x .early) in subst (Done (x .store)) z (x .done);
+      holds = x .holds;
+    }
+
+    pub tick-sweeps : {g : Grid} {m : Memo} {t : ℕ} {b′ : List ℕ} → t ≡ 0
+        → ((y : Sixteenth grid memo b) → Holds (sweepFront (y .store .cells) (y .store)) g m b′) → Ticks (x .store) g m t b′
+    unfolding tick
+    tick-sweeps {g = g} {m = m} {b′ = b′} z l =
+        let u : ltb (x .store .tally + 1) sweepEvery ≡ false = le-ltb (x .store .tally + 1) sweepEvery (omega (arith, x .tally-is)) in
+        record { holds = rw u (l tick-sixteenth); tally-is = rw u (z ∙ sym (front-tally tick-sixteenth)) }

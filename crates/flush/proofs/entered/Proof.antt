@@ -1,0 +1,19 @@
+use Rattle.flush.proofs.FlushLaws.{home-place, entered-asks, entered-gives}
+use Rattle.flush.proofs.entered.Statement.{statement}
+use Rattle.flush.proofs.entered.Tie as tie
+
+swept-at-requires : tie.Need-swept-at-requires
+swept-at-requires c κs = search home-place
+
+enter-all-requires : tie.Need-enter-all-requires
+enter-all-requires c κs =
+    let d = c .before .before .before .before .before in
+    entered-asks (d .before .before .args .m) (d .before .before .pre) _ (d .swept-at .ensures)
+
+returns : tie.Need-returns
+returns c =
+    let d = c .before .before .before .before .before .before .before .before in
+    λ x. entered-gives (d .before .before .args .m) x _ (d .swept-at .ensures) _ (c .before .before .enter-all .ensures)
+
+pub entered-spec : {M : Type 1} → statement M
+entered-spec = tie.close (tie.spec swept-at-requires enter-all-requires returns)

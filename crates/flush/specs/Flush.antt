@@ -1,0 +1,112 @@
+-- The desk's parts and the pages in the middle of a call, and what a flush and the tally leave of them (01, "Flush", "How a record is carried out").
+use mathlib.Core.Bool.{Bool, true}
+use mathlib.Core.List.{List}
+use mathlib.Core.Option.{Option, none, some}
+use mathlib.Core.Path.{_≡_}
+use Prim.Native.Nat.{ℕ, _+_, _≤_, _<_}
+use lib.ListN.{length}
+use Rattle.terms.specs.Terms.{Place, maxOn, pages}
+use Rattle.lists.specs.Rows.{Rows}
+use Rattle.entries.specs.Entries.{rowsOf}
+use Rattle.page.specs.Buffer.{pagesOf}
+use Rattle.rules.specs.Limits.{fullMemory, sweepEvery}
+use Rattle.rules.specs.Grid.{Box}
+use Rattle.rules.specs.Store.{Line, Cell, Store}
+use Rattle.rules.specs.Sweep.{tick}
+use Rattle.rules.specs.Flush.{cellOfBox, flush, allowedFlush}
+use Rattle.rules.specs.Carry.{flushDue, afterReport}
+use Rattle.rules.proofs.FlushLaws.{Staged}
+use Rattle.rules.proofs.StepLaws.{Done}
+use Rattle.desk.specs.declared.Grid.{Grid}
+use Rattle.desk.specs.declared.Waiting.{Waiting}
+use Rattle.desk.specs.declared.Memo.{Memo}
+use Rattle.desk.specs.Layout.{gridOf, waitingOf, memoOf, Laid}
+use Rattle.directory.proofs.DirectoryLaws.{Stands}
+use Rattle.flush.specs.declared.Hand.{Hand}
+
+-- grid, memo and pages lay out a store's
+pub record Holds (s : Store) (grid : Grid) (memo : Memo) (bytes : List ℕ) : Type 0 where
+  pub grid-is : grid ≡ gridOf s
+  pub memo-is : memo ≡ memoOf (s .memo)
+  pub laid : Laid s bytes
+
+-- ---- a cell at hand
+
+-- a cell at place `at` of the round, in the middle of a call
+pub record AtPlace (grid : Grid) (at : ℕ) (memo : Memo) (bytes : List ℕ) : Type 0 where
+  pub store : Store
+  pub c : ℕ
+  pub staged : Staged store c
+  pub late : c ≤ sweepEvery
+  pub holds : Holds store grid memo bytes
+  pub cell : Cell
+  pub stands : Stands (grid .cells) (store .cells) cell at
+
+-- a cell's old pages and its entries are at hand, with the memo
+pub record InHand (c : Cell) (memo : Rows Line) (hand : Hand) : Type 0 where
+  pub bound : hand .chain .n ≤ pages
+  pub chained : pagesOf (hand .chain) ≡ c .chain
+  pub few : hand .table .n ≤ maxOn
+  pub count : hand .table .n ≡ length (c .entries)
+  pub rows : rowsOf (hand .table) ≡ c .entries
+  pub memo-is : hand .memo ≡ memoOf memo
+
+-- ---- the tally
+
+-- before the tally: a store with room for the next report, at the tally that it will have
+pub record Tallied (grid : Grid) (memo : Memo) (tally : ℕ) (bytes : List ℕ) : Type 0 where
+  pub store : Store
+  pub early : store .tally < sweepEvery
+  pub done : Done store (store .tally + 1)
+  pub holds : Holds store grid memo bytes
+  pub tally-is : tally ≡ store .tally
+
+-- the same at the 16th
+pub record Sixteenth (grid : Grid) (memo : Memo) (bytes : List ℕ) : Type 0 where
+  pub store : Store
+  pub done : Done store sweepEvery
+  pub holds : Holds store grid memo bytes
+
+-- "Each accepted sign-on, report or sign-off adds 1 to c. At 16, sweep the cell at the front of the round"
+pub record Ticks (s : Store) (grid : Grid) (memo : Memo) (tally : ℕ) (bytes : List ℕ) : Type 0 where
+  pub holds : Holds (tick s) grid memo bytes
+  pub tally-is : tally ≡ tick s .tally
+
+-- ---- a flush
+
+-- after a sign-on's or a report's own effect: the parts hold, and the bound at the tally to come; as many wait as there is room for
+pub record Reported (grid : Grid) (waiting : Waiting) (memo : Memo) (bytes : List ℕ) : Type 0 where
+  pub store : Store
+  pub early : store .tally < sweepEvery
+  pub staged : Staged store (store .tally + 1)
+  pub few : length (store .waiting) ≤ fullMemory
+  pub holds : Holds store grid memo bytes
+  pub waiting-is : waiting ≡ waitingOf (store .waiting)
+
+-- the cell of m is found at place `at` of the round
+pub record Homed (grid : Grid) (at : ℕ) (waiting : Waiting) (memo : Memo) (m : Box) (bytes : List ℕ) : Type 0 where
+  pub reported : Reported grid waiting memo bytes
+  pub cell : Cell
+  pub home : cellOfBox (reported .store) m ≡ some cell
+  pub stands : Stands (grid .cells) (reported .store .cells) cell at
+
+-- m is flushed, with a neighbour that 01 allows where d is joined
+pub record Flushes (s : Store) (m : Box) (grid : Grid) (waiting : Waiting) (memo : Memo) (bytes : List ℕ) : Type 0 where
+  pub pick : ℕ
+  pub permitted : allowedFlush pick m s ≡ true
+  pub holds : Holds (flush pick m s) grid memo bytes
+  pub waiting-is : waiting ≡ waitingOf (flush pick m s .waiting)
+
+-- ---- "After sign-on or report"
+
+-- what is allowed of the neighbour's name, if a memory cell is flushed
+abbrev pub allowedIf : ℕ → Option Box → Store → Bool
+allowedIf pick none s = true
+allowedIf pick (some m) s = allowedFlush pick m s
+
+-- the memory cell that is due is flushed
+pub record After (s : Store) (p : Place) (grid : Grid) (waiting : Waiting) (memo : Memo) (bytes : List ℕ) : Type 0 where
+  pub pick : ℕ
+  pub permitted : allowedIf pick (flushDue s p) s ≡ true
+  pub holds : Holds (afterReport pick p s) grid memo bytes
+  pub waiting-is : waiting ≡ waitingOf (afterReport pick p s .waiting)

@@ -1,0 +1,10 @@
+pub mod DueLaws
+pub mod EntriesLaws
+pub mod JudgeLaws
+pub mod KnownLaws
+pub mod ReadLaws
+pub mod SoundLaws
+pub mod TableLaws
+pub mod TestLaws
+pub mod VerdictLaws
+pub mod WalkLaws

@@ -1,0 +1,87 @@
+-- The lines so far are written (`LinesDue`).
+use mathlib.Core.Path.{_≡_}
+use Prim.Native.Nat.{_-_, _≤_}
+use lib.ListN.{length}
+use Rattle.lists.proofs.ShiftLaws.{length-mapped}
+use Rattle.desk.specs.Layout.{lineSlots}
+use Rattle.sound_radios.proofs.DueLaws.{LinesDue, lines-start, line-radio, lines-turn, lines-end}
+use borrow.Author.Needs.{needs}
+use Rattle.sound_radios.proofs.lines_due.Statement.{statement}
+use Rattle.sound_radios.proofs.lines_due.Tie as tie
+
+abbrev Inv-loop : tie.InvT-loop
+Inv-loop due₀ kinds₀ codes₀ memo n i₀ due kinds codes i = (i ≤ memo .n) × (length (memo .rows) ≡ lineSlots) × LinesDue memo due₀ kinds₀ codes₀ i due kinds codes
+
+abbrev μ-loop : tie.MeasureT-loop
+μ-loop due₀ kinds₀ codes₀ memo n i₀ due kinds codes i = memo .n - i
+
+loop-holds : tie.Need-loop-holds Inv-loop μ-loop
+loop-holds c = (search needs, search length-mapped, search lines-start)
+
+mul-x : tie.Need-mul-x Inv-loop μ-loop
+mul-x c = search needs
+
+element-copy-out-x : tie.Need-element-copy-out-x Inv-loop μ-loop
+element-copy-out-x c = search needs
+
+radio-index-requires : tie.Need-radio-index-requires Inv-loop μ-loop
+radio-index-requires c κs = search line-radio
+
+missed-due-requires : tie.Need-missed-due-requires Inv-loop μ-loop
+missed-due-requires c κs = search needs
+
+mul-due : tie.Need-mul-due Inv-loop μ-loop
+mul-due c = search needs
+
+element-write-due : tie.Need-element-write-due Inv-loop μ-loop
+element-write-due c = search needs
+
+kind-of-requires : tie.Need-kind-of-requires Inv-loop μ-loop
+kind-of-requires c κs = search needs
+
+element-write-kinds : tie.Need-element-write-kinds Inv-loop μ-loop
+element-write-kinds c = search needs
+
+code-of-requires : tie.Need-code-of-requires Inv-loop μ-loop
+code-of-requires c κs = search needs
+
+mul-codes : tie.Need-mul-codes Inv-loop μ-loop
+mul-codes c = search needs
+
+element-write-codes : tie.Need-element-write-codes Inv-loop μ-loop
+element-write-codes c = search needs
+
+add-i : tie.Need-add-i Inv-loop μ-loop
+add-i c = search needs
+
+loop-less : tie.Need-loop-less Inv-loop μ-loop
+loop-less c = search needs
+
+loop-again : tie.Need-loop-again Inv-loop μ-loop
+loop-again c = (search needs, search needs, search lines-turn)
+
+returns : tie.Need-returns Inv-loop μ-loop
+returns c = lines-end _ (c .before .loop .inv .2) (c .loop-test .left)
+
+pub lines-due-spec : {M : Type 1} → statement M
+lines-due-spec =
+    tie.close
+    (tie.spec
+    Inv-loop
+    μ-loop
+    loop-holds
+    mul-x
+    element-copy-out-x
+    radio-index-requires
+    missed-due-requires
+    mul-due
+    element-write-due
+    kind-of-requires
+    element-write-kinds
+    code-of-requires
+    mul-codes
+    element-write-codes
+    add-i
+    loop-less
+    loop-again
+    returns)

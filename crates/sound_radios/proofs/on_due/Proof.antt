@@ -1,0 +1,77 @@
+-- The radios so far are added (`Adding`).
+use mathlib.Core.Path.{_≡_}
+use Prim.Native.Nat.{_-_, _≤_}
+use lib.ListN.{length}
+use Rattle.terms.specs.Terms.{maxOn}
+use Rattle.desk.specs.Views.{radiosOf}
+use Rattle.sound_radios.specs.Tables.{each}
+use Rattle.sound_radios.proofs.TableLaws.{Adding, adding-start}
+use Rattle.sound_radios.proofs.DueLaws.{on-radio, on-room, on-turn, on-end}
+use borrow.Author.Needs.{needs}
+use Rattle.sound_radios.proofs.on_due.Statement.{statement}
+use Rattle.sound_radios.proofs.on_due.Tie as tie
+
+abbrev Inv-loop : tie.InvT-loop
+Inv-loop due₀ on n i₀ due i = (i ≤ on .n) × (length (on .radios) ≡ maxOn) × Adding 1 each due₀ (radiosOf on) i due
+
+abbrev μ-loop : tie.MeasureT-loop
+μ-loop due₀ on n i₀ due i = on .n - i
+
+loop-holds : tie.Need-loop-holds Inv-loop μ-loop
+loop-holds c = (search needs, search needs, search adding-start)
+
+mul-radio-index : tie.Need-mul-radio-index Inv-loop μ-loop
+mul-radio-index c = search needs
+
+element-copy-out-radio-index : tie.Need-element-copy-out-radio-index Inv-loop μ-loop
+element-copy-out-radio-index c = search needs
+
+radio-index-requires : tie.Need-radio-index-requires Inv-loop μ-loop
+radio-index-requires c κs = search on-radio
+
+mul-before : tie.Need-mul-before Inv-loop μ-loop
+mul-before c = search needs
+
+element-copy-out-before : tie.Need-element-copy-out-before Inv-loop μ-loop
+element-copy-out-before c = search needs
+
+add-due : tie.Need-add-due Inv-loop μ-loop
+add-due c = search on-room
+
+mul-due : tie.Need-mul-due Inv-loop μ-loop
+mul-due c = search needs
+
+element-write-due : tie.Need-element-write-due Inv-loop μ-loop
+element-write-due c = search needs
+
+add-i : tie.Need-add-i Inv-loop μ-loop
+add-i c = search needs
+
+loop-less : tie.Need-loop-less Inv-loop μ-loop
+loop-less c = search needs
+
+loop-again : tie.Need-loop-again Inv-loop μ-loop
+loop-again c = (search needs, search needs, search on-turn)
+
+returns : tie.Need-returns Inv-loop μ-loop
+returns c = search on-end
+
+pub on-due-spec : {M : Type 1} → statement M
+on-due-spec =
+    tie.close
+    (tie.spec
+    Inv-loop
+    μ-loop
+    loop-holds
+    mul-radio-index
+    element-copy-out-radio-index
+    radio-index-requires
+    mul-before
+    element-copy-out-before
+    add-due
+    mul-due
+    element-write-due
+    add-i
+    loop-less
+    loop-again
+    returns)

@@ -1,0 +1,82 @@
+-- The reports so far are added (`Adding`).
+use mathlib.Core.Path.{_≡_}
+use Prim.Native.Nat.{_-_, _≤_}
+use lib.ListN.{length}
+use Rattle.lists.proofs.ShiftLaws.{length-mapped}
+use Rattle.rules.specs.Limits.{fullMemory}
+use Rattle.sound_desk.specs.Views.{reportsOf}
+use Rattle.sound_radios.specs.Tables.{markNew}
+use Rattle.sound_radios.proofs.TableLaws.{Adding, adding-start}
+use Rattle.sound_radios.proofs.DueLaws.{new-radio, new-room, new-turn, new-end}
+use borrow.Author.Needs.{needs}
+use Rattle.sound_radios.proofs.tally_new.Statement.{statement}
+use Rattle.sound_radios.proofs.tally_new.Tie as tie
+
+abbrev Inv-loop : tie.InvT-loop
+Inv-loop found₀ w n i₀ found i = (i ≤ w .n) × (length (w .rows) ≡ fullMemory) × Adding 1 markNew found₀ (reportsOf w) i found
+
+abbrev μ-loop : tie.MeasureT-loop
+μ-loop found₀ w n i₀ found i = w .n - i
+
+loop-holds : tie.Need-loop-holds Inv-loop μ-loop
+loop-holds c = (search needs, search length-mapped, search adding-start)
+
+mul-x : tie.Need-mul-x Inv-loop μ-loop
+mul-x c = search needs
+
+element-copy-out-x : tie.Need-element-copy-out-x Inv-loop μ-loop
+element-copy-out-x c = search needs
+
+radio-index-requires : tie.Need-radio-index-requires Inv-loop μ-loop
+radio-index-requires c κs = search new-radio
+
+mul-before : tie.Need-mul-before Inv-loop μ-loop
+mul-before c = search needs
+
+element-copy-out-before : tie.Need-element-copy-out-before Inv-loop μ-loop
+element-copy-out-before c = search needs
+
+mark-requires : tie.Need-mark-requires Inv-loop μ-loop
+mark-requires c κs = search needs
+
+add-found : tie.Need-add-found Inv-loop μ-loop
+add-found c = search new-room
+
+mul-found : tie.Need-mul-found Inv-loop μ-loop
+mul-found c = search needs
+
+element-write-found : tie.Need-element-write-found Inv-loop μ-loop
+element-write-found c = search needs
+
+add-i : tie.Need-add-i Inv-loop μ-loop
+add-i c = search needs
+
+loop-less : tie.Need-loop-less Inv-loop μ-loop
+loop-less c = search needs
+
+loop-again : tie.Need-loop-again Inv-loop μ-loop
+loop-again c = (search needs, search needs, search new-turn)
+
+returns : tie.Need-returns Inv-loop μ-loop
+returns c = search new-end
+
+pub tally-new-spec : {M : Type 1} → statement M
+tally-new-spec =
+    tie.close
+    (tie.spec
+    Inv-loop
+    μ-loop
+    loop-holds
+    mul-x
+    element-copy-out-x
+    radio-index-requires
+    mul-before
+    element-copy-out-before
+    mark-requires
+    add-found
+    mul-found
+    element-write-found
+    add-i
+    loop-less
+    loop-again
+    returns)

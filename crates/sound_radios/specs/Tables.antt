@@ -1,0 +1,105 @@
+-- Tables by radio, a number for each: what the code of the test keeps, and what it answers from them.
+use mathlib.Core.Bool.{Bool, true, false, not, cond}
+use mathlib.Core.List.{List, [], _∷_}
+use mathlib.Core.Option.{Option, none, some}
+use Prim.Native.Nat.{ℕ, suc, _+_, _-_, _*_, _/_, _%_, _<_, min}
+use lib.Dec.{eqb}
+use lib.ListN.{getD, set}
+use Rattle.terms.specs.Terms.{Place, maxRadio}
+use Rattle.lists.specs.Rows.{Row, Rows, UpTo}
+use Rattle.lists.specs.Sums.{sumBy}
+use Rattle.lists.specs.Tests.{one-if, both}
+use Rattle.rules.specs.Store.{Report, Line}
+use Rattle.mirror.specs.Loops.{allTo, passing}
+
+-- a number for each radio, and one for 0
+abbrev pub tableSize : ℕ
+tableSize = suc maxRadio
+
+-- the least number that 16 bits do not hold
+abbrev pub fieldEnd : ℕ
+fieldEnd = 65536
+
+-- each number of the table may grow by n and still has room in 16 bits
+pub record Spare (n : ℕ) (t : List ℕ) : Type 0 where
+  pub room : (q : ℕ) → getD t q 0 + n < fieldEnd
+
+module _ {Val : Type 0} where
+  -- each row adds its weight at its key
+  unfoldable pub added : (Row Val → ℕ) → List ℕ → Rows Val → List ℕ
+  added w t [] = t
+  added w t (x ∷ xs) = added w (set t (x .key) (getD t (x .key) 0 + w x)) xs
+
+  -- each row puts its number at its key
+  unfoldable pub written : (Row Val → ℕ) → List ℕ → Rows Val → List ℕ
+  written v t [] = t
+  written v t (x ∷ xs) = written v (set t (x .key) (v x)) xs
+
+  -- how many rows have the key
+  abbrev pub keyed : ℕ → Rows Val → ℕ
+  keyed = passing (λ _. true)
+
+  -- these rows may be added, a row weighing m at most
+  pub record Fits (m : ℕ) (t : List ℕ) (l : Rows Val) : Type 0 where
+    pub radios : UpTo maxRadio l
+    pub room : (q : ℕ) → getD t q 0 + m * keyed q l < fieldEnd
+
+-- the same number for every radio
+unfoldable pub sameTables : List ℕ → List ℕ → Bool
+sameTables a b = allTo tableSize (λ q. eqb (getD a q 0) (getD b q 0))
+
+-- ---- a line's place as numbers
+
+-- of a line with "none", and of one with a place; 0 is for no line
+abbrev pub kindOf : Option Place → ℕ
+kindOf none = 1
+kindOf (some p) = 2
+
+-- both coordinates in one number
+abbrev pub codeOf : Option Place → ℕ
+codeOf none = 0
+codeOf (some p) = fieldEnd * p .east + p .north
+
+abbrev pub lastKind : Row Line → ℕ
+lastKind l = kindOf (l .val .last)
+
+abbrev pub lastCode : Row Line → ℕ
+lastCode l = codeOf (l .val .last)
+
+-- stale by these two numbers: there is a line "with another place or none"
+unfoldable pub staleCode : ℕ → ℕ → Place → Bool
+staleCode kind code p = cond (eqb kind 0) false (cond (eqb kind 1) true (not (both (eqb (code / fieldEnd) (p .east)) (eqb (code % fieldEnd) (p .north)))))
+
+-- the same of an entry, by its radio's numbers in the tables
+unfoldable pub judged : List ℕ → List ℕ → Row Place → Bool
+judged kinds codes e = staleCode (getD kinds (e .key) 0) (getD codes (e .key) 0) (e .val)
+
+-- ---- what is found of a radio, and what is due: two counts in one number
+
+-- what counts in the high half; no count of a sound store reaches it
+abbrev pub half : ℕ
+half = 256
+
+-- of an entry: in the low half if it isn't stale, else in the high half
+abbrev pub weight : Bool → ℕ
+weight true = half
+weight false = 1
+
+abbrev pub weigh : (Row Place → Bool) → Row Place → ℕ
+weigh old e = weight (old e)
+
+-- of a waiting report marked new: in the low half
+abbrev pub markNew : Row Report → ℕ
+markNew w = one-if (w .val .new)
+
+-- of a line: its missed count in the high half, or as much of it as that holds
+abbrev pub missedDue : Row Line → ℕ
+missedDue l = half * min (l .val .missed) (half - 1)
+
+-- of a radio on: in the low half
+abbrev pub each : Row (Unit {0}) → ℕ
+each x = 1
+
+-- how many of the entries are stale
+unfoldable pub staleSum : (Row Place → Bool) → Rows Place → ℕ
+staleSum old es = sumBy (λ e. one-if (old e)) es

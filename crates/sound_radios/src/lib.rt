@@ -1,0 +1,350 @@
+// The test of soundness as far as it judges entries: by memo, marks and who is on, and the round's inequality. Desk and pages have passed the tests of their own.
+// What is found of each radio and what is due stand in tables by radio, which must be the same.
+ghost use mathlib.Core.Bool.{true, not};
+ghost use mathlib.Core.List.{map};
+ghost use mathlib.Core.Path.{_≡_};
+ghost use Prim.Native.Nat.{_+_, _-_, _*_, _<_, _≤_, min};
+ghost use lib.Dec.{eqb};
+ghost use lib.ListN.{length, take};
+ghost use Rattle.terms.specs.Terms.{maxRadio, maxOn, pageEntries};
+ghost use Rattle.lists.specs.Rows.{UpTo};
+ghost use Rattle.lists.specs.Sums.{concat};
+ghost use Rattle.lists.specs.Tests.{one-if};
+ghost use Rattle.entries.specs.Entries.{rowOf, placeOf};
+ghost use Rattle.page.specs.Page.{pageBytes, entries};
+ghost use Rattle.rules.specs.Limits.{maxCells, fullMemory, sweepEvery};
+ghost use Rattle.desk.specs.Layout.{lineSlots};
+ghost use Rattle.desk.specs.Views.{radiosOf};
+ghost use Rattle.memo.specs.Memo.{lastOf, linesOf};
+ghost use Rattle.mirror.specs.Round.{boundTest};
+ghost use Rattle.sound_pages.specs.PagesSound.{PagesSound};
+ghost use Rattle.sound_desk.specs.Views.{reportsOf};
+ghost use Rattle.sound_desk.specs.Sound.{deskSound};
+ghost use Rattle.sound_radios.specs.Entries.{entriesFrom, rowsRead, entriesTest};
+ghost use Rattle.sound_radios.specs.Tables.{tableSize, fieldEnd, half, Spare, added, written, Fits, sameTables, kindOf, codeOf, lastKind, lastCode, staleCode, judged, weigh, markNew, missedDue, each, staleSum};
+use desk::Desk;
+use desk::Directory;
+use desk::Line;
+use desk::Memo;
+use desk::On;
+use desk::Waiting;
+use entries::Entry;
+use terms::MAX_RADIO;
+use terms::PAGES;
+
+// A number for each radio, and one for 0.
+const RADIOS: usize = MAX_RADIO as usize + 1;
+
+const CELLS: usize = Desk::MAX_CELLS;
+
+// What counts in the high half of a number by radio.
+const HALF: u16 = 256;
+
+// East counts so much in a place's code.
+const FIELD: u32 = 65536;
+
+const NO_LINE: u8 = 0;
+
+const NO_PLACE: u8 = 1;
+
+const PLACE: u8 = 2;
+
+const MARKED: u16 = 1;
+
+// ---- numbers
+
+fn wide(x: u16) -> u32
+    ensures { λ r. ⌜ (r ≡ x) × (r < fieldEnd) ⌝ }
+{
+    x as u32
+}
+
+fn long(x: u16) -> usize
+    ensures { λ r. ⌜ (r ≡ x) × (r < fieldEnd) ⌝ }
+{
+    x as usize
+}
+
+fn radio_index(radio: u16) -> usize
+    requires { ⌜ radio ≤ maxRadio ⌝ }
+    ensures { λ r. ⌜ (r ≡ radio) × (r < tableSize) ⌝ }
+{
+    radio as usize
+}
+
+// ---- an entry, judged
+
+// Both coordinates in one number.
+fn code(east: u16, north: u16) -> u32
+    ensures { λ r. ⌜ (r ≡ fieldEnd * east + north) × (north < fieldEnd) ⌝ }
+{
+    FIELD * wide(east) + wide(north)
+}
+
+// 1 if an entry is stale by its radio's numbers, else 0.
+fn judge(kind: u8, was: u32, e: Entry) -> u16
+    ensures { λ r. ⌜ (r ≡ one-if (staleCode kind was (placeOf e))) × (r ≤ 1) ⌝ }
+{
+    if kind == NO_LINE {
+        return 0;
+    }
+    if kind == NO_PLACE {
+        return 1;
+    }
+    if was == code(e.east, e.north) {
+        return 0;
+    }
+    1
+}
+
+// 1 if an entry is stale by the tables, else 0.
+fn judge_entry<'a>(e: Entry, kinds: &'a [u8; RADIOS], codes: &'a [u32; RADIOS]) -> u16
+    requires { ⌜ e .radio ≤ maxRadio ⌝ }
+    ensures { λ r. ⌜ (r ≡ one-if (judged (now (kinds .entry)) (now (codes .entry)) (rowOf e))) × (r ≤ 1) ⌝ }
+{
+    let k = radio_index(e.radio);
+    judge(kinds[k], codes[k], e)
+}
+
+// ---- what is found
+
+// An entry adds 1 to its radio's low half, or to the high half if it is stale.
+fn weight(stale: u16) -> u16
+    requires { ⌜ stale ≤ 1 ⌝ }
+    ensures { λ r. ⌜ r ≡ 1 + (half - 1) * stale ⌝ }
+{
+    1 + (HALF - 1) * stale
+}
+
+// The entries of a page are added to what is found; how many of them are stale.
+fn tally_page<'a>(
+    page: &'a [u8],
+    kinds: &'a [u8; RADIOS],
+    codes: &'a [u32; RADIOS],
+    found: &'a mut [u16; RADIOS],
+) -> u16
+    requires { ⌜ (length (now page) ≡ pageBytes) × Fits half (now found) (entries (now page)) ⌝ }
+    ensures { λ r. ⌜ (now (found .exit) ≡ added (weigh (judged (now (kinds .entry)) (now (codes .entry)))) (now (found .entry)) (entries (now (page .entry)))) × (r ≡ staleSum (judged (now (kinds .entry)) (now (codes .entry))) (entries (now (page .entry)))) × (r ≤ pageEntries) ⌝ }
+{
+    let n = page::entry_count(page);
+    let mut sum: u16 = 0;
+    let mut i: usize = 0;
+    while i < n {
+        let e = page::read_entry(page, i);
+        let stale = judge_entry(e, kinds, codes);
+        let k = radio_index(e.radio);
+        let before = found[k];
+        found[k] = before + weight(stale);
+        sum = sum + stale;
+        i += 1;
+    }
+    sum
+}
+
+// The entries of a chain, from its first page on.
+fn tally_chain<'a>(
+    pages: &'a [u8],
+    first: u16,
+    kinds: &'a [u8; RADIOS],
+    codes: &'a [u32; RADIOS],
+    found: &'a mut [u16; RADIOS],
+) -> u16
+    requires { ⌜ Fits half (now found) (entriesFrom (now pages) first) ⌝ }
+    ensures { λ r. ⌜ (now (found .exit) ≡ added (weigh (judged (now (kinds .entry)) (now (codes .entry)))) (now (found .entry)) (entriesFrom (now (pages .entry)) first)) × (r ≡ staleSum (judged (now (kinds .entry)) (now (codes .entry))) (entriesFrom (now (pages .entry)) first)) ⌝ }
+{
+    let mut sum: u16 = 0;
+    let mut p = first;
+    let mut fuel: usize = PAGES;
+    while 0 < fuel {
+        if !page::is_there(pages, p) {
+            return sum;
+        }
+        let page = page::page_at(pages, long(p));
+        sum = sum + tally_page(page, kinds, codes, found);
+        p = page::next_page(pages, p);
+        fuel -= 1;
+    }
+    sum
+}
+
+// The entries of all cells, in the order of the round; how many of each cell's are stale.
+fn tally_cells<'a>(
+    pages: &'a [u8],
+    cells: Directory,
+    kinds: &'a [u8; RADIOS],
+    codes: &'a [u32; RADIOS],
+    found: &'a mut [u16; RADIOS],
+) -> [u16; CELLS]
+    requires { ⌜ (cells .n ≤ maxCells) × Fits half (now found) (concat (rowsRead (now pages) cells)) ⌝ }
+    ensures { λ r. ⌜ (now (found .exit) ≡ added (weigh (judged (now (kinds .entry)) (now (codes .entry)))) (now (found .entry)) (concat (rowsRead (now (pages .entry)) cells))) × (take (cells .n) r ≡ map (staleSum (judged (now (kinds .entry)) (now (codes .entry)))) (rowsRead (now (pages .entry)) cells)) ⌝ }
+{
+    let mut counts = [0u16; CELLS];
+    let n = cells.n;
+    let mut i: usize = 0;
+    while i < n {
+        let s = cells.slots[i];
+        counts[i] = tally_chain(pages, s.first, kinds, codes, found);
+        i += 1;
+    }
+    counts
+}
+
+fn mark(new: u16) -> u16
+    ensures { λ r. ⌜ (r ≡ one-if (eqb new 1)) × (r ≤ 1) ⌝ }
+{
+    if new == MARKED { 1 } else { 0 }
+}
+
+// Each waiting report marked new adds 1 to its radio's low half.
+fn tally_new<'a>(w: Waiting, found: &'a mut [u16; RADIOS])
+    requires { ⌜ (w .n ≤ fullMemory) × Fits 1 (now found) (reportsOf w) ⌝ }
+    ensures { λ _. ⌜ now (found .exit) ≡ added markNew (now (found .entry)) (reportsOf w) ⌝ }
+{
+    let n = w.n;
+    let mut i: usize = 0;
+    while i < n {
+        let x = w.rows[i];
+        let k = radio_index(x.radio);
+        let before = found[k];
+        found[k] = before + mark(x.new);
+        i += 1;
+    }
+}
+
+// ---- what is due
+
+// As much of a missed count as a half holds: more than a radio can have stale entries.
+fn clipped(missed: u16) -> u16
+    ensures { λ r. ⌜ (r ≡ min missed (half - 1)) × (r < half) ⌝ }
+{
+    if missed < HALF { missed } else { HALF - 1 }
+}
+
+// A line's missed count, in the high half.
+fn missed_due(x: Line) -> u16
+    ensures { λ r. ⌜ (r ≡ half * min (x .missed) (half - 1)) × (r + (half - 1) < fieldEnd) ⌝ }
+{
+    HALF * clipped(x.missed)
+}
+
+fn kind_of(x: Line) -> u8
+    ensures { λ r. ⌜ r ≡ kindOf (lastOf x) ⌝ }
+{
+    if x.placed == 0 { NO_PLACE } else { PLACE }
+}
+
+fn code_of(x: Line) -> u32
+    ensures { λ r. ⌜ r ≡ codeOf (lastOf x) ⌝ }
+{
+    if x.placed == 0 {
+        return 0;
+    }
+    code(x.east, x.north)
+}
+
+// Each line writes its missed count, and its place in two numbers.
+fn lines_due<'a>(
+    memo: Memo,
+    due: &'a mut [u16; RADIOS],
+    kinds: &'a mut [u8; RADIOS],
+    codes: &'a mut [u32; RADIOS],
+)
+    requires { ⌜ (memo .n ≤ lineSlots) × UpTo maxRadio (linesOf memo) × Spare (half - 1) (now due) ⌝ }
+    ensures { λ _. ⌜ (now (due .exit) ≡ written missedDue (now (due .entry)) (linesOf memo)) × (now (kinds .exit) ≡ written lastKind (now (kinds .entry)) (linesOf memo)) × (now (codes .exit) ≡ written lastCode (now (codes .entry)) (linesOf memo)) × Spare (half - 1) (now (due .exit)) ⌝ }
+{
+    let n = memo.n;
+    let mut i: usize = 0;
+    while i < n {
+        let x = memo.rows[i];
+        let k = radio_index(x.radio);
+        due[k] = missed_due(x);
+        kinds[k] = kind_of(x);
+        codes[k] = code_of(x);
+        i += 1;
+    }
+}
+
+// Each radio on adds 1 to its low half.
+fn on_due<'a>(on: On, due: &'a mut [u16; RADIOS])
+    requires { ⌜ (on .n ≤ maxOn) × Fits 1 (now due) (radiosOf on) ⌝ }
+    ensures { λ _. ⌜ now (due .exit) ≡ added each (now (due .entry)) (radiosOf on) ⌝ }
+{
+    let n = on.n;
+    let mut i: usize = 0;
+    while i < n {
+        let k = radio_index(on.radios[i]);
+        let before = due[k];
+        due[k] = before + 1;
+        i += 1;
+    }
+}
+
+// ---- the verdict
+
+fn apart(a: u16, b: u16) -> u16
+    ensures { λ r. ⌜ (r ≡ one-if (not (eqb a b))) × (r ≤ 1) ⌝ }
+{
+    if a == b { 0 } else { 1 }
+}
+
+// Whether two tables are the same. It never leaves early, so that many numbers are compared at a time.
+fn same<'a>(a: &'a [u16; RADIOS], b: &'a [u16; RADIOS]) -> bool
+    ensures { λ r. ⌜ r ≡ sameTables (now (a .entry)) (now (b .entry)) ⌝ }
+{
+    let mut n: u16 = 0;
+    let mut i: usize = 0;
+    while i < RADIOS {
+        n = n + apart(a[i], b[i]);
+        i += 1;
+    }
+    n == 0
+}
+
+// "16 × (63 − k) + c + 127"
+fn bound_at(k: usize, c: u16) -> usize
+    requires { ⌜ k < maxCells ⌝ }
+    ensures { λ r. ⌜ r ≡ sweepEvery * (maxCells - 1 - k) + c + (fullMemory - 1) ⌝ }
+{
+    Desk::SWEEP_EVERY as usize * (Desk::MAX_CELLS - 1 - k) + c as usize + Desk::MAX_WAITING
+}
+
+// "for every k below the number of cells the stale entries in cells at place k and later, plus all waiting, are at most" that.
+fn bound_ok(counts: [u16; CELLS], n: usize, waiting: usize, c: u16) -> bool
+    requires { ⌜ (n ≤ maxCells) × (waiting ≤ fullMemory) ⌝ }
+    ensures { λ r. ⌜ r ≡ boundTest (take n counts) waiting c ⌝ }
+{
+    let mut sum = waiting;
+    let mut i = n;
+    while 0 < i {
+        i -= 1;
+        sum = sum + long(counts[i]);
+        if bound_at(i, c) < sum {
+            return false;
+        }
+    }
+    true
+}
+
+// Whether the entries are those that memo, marks and who is on call for, and no more stale ones wait for the cleaner than may.
+pub fn radios_sound(pages: &[u8], desk: Desk) -> bool
+    requires { ⌜ (deskSound desk ≡ true) × PagesSound (now pages) (desk .grid .cells) (desk .grid .free) ⌝ }
+    ensures { λ r. ⌜ r ≡ entriesTest (linesOf (desk .memo)) (reportsOf (desk .waiting)) (radiosOf (desk .on)) (desk .tally) (rowsRead (now (pages .entry)) (desk .grid .cells)) ⌝ }
+{
+    let memo = desk.memo;
+    let mut due = [0u16; RADIOS];
+    let mut kinds = [0u8; RADIOS];
+    let mut codes = [0u32; RADIOS];
+    lines_due(memo, &mut due, &mut kinds, &mut codes);
+    let on = desk.on;
+    on_due(on, &mut due);
+    let waiting = desk.waiting;
+    let mut found = [0u16; RADIOS];
+    tally_new(waiting, &mut found);
+    let grid = desk.grid;
+    let cells = grid.cells;
+    let counts = tally_cells(pages, cells, &kinds, &codes, &mut found);
+    if !same(&due, &found) {
+        return false;
+    }
+    bound_ok(counts, cells.n, waiting.n, desk.tally)
+}
