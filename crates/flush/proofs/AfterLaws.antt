@@ -83,7 +83,7 @@ module _ {grid : Grid} {waiting : Waiting} {memo : Memo} {b : List ℕ} (x : Rep
 -- ---- on to the tally
 
 -- a flush leaves the tally
-after-tally : (pick : ℕ) (p : Place) (s : Store) → afterReport pick p s .tally ≡ s .tally
+pub after-tally : (pick : ℕ) (p : Place) (s : Store) → afterReport pick p s .tally ≡ s .tally
 unfolding afterReport
 after-tally pick p s =
     option-cases (flushDue s p)
@@ -94,7 +94,7 @@ after-tally pick p s =
     flushed-tally m d = unfold flushedInto in refl
 
 -- what `tick` asks, where no memory cell but that of p was full
-pub after-tallied : {grid : Grid} {waiting : Waiting} {memo : Memo} {b : List ℕ} (x : Reported grid waiting memo b) (p : Place) (tally : ℕ) {g : Grid} {w : Waiting} {lines : Memo} {b′ : List ℕ}
+abbrev pub after-tallied : {grid : Grid} {waiting : Waiting} {memo : Memo} {b : List ℕ} (x : Reported grid waiting memo b) (p : Place) (tally : ℕ) {g : Grid} {w : Waiting} {lines : Memo} {b′ : List ℕ}
     → ((n : Box) → sameBox n (boxOf (x .store .cuts) p) ≡ false → waitingIn (x .store .cuts) (x .store .waiting) n < fullBox)
     → After (x .store) p g w lines b′ → tally ≡ x .store .tally → Tallied g lines tally b′
 after-tallied x p tally others-few a e =

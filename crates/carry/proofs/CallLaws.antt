@@ -1,0 +1,182 @@
+-- From what the parts of a call leave to what the call answers.
+use mathlib.Core.Bool.{Bool, true, false, not}
+use mathlib.Core.List.{List}
+use mathlib.Core.Path.{_≡_, refl, sym, ap, ap₂, _∙_, subst}
+use Prim.Native.Nat.{ℕ, _≤_}
+use lib.ListN.{length}
+use borrow.Author.Tests.{not-true}
+use Rattle.terms.specs.Terms.{Place, maxOn}
+use Rattle.lists.specs.Rows.{Rising}
+use Rattle.lists.specs.Words.{Bytes}
+use Rattle.lists.proofs.Cases.{false-true}
+use Rattle.page.specs.Buffer.{bufferBytes}
+use Rattle.rules.specs.Grid.{Rect}
+use Rattle.rules.specs.Store.{Store}
+use Rattle.rules.specs.Records.{Request, signOn, report, signOff, range, requestOf, refusal}
+use Rattle.rules.specs.Carry.{Outcome, carriedOut, carry, allowedIn}
+use Rattle.rules.specs.Told.{toldList}
+use Rattle.rules.specs.WellFormed.{WellFormed, chains}
+use Rattle.rules.proofs.StepLaws.{step-well}
+use Rattle.desk.specs.declared.Desk.{Desk}
+use Rattle.desk.specs.Layout.{onOf}
+use Rattle.desk.specs.Views.{radiosOf}
+use Rattle.desk.specs.Sound.{Sound}
+use Rattle.desk.specs.Call.{Before, After, turnedDown, laidOut, Carried as CarriedOut, Answers}
+use Rattle.desk.proofs.PagesLaws.{PagesOnce, pages-laid}
+use Rattle.waiting.specs.On.{WholeOn}
+use Rattle.waiting.proofs.OnLaws.{whole-on-laid}
+use Rattle.records.specs.declared.Asked.{Asked}
+use Rattle.records.specs.declared.Asked.the-variants.{SignOn, Report, SignOff, Range, Refused}
+use Rattle.records.specs.Asked.{onIn, caseOf, askedOf}
+use Rattle.records.proofs.AskedLaws.{on-few, on-rises, refused-carry, refused-allowed, taken-carry, taken-allowed, asks-on, asks-report, asks-off}
+use Rattle.range.specs.declared.Rectangle.{Rectangle}
+use Rattle.range.specs.declared.Listed.{Listed}
+use Rattle.range.specs.Range.{rectOf, foundIn}
+use Rattle.range.proofs.StoreLaws.{range-gives}
+use Rattle.carry.specs.declared.Carried.{Carried}
+use Rattle.carry.specs.Carry.{Stands, AskedOn, AskedReport, AskedOff, Carries, Lists}
+use Rattle.carry.proofs.EffectLaws.{on-held}
+
+well-once : (s : Store) → WellFormed s → PagesOnce s
+unfolding chains
+well-once s w = w .once
+
+-- an outcome whose store is laid out in desk and pages
+laid-out : {desk : Desk} {b : List ℕ} (o : Outcome) → WellFormed (o .store) → Stands (o .store) desk b
+    → record { number = o .number; count = o .count; desk = desk; pages = b; buffer = o .buffer } ≡ laidOut o
+unfolding laidOut
+laid-out o w x = ap₂ (λ (d : Desk) (p : List ℕ). record { number = o .number; count = o .count; desk = d; pages = p; buffer = o .buffer }) (x .held) (pages-laid (o .store) (well-once (o .store) w) _ (x .laid))
+
+module _ {desk : Desk} {b : List ℕ} (x : Sound desk b) where
+  abbrev s : Store
+  s = x .store
+
+  abbrev on-laid : desk .on ≡ onOf (s .on)
+  on-laid = on-held s (x .held)
+
+  -- what the check of the record asks
+  pub record-asks : (desk .on .n ≤ maxOn) × WholeOn (desk .on) × Rising 0 (radiosOf (desk .on))
+  record-asks = (on-few s (desk .on) on-laid (x .well), whole-on-laid (desk .on) (s .on) on-laid, on-rises s (desk .on) on-laid (x .well))
+
+  module _ (bytes buffer : List ℕ) (small : Bytes bytes) {o : Asked} (told : o ≡ askedOf (refusal (onIn (desk .on)) (length (radiosOf (desk .on))) bytes) (requestOf bytes)) where
+    abbrev before : Before
+    before = record { desk = desk; pages = b; bytes = bytes; buffer = buffer }
+
+    -- ---- turned down under 3 to 10
+
+    pub refused-answers : (n : ℕ) → o ≡ Refused n → CarriedOut before x (record { number = n; count = 0; desk = desk; pages = b; buffer = buffer })
+    refused-answers n e =
+        let c = refused-carry s (desk .on) bytes on-laid told e 0 buffer in
+        record {
+          pick = 0;
+          permitted = refused-allowed s (desk .on) bytes on-laid told e 0;
+          done = laid-out (record { number = n; count = 0; buffer = buffer; store = s }) (x .well) (record { held = x .held; laid = x .laid }) ∙ ap laidOut (sym c);
+        }
+
+    -- ---- carried out
+
+    taken : (q : Request) → o ≡ caseOf q → (pick : ℕ) → allowedIn pick q s ≡ true → (y : Outcome) → carriedOut pick q s buffer ≡ y → {d : Desk} {b′ : List ℕ} → Stands (y .store) d b′
+        → CarriedOut before x (record { number = y .number; count = y .count; desk = d; pages = b′; buffer = y .buffer })
+    taken q e pick a y g h =
+        let c : carry pick s bytes buffer ≡ y = taken-carry s (desk .on) bytes on-laid told q e pick buffer ∙ g in
+        record {
+          pick = pick;
+          permitted = taken-allowed s (desk .on) bytes on-laid told q e pick ∙ a;
+          done = laid-out y (subst (λ (z : Outcome). WellFormed (z .store)) c (step-well pick s bytes buffer small (x .well))) h ∙ ap laidOut (sym c);
+        }
+
+    module _ (r : ℕ) (p : Place) where
+      pub on-asked : o ≡ SignOn r (p .east) (p .north) → AskedOn desk r p b
+      on-asked e = record { sound = x; signs = asks-on s (desk .on) bytes on-laid told small e }
+
+      pub report-asked : o ≡ Report r (p .east) (p .north) → AskedReport desk r p b
+      report-asked e = record { sound = x; reports = asks-report s (desk .on) bytes on-laid told small e }
+
+      pub on-answers : {d : Desk} {b′ : List ℕ} → o ≡ SignOn r (p .east) (p .north) → Carries s (signOn r p) d b′ → CarriedOut before x (record { number = 0; count = 0; desk = d; pages = b′; buffer = buffer })
+      unfolding carriedOut
+      on-answers e c = taken (signOn r p) e (c .pick) (c .permitted) _ refl (c .stands)
+
+      pub report-answers : {d : Desk} {b′ : List ℕ} → o ≡ Report r (p .east) (p .north) → Carries s (report r p) d b′ → CarriedOut before x (record { number = 0; count = 0; desk = d; pages = b′; buffer = buffer })
+      unfolding carriedOut
+      report-answers e c = taken (report r p) e (c .pick) (c .permitted) _ refl (c .stands)
+
+    pub off-asked : (r : ℕ) → o ≡ SignOff r → AskedOff desk r b
+    off-asked r e = record { sound = x; signs = asks-off s (desk .on) bytes on-laid told small e }
+
+    pub off-answers : (r : ℕ) {d : Desk} {b′ : List ℕ} → o ≡ SignOff r → Carries s (signOff r) d b′ → CarriedOut before x (record { number = 0; count = 0; desk = d; pages = b′; buffer = buffer })
+    unfolding carriedOut
+    off-answers r e c = taken (signOff r) e (c .pick) (c .permitted) _ refl (c .stands)
+
+    pub range-answers : (rect : Rect) {r : Carried} {after : List ℕ} → o ≡ Range (rect .easts .low) (rect .easts .high) (rect .norths .low) (rect .norths .high) → Lists s rect desk buffer r after
+        → CarriedOut before x (record { number = r .answer .number; count = r .answer .count; desk = r .desk; pages = b; buffer = after })
+    unfolding carriedOut allowedIn
+    range-answers rect {r = r} {after = after} e l =
+        taken (range rect) e 0 refl (record { number = r .answer .number; count = r .answer .count; buffer = after; store = s }) (sym (l .told)) (record { held = l .kept ∙ x .held; laid = x .laid })
+
+    -- ---- the same, in the words of the calls
+
+    abbrev leaves : Carried → List ℕ → List ℕ → After
+    leaves r b′ after = record { number = r .answer .number; count = r .answer .count; desk = r .desk; pages = b′; buffer = after }
+
+    by-result : {r c : Carried} {b′ : List ℕ} → r ≡ c → CarriedOut before x (leaves c b′ buffer) → CarriedOut before x (leaves r b′ buffer)
+    by-result {b′ = b′} e = subst (λ (c : Carried). CarriedOut before x (leaves c b′ buffer)) (sym e)
+
+    pub refused-returns : (n : ℕ) {r : Carried} → o ≡ Refused n → r ≡ record { desk = desk; answer = record { number = n; count = 0 } } → CarriedOut before x (leaves r b buffer)
+    refused-returns n e g = by-result g (refused-answers n e)
+
+    pub on-returns : (r : ℕ) (p : Place) {d : Desk} {b′ : List ℕ} {c : Carried} → o ≡ SignOn r (p .east) (p .north) → ((y : AskedOn desk r p b) → Carries (y .sound .store) (signOn r p) d b′)
+        → c ≡ record { desk = d; answer = record { number = 0; count = 0 } } → CarriedOut before x (leaves c b′ buffer)
+    unfolding on-asked
+    on-returns r p e l g = by-result g (on-answers r p e (l (on-asked r p e)))
+
+    pub report-returns : (r : ℕ) (p : Place) {d : Desk} {b′ : List ℕ} {c : Carried} → o ≡ Report r (p .east) (p .north) → ((y : AskedReport desk r p b) → Carries (y .sound .store) (report r p) d b′)
+        → c ≡ record { desk = d; answer = record { number = 0; count = 0 } } → CarriedOut before x (leaves c b′ buffer)
+    unfolding report-asked
+    report-returns r p e l g = by-result g (report-answers r p e (l (report-asked r p e)))
+
+    pub off-returns : (r : ℕ) {d : Desk} {b′ : List ℕ} {c : Carried} → o ≡ SignOff r → ((y : AskedOff desk r b) → Carries (y .sound .store) (signOff r) d b′)
+        → c ≡ record { desk = d; answer = record { number = 0; count = 0 } } → CarriedOut before x (leaves c b′ buffer)
+    unfolding off-asked
+    off-returns r e l g = by-result g (off-answers r e (l (off-asked r e)))
+
+    pub range-returns : (west east south north : ℕ) {c : Carried} {after : List ℕ} → o ≡ Range west east south north
+        → ((y : Sound desk b) → Lists (y .store) (record { easts = record { low = west; high = east }; norths = record { low = south; high = north } }) desk buffer c after) → CarriedOut before x (leaves c b after)
+    range-returns w e u n g l = range-answers _ g (l x)
+
+-- ---- numbers 1 and 2
+
+module _ (x : Before) where
+  abbrev keeps : Carried → After
+  keeps r = record { number = r .answer .number; count = r .answer .count; desk = r .desk; pages = x .pages; buffer = x .buffer }
+
+  turned : (n : ℕ) {r : Carried} → r ≡ record { desk = x .desk; answer = record { number = n; count = 0 } } → keeps r ≡ turnedDown n x
+  unfolding turnedDown
+  turned n e = ap keeps e
+
+  pub size-answers : {r : Carried} → (length (x .pages) ≡ bufferBytes → ⊥) → r ≡ record { desk = x .desk; answer = record { number = 1; count = 0 } } → Answers x (keeps r)
+  size-answers n e = record { size = λ _. turned 1 e; unsound = λ l _. absurd (n l); sound = λ s. absurd (n (s .laid .size)) }
+
+  pub unsound-answers : {t : Bool} {r : Carried} → length (x .pages) ≡ bufferBytes → (Sound (x .desk) (x .pages) → t ≡ true) → not t ≡ true
+      → r ≡ record { desk = x .desk; answer = record { number = 2; count = 0 } } → Answers x (keeps r)
+  unsound-answers {t = t} l f n e = record { size = λ h. absurd (h l); unsound = λ _ _. turned 2 e; sound = λ s. false-true (sym (not-true t n) ∙ f s) }
+
+  pub sound-answers : {y : After} → Sound (x .desk) (x .pages) → ((s : Sound (x .desk) (x .pages)) → CarriedOut x s y) → Answers x y
+  sound-answers s c = record { size = λ n. absurd (n (s .laid .size)); unsound = λ _ n. absurd (n s); sound = c }
+
+-- ---- the list
+
+pub lists-returns : {desk : Desk} {b : List ℕ} (x : Sound desk b) (area : Rectangle) (buffer : List ℕ) {told : Listed} {after : List ℕ} {r : Carried}
+    → record { number = told .number; count = told .count; buffer = after } ≡ toldList (foundIn b (rectOf area) (desk .grid .cells) (desk .waiting) (desk .memo) (desk .on)) buffer
+    → r ≡ record { desk = desk; answer = record { number = told .number; count = told .count } }
+    → Lists (x .store) (rectOf area) desk buffer r after
+lists-returns {desk = desk} {b = b} x area buffer {told = told} {after = after} e g = record {
+  kept = ap (λ (c : Carried). c .desk) g;
+  told =
+      ap (λ (c : Carried). record { number = c .answer .number; count = c .answer .count; buffer = after; store = x .store }) g
+      ∙ range-gives (x .store) b desk (x .well) (x .laid) (x .held) (rectOf area) buffer e;
+}
+
+-- the test passed
+pub sound-by : {desk : Desk} {b : List ℕ} (t : Bool) → (t ≡ true → Sound desk b) → not t ≡ false → Sound desk b
+sound-by true f e = f refl
+sound-by false f e = false-true (sym e)

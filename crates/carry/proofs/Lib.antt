@@ -1,0 +1,3 @@
+pub mod EffectLaws
+pub mod OwnLaws
+pub mod CallLaws

@@ -1,0 +1,155 @@
+-- A record's own effect on a sound store, and what it leaves once all that follows is done.
+use mathlib.Core.Bool.{true, false, not, cond}
+use mathlib.Core.List.{List}
+use mathlib.Core.Option.{Option, none, some}
+use mathlib.Core.Path.{_≡_, refl}
+use Prim.Native.Nat.{ℕ, _+_, _≤_, _<_}
+use native.Mathlib.Omega.{arith}
+use lib.ListN.{length}
+use Rattle.terms.specs.Terms.{Place}
+use Rattle.lists.specs.Rows.{find, alter, insert}
+use Rattle.lists.proofs.RowsLaws.{length-alter}
+use Rattle.lists.proofs.TestsLaws.{one-if-le}
+use Rattle.rules.specs.Limits.{fullMemory, fullBox, sweepEvery}
+use Rattle.rules.specs.Grid.{Box, sameBox, boxOf}
+use Rattle.rules.specs.Store.{Report, Store}
+use Rattle.rules.specs.Sweep.{tick}
+use Rattle.rules.specs.Flush.{raised}
+use Rattle.rules.specs.Records.{signOn, report, signOff}
+use Rattle.rules.specs.Carry.{isOn, wasNew, signedOn, reported, signedOff, waitingIn, allowedIn, carriedOut}
+use Rattle.rules.proofs.FlushLaws.{Staged}
+use Rattle.rules.proofs.StepLaws.{Done, put-few, put-boxes, put-bounded, on-core, report-core, off-core}
+use Rattle.rules.proofs.WellLaws.{well-core, well-bounded}
+use Rattle.rules.proofs.RoundLaws.{bounded-record}
+use Rattle.rules.proofs.BooksLaws.{stale-off}
+use Rattle.rules.proofs.CutLaws.{waiting-less}
+use Rattle.rules.specs.WellFormed.{WellFormed}
+use Rattle.desk.specs.declared.Waiting.{Waiting}
+use Rattle.desk.specs.declared.Desk.{Desk}
+use Rattle.desk.specs.Layout.{waitingOf, memoOf, onOf}
+use Rattle.desk.specs.Views.{radiosOf}
+use Rattle.memo.specs.Memo.{linesOf}
+use Rattle.waiting.specs.Waiting.{reportsOf}
+use Rattle.own.specs.declared.SignedOn.{SignedOn}
+use Rattle.own.specs.declared.SignedOff.{SignedOff}
+use Rattle.own.proofs.StoreLaws.{on-gives, report-gives, off-gives, on-laid, report-laid, off-laid}
+use Rattle.records.proofs.AskedLaws.{SignsOn, Reports, SignsOff}
+use Rattle.flush.proofs.AfterLaws.{allowed-signOn, allowed-report}
+use Rattle.carry.specs.Carry.{Stands, Effected, Followed, Left, AskedOn, AskedReport, AskedOff, Carries}
+
+-- ---- the store then
+
+-- after a sign-on or a report: one more waits, in the memory cell of its place
+pub record Put (s : Store) (p : Place) : Type 0 where
+  pub early : s .tally < sweepEvery
+  pub staged : Staged s (s .tally + 1)
+  pub few : length (s .waiting) ≤ fullMemory
+  pub others-few : (n : Box) → sameBox n (boxOf (s .cuts) p) ≡ false → waitingIn (s .cuts) (s .waiting) n < fullBox
+
+on-put : (s : Store) (w : WellFormed s) (r : ℕ) (p : Place) → SignsOn s r p → Put (signedOn r p s) p
+unfolding signedOn
+on-put s w r p x =
+    let f : Option Report → Option Report = λ _. some (record { place = p; new = true }) in
+    record {
+      early = w .tallied;
+      staged = record { core = on-core s w r p (x .first) (x .last) (x .placed) (x .off) (x .room); bounded = put-bounded s w r (x .first) f p true refl };
+      few = put-few s w r (x .first) f p true refl;
+      others-few = put-boxes s w r (x .first) f p true refl;
+    }
+
+report-put : (s : Store) (w : WellFormed s) (r : ℕ) (p : Place) → Reports s r p → Put (reported r p s) p
+unfolding reported
+report-put s w r p x =
+    let f : Option Report → Option Report = λ o. some (record { place = p; new = wasNew o }) in
+    let b = wasNew (find (s .waiting) r) in
+    record {
+      early = w .tallied;
+      staged = record { core = report-core s w r p (x .first) (x .last) (x .placed) (x .on); bounded = put-bounded s w r (x .first) f p b refl };
+      few = put-few s w r (x .first) f p b refl;
+      others-few = put-boxes s w r (x .first) f p b refl;
+    }
+
+put-effect : {desk : Desk} {p : Place} {b : List ℕ} (s : Store) → Put s p → Stands s desk b → Effected desk p b
+put-effect s x h = record { store = s; early = x .early; staged = x .staged; few = x .few; others-few = x .others-few; stands = h }
+
+-- ---- sign-on
+
+module _ {desk : Desk} {r : ℕ} {p : Place} {b : List ℕ} (x : AskedOn desk r p b) where
+  abbrev s : Store
+  s = x .sound .store
+
+  module _ (o : SignedOn) (own : o ≡ record { waiting = waitingOf (insert r (record { place = p; new = true }) (reportsOf (desk .waiting))); on = onOf (insert r tt (radiosOf (desk .on))) }) where
+    abbrev signed : Desk
+    signed = record { grid = desk .grid; waiting = o .waiting; memo = desk .memo; on = o .on; tally = desk .tally }
+
+    pub on-effect : Effected signed p b
+    unfolding put-effect
+    on-effect = put-effect (signedOn r p s) (on-put s (x .sound .well) r p (x .signs)) (record { held = on-gives s desk (x .sound .held) r p o own; laid = on-laid s b (x .sound .laid) r p })
+
+    pub on-carries : {d : Desk} {b′ : List ℕ} → ((y : Effected signed p b) → Followed (y .store) p d b′) → Carries s (signOn r p) d b′
+    unfolding on-effect put-effect carriedOut
+    on-carries l = let f : Followed (signedOn r p s) p _ _ = l on-effect in record { pick = f .pick; permitted = allowed-signOn (f .pick) r p s (f .permitted); stands = f .stands }
+
+-- ---- report
+
+module _ {desk : Desk} {r : ℕ} {p : Place} {b : List ℕ} (x : AskedReport desk r p b) where
+  module _ (waiting : Waiting) (own : waiting ≡ waitingOf (alter (λ w. some (record { place = p; new = wasNew w })) r (reportsOf (desk .waiting)))) where
+    abbrev told : Desk
+    told = record { grid = desk .grid; waiting = waiting; memo = desk .memo; on = desk .on; tally = desk .tally }
+
+    pub report-effect : Effected told p b
+    unfolding put-effect
+    report-effect =
+        put-effect (reported r p (x .sound .store)) (report-put (x .sound .store) (x .sound .well) r p (x .reports))
+        (record { held = report-gives (x .sound .store) desk (x .sound .held) r p own; laid = report-laid (x .sound .store) b (x .sound .laid) r p })
+
+    pub report-carries : {d : Desk} {b′ : List ℕ} → ((y : Effected told p b) → Followed (y .store) p d b′) → Carries (x .sound .store) (report r p) d b′
+    unfolding report-effect put-effect carriedOut
+    report-carries l =
+        let f : Followed (reported r p (x .sound .store)) p _ _ = l report-effect in
+        record { pick = f .pick; permitted = allowed-report (f .pick) r p (x .sound .store) (f .permitted); stands = f .stands }
+
+-- ---- sign-off
+
+off-done : (s : Store) (w : WellFormed s) (r : ℕ) → SignsOff s r → Done (signedOff r s) (signedOff r s .tally + 1)
+unfolding signedOff isOn
+off-done s w r x =
+    let less = length-alter (λ _. none) 0 r (s .waiting) (x .first) (w .waiting-rises) in
+    record {
+      staged = record {
+        core = off-core s w r (x .first) (x .last) (x .on);
+        bounded =
+            bounded-record (s .memo) _ (s .cells) (length (s .waiting)) (length (alter (λ _. none) r (s .waiting))) (s .tally) (well-bounded s w)
+            (λ j. omega (arith, stale-off r (x .first) (x .last) (x .on) (well-core s w .books) j, less, one-if-le (not (wasNew (find (s .waiting) r)))));
+      };
+      roomy = record {
+        few = omega (arith, less, w .few-wait);
+        boxes = λ n. omega (arith, waiting-less (s .cuts) (λ _. none) r (s .waiting) n (x .first) (w .waiting-rises) refl, w .few-in-box n);
+      };
+    }
+
+module _ {desk : Desk} {r : ℕ} {b : List ℕ} (x : AskedOff desk r b) where
+  module _ (o : SignedOff)
+      (own : o ≡ record {
+        waiting = waitingOf (alter (λ _. none) r (reportsOf (desk .waiting)));
+        memo = memoOf (cond (wasNew (find (reportsOf (desk .waiting)) r)) (linesOf (desk .memo)) (alter (raised none) r (linesOf (desk .memo))));
+        on = onOf (alter (λ _. none) r (radiosOf (desk .on)));
+      }) where
+    abbrev signed-off : Desk
+    signed-off = record { grid = desk .grid; waiting = o .waiting; memo = o .memo; on = o .on; tally = desk .tally }
+
+    early : signedOff r (x .sound .store) .tally < sweepEvery
+    unfolding signedOff
+    early = x .sound .well .tallied
+
+    pub off-left : Left signed-off b
+    off-left = record {
+      store = signedOff r (x .sound .store);
+      early = early;
+      done = off-done (x .sound .store) (x .sound .well) r (x .signs);
+      stands = record { held = off-gives (x .sound .store) desk (x .sound .held) r o own; laid = off-laid (x .sound .store) b (x .sound .laid) r };
+    }
+
+    pub off-carries : {d : Desk} {b′ : List ℕ} → ((y : Left signed-off b) → Stands (tick (y .store)) d b′) → Carries (x .sound .store) (signOff r) d b′
+    unfolding off-left carriedOut allowedIn
+    off-carries l = record { pick = 0; permitted = refl; stands = l off-left }

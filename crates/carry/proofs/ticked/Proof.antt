@@ -1,0 +1,22 @@
+use borrow.Author.Needs.{needs}
+use Rattle.carry.proofs.EffectLaws.{left-tallied, left-returns}
+use Rattle.carry.proofs.ticked.Statement.{statement}
+use Rattle.carry.proofs.ticked.Tie as tie
+use Rattle.carry.proofs.ticked.Reads as reads
+use Rattle.carry.proofs.ticked.Lts as lts
+use Rattle.flush.proofs.tick.Reads as tick-reads
+
+-- src/lib.rt:19:9
+tick-requires : tie.Need-tick-requires
+tick-requires c κs = left-tallied (c .before .before .before .before .before .before .pre)
+
+-- src/lib.rt:11:1
+same-length : tie.Need-same-length
+same-length c = search needs
+
+-- src/lib.rt:11:1
+returns : tie.Need-returns
+returns c = λ x. left-returns x (c .before .before .before .before .tick .ensures)
+
+pub ticked-spec : {M : Type 1} → statement M
+ticked-spec = tie.close (tie.spec tick-requires same-length returns)

@@ -1,0 +1,97 @@
+// Making a fresh store: the desk and the pages that every list of calls begins with.
+ghost use mathlib.Core.Bool.{cond};
+ghost use mathlib.Core.Path.{_≡_};
+ghost use Prim.Native.Nat.{_+_, _<_};
+ghost use lib.Dec.{eqb};
+ghost use lib.ListN.{length, drop};
+ghost use Rattle.terms.specs.Terms.{pages, noPage};
+ghost use Rattle.lists.specs.Parts.{put};
+ghost use Rattle.page.specs.Page.{pageBytes};
+ghost use Rattle.page.specs.Buffer.{bufferBytes};
+ghost use Rattle.rules.specs.Store.{fresh};
+ghost use Rattle.desk.specs.Layout.{pagesOf, freshPages};
+ghost use Rattle.fresh.specs.Begin.{Begins};
+use desk::Desk;
+use entries::Entries;
+use page::BUFFER_BYTES;
+use terms::NO_PAGE;
+use terms::PAGES;
+
+// "The page buffer isn't 25,600 bytes."
+const WRONG_SIZE: u16 = 1;
+
+// What a call answers: 0 or the number of the check that turned it down, and what it counted.
+#[repr(C)]
+pub struct Answer {
+    pub number: u16,
+    pub count: u16,
+}
+
+pub struct Begun {
+    pub desk: Desk,
+    pub answer: Answer,
+}
+
+// The page that follows free page p.
+fn free_after(p: usize) -> u16
+    requires { ⌜ p < pages ⌝ }
+    ensures { λ r. ⌜ r ≡ cond (eqb (p + 1) pages) noPage (p + 1) ⌝ }
+{
+    if p + 1 == PAGES {
+        return NO_PAGE;
+    }
+    (p + 1) as u16
+}
+
+// All pages but the first are those of a fresh store: "pages 1 to 127 free in that order".
+fn free_pages(pages: &mut [u8])
+    requires { ⌜ length (now pages) ≡ bufferBytes ⌝ }
+    ensures { λ _. ⌜ now (pages .exit) ≡ put (now (pages .entry)) pageBytes (drop pageBytes freshPages) ⌝ }
+{
+    let mut p: usize = 1;
+    while p < PAGES {
+        page::free_page(pages, p, free_after(p));
+        p += 1;
+    }
+}
+
+// The pages are those of a fresh store: "one cell (0) on page 0, and pages 1 to 127 free in that order".
+fn write_pages(pages: &mut [u8])
+    requires { ⌜ length (now pages) ≡ bufferBytes ⌝ }
+    ensures { λ _. ⌜ now (pages .exit) ≡ pagesOf fresh ⌝ }
+{
+    page::write_page(
+        pages,
+        0,
+        page::KIND_FIRST,
+        NO_PAGE,
+        0,
+        Entries::empty(),
+        0,
+        0,
+    );
+    free_pages(pages);
+}
+
+// Desk and pages are those of a fresh store, whatever they held; or the page buffer has another size, and every byte is kept.
+pub fn begin(desk: Desk, pages: &mut [u8]) -> Begun
+    ensures { λ r. ⌜ Begins (record { desk = desk; pages = now (pages .entry) }) (record { number = r .answer .number; count = r .answer .count; desk = r .desk; pages = now (pages .exit) }) ⌝ }
+{
+    if pages.len() != BUFFER_BYTES {
+        return Begun {
+            desk,
+            answer: Answer {
+                number: WRONG_SIZE,
+                count: 0,
+            },
+        };
+    }
+    write_pages(pages);
+    Begun {
+        desk: Desk::fresh(),
+        answer: Answer {
+            number: 0,
+            count: 0,
+        },
+    }
+}
