@@ -1,0 +1,389 @@
+// The store that is damaged: one east cut, a low cell (0) and a high cell (1). The low cell's 34 entries are on pages 3 and 5, the high cell's three on page 0. Radio 10
+// moved from the high to the low cell and radio 7 signed off, so that each has a stale entry in the high cell and a memo line. Radios 20 and 400 wait, 400 since its sign-on.
+ghost use mathlib.Core.Path.{_≡_};
+ghost use Prim.Native.Nat.{_<_, _≤_};
+ghost use lib.ListN.{length};
+ghost use Rattle.terms.specs.Terms.{pages};
+ghost use Rattle.page.specs.Buffer.{bufferBytes};
+use desk::CutList;
+use desk::Desk;
+use desk::Directory;
+use desk::Grid;
+use desk::Line;
+use desk::Memo;
+use desk::On;
+use desk::Report;
+use desk::Slot;
+use desk::Waiting;
+use entries::Entries;
+use entries::Entry;
+use terms::NO_PAGE;
+use terms::PAGE_ENTRIES;
+use terms::PAGES;
+
+pub const CUT: u16 = 32768;
+
+pub const LAST: u16 = Desk::LAST_METRE;
+
+pub const LOW_FIRST: usize = 3;
+
+pub const LOW_FURTHER: usize = 5;
+
+pub const HIGH_FIRST: usize = 0;
+
+pub const FREE_FRONT: u16 = 1;
+
+pub const LOW_ENTRIES: usize = 34;
+
+// ---- the desk
+
+pub fn cuts(n: usize, a: u16, b: u16) -> CutList {
+    let mut at = [0u16; 15];
+    at[0] = a;
+    at[1] = b;
+    CutList { n, at }
+}
+
+// A cell from the south to the north edge of the square.
+pub fn stripe(number: u16, west: u16, east: u16, first: u16) -> Slot {
+    Slot {
+        number,
+        west,
+        east,
+        south: 0,
+        north: LAST,
+        first,
+    }
+}
+
+pub fn no_slot() -> Slot {
+    Slot {
+        number: 0,
+        west: 0,
+        east: 0,
+        south: 0,
+        north: 0,
+        first: 0,
+    }
+}
+
+pub fn two_cells(a: Slot, b: Slot) -> Directory {
+    let mut slots = [no_slot(); 64];
+    slots[0] = a;
+    slots[1] = b;
+    Directory { n: 2, slots }
+}
+
+// The low and the high cell.
+pub fn both_cells() -> Directory {
+    two_cells(
+        stripe(0, 0, CUT - 1, LOW_FIRST as u16),
+        stripe(1, CUT, LAST, HIGH_FIRST as u16),
+    )
+}
+
+pub fn report(radio: u16, east: u16, north: u16, new: u16) -> Report {
+    Report {
+        radio,
+        east,
+        north,
+        new,
+    }
+}
+
+// The reports of radios 20 and 400, so marked.
+pub fn two_reports(mark_20: u16, mark_400: u16) -> Waiting {
+    let mut rows = [report(0, 0, 0, 0); 128];
+    rows[0] = report(20, 50, 60, mark_20);
+    rows[1] = report(400, 40000, 500, mark_400);
+    Waiting { n: 2, rows }
+}
+
+pub fn line(radio: u16, missed: u16, placed: u16, east: u16, north: u16) -> Line {
+    Line {
+        radio,
+        missed,
+        placed,
+        east,
+        north,
+    }
+}
+
+pub fn two_lines(a: Line, b: Line) -> Memo {
+    let mut rows = [line(0, 0, 0, 0, 0); 1151];
+    rows[0] = a;
+    rows[1] = b;
+    Memo { n: 2, rows }
+}
+
+pub fn line_7() -> Line {
+    line(7, 1, 0, 0, 0)
+}
+
+pub fn line_10() -> Line {
+    line(10, 1, 1, 100, 200)
+}
+
+// Radio 5, the radios of the first entries of the low cell, and radio 400.
+pub fn radios_on(entries: usize) -> On
+    requires { ⌜ entries ≤ 34 ⌝ }
+{
+    let mut radios = [0u16; 512];
+    radios[0] = 5;
+    let mut i: usize = 0;
+    while i < entries {
+        radios[i + 1] = (10 * (i + 1)) as u16;
+        i += 1;
+    }
+    radios[entries + 1] = 400;
+    On {
+        n: entries + 2,
+        radios,
+    }
+}
+
+fn grid() -> Grid {
+    Grid {
+        easts: cuts(1, CUT, 0),
+        norths: cuts(0, 0, 0),
+        cells: both_cells(),
+        free: FREE_FRONT,
+    }
+}
+
+pub fn small_desk() -> Desk {
+    Desk {
+        grid: grid(),
+        waiting: two_reports(0, 1),
+        memo: two_lines(line_7(), line_10()),
+        on: radios_on(LOW_ENTRIES),
+        tally: 3,
+    }
+}
+
+// ---- a desk with another part
+
+pub fn with_easts(d: Desk, easts: CutList) -> Desk {
+    let mut grid = d.grid;
+    grid.easts = easts;
+    let mut e = d;
+    e.grid = grid;
+    e
+}
+
+pub fn with_norths(d: Desk, norths: CutList) -> Desk {
+    let mut grid = d.grid;
+    grid.norths = norths;
+    let mut e = d;
+    e.grid = grid;
+    e
+}
+
+pub fn with_cells(d: Desk, cells: Directory, free: u16) -> Desk {
+    let mut grid = d.grid;
+    grid.cells = cells;
+    grid.free = free;
+    let mut e = d;
+    e.grid = grid;
+    e
+}
+
+pub fn with_waiting(d: Desk, waiting: Waiting) -> Desk {
+    let mut e = d;
+    e.waiting = waiting;
+    e
+}
+
+pub fn with_memo(d: Desk, memo: Memo) -> Desk {
+    let mut e = d;
+    e.memo = memo;
+    e
+}
+
+pub fn with_on(d: Desk, on: On) -> Desk {
+    let mut e = d;
+    e.on = on;
+    e
+}
+
+pub fn with_tally(d: Desk, tally: u16) -> Desk {
+    let mut e = d;
+    e.tally = tally;
+    e
+}
+
+// ---- the pages
+
+// The i-th entry of the low cell.
+fn low_entry(i: usize) -> Entry
+    requires { ⌜ i < 34 ⌝ }
+{
+    Entry {
+        radio: (10 * (i + 1)) as u16,
+        east: (100 + i) as u16,
+        north: (200 + i) as u16,
+    }
+}
+
+fn low_entries() -> Entries
+    ensures { λ r. ⌜ r .n ≡ 34 ⌝ }
+{
+    let mut es = Entries::empty();
+    let mut i: usize = 0;
+    while i < LOW_ENTRIES {
+        es = es.pushed(low_entry(i));
+        i += 1;
+    }
+    es
+}
+
+// An entry of the high cell.
+fn high_entry(radio: u16) -> Entry {
+    Entry {
+        radio,
+        east: 40000,
+        north: radio,
+    }
+}
+
+// Those of radios 5, 7, `third` and 10.
+fn high_entries(third: u16) -> Entries
+    ensures { λ r. ⌜ r .n ≡ 4 ⌝ }
+{
+    let mut es = Entries::empty();
+    es = es.pushed(high_entry(5));
+    es = es.pushed(high_entry(7));
+    es = es.pushed(high_entry(third));
+    es.pushed(high_entry(10))
+}
+
+// The low cell's entries, so many on each of its pages.
+pub fn write_low(buffer: &mut [u8], first: usize, further: usize)
+    requires { ⌜ (length (now buffer) ≡ bufferBytes) × (first ≤ 32) × (further ≤ 2) ⌝ }
+    ensures { λ _. ⌜ length (now (buffer .exit)) ≡ bufferBytes ⌝ }
+{
+    let es = low_entries();
+    page::write_page(
+        buffer,
+        LOW_FIRST,
+        page::KIND_FIRST,
+        LOW_FURTHER as u16,
+        0,
+        es,
+        0,
+        first,
+    );
+    page::write_page(
+        buffer,
+        LOW_FURTHER,
+        page::KIND_FURTHER,
+        NO_PAGE,
+        0,
+        es,
+        first,
+        further,
+    );
+}
+
+// The high cell's three entries, or with radio 7 twice.
+pub fn write_high(buffer: &mut [u8], twice: bool)
+    requires { ⌜ length (now buffer) ≡ bufferBytes ⌝ }
+    ensures { λ _. ⌜ length (now (buffer .exit)) ≡ bufferBytes ⌝ }
+{
+    if twice {
+        page::write_page(
+            buffer,
+            HIGH_FIRST,
+            page::KIND_FIRST,
+            NO_PAGE,
+            1,
+            high_entries(7),
+            0,
+            4,
+        );
+    } else {
+        page::write_page(
+            buffer,
+            HIGH_FIRST,
+            page::KIND_FIRST,
+            NO_PAGE,
+            1,
+            high_entries(10),
+            0,
+            3,
+        );
+    }
+}
+
+// Page p is the one page of a cell without entries.
+pub fn write_none(buffer: &mut [u8], p: usize, cell: u16)
+    requires { ⌜ (length (now buffer) ≡ bufferBytes) × (p < pages) ⌝ }
+    ensures { λ _. ⌜ length (now (buffer .exit)) ≡ bufferBytes ⌝ }
+{
+    page::write_page(
+        buffer,
+        p,
+        page::KIND_FIRST,
+        NO_PAGE,
+        cell,
+        Entries::empty(),
+        0,
+        0,
+    );
+}
+
+// The pages from a to b are free in that order.
+pub fn link(buffer: &mut [u8], a: usize, b: usize)
+    requires { ⌜ (length (now buffer) ≡ bufferBytes) × (a ≤ b) × (b < pages) ⌝ }
+    ensures { λ _. ⌜ length (now (buffer .exit)) ≡ bufferBytes ⌝ }
+{
+    let mut p = a;
+    while p < b {
+        page::free_page(buffer, p, (p + 1) as u16);
+        p += 1;
+    }
+    page::free_page(buffer, b, NO_PAGE);
+}
+
+fn is_free(p: usize) -> bool {
+    if p == LOW_FIRST {
+        return false;
+    }
+    if p == LOW_FURTHER {
+        return false;
+    }
+    p != HIGH_FIRST
+}
+
+// Page p, if it is free, comes before `next` in the free chain; the front of that chain.
+fn put_free(buffer: &mut [u8], p: usize, next: u16) -> u16
+    requires { ⌜ (length (now buffer) ≡ bufferBytes) × (p < pages) ⌝ }
+{
+    if !is_free(p) {
+        return next;
+    }
+    page::free_page(buffer, p, next);
+    p as u16
+}
+
+// The free chain, by rising page.
+fn write_free(buffer: &mut [u8])
+    requires { ⌜ length (now buffer) ≡ bufferBytes ⌝ }
+    ensures { λ _. ⌜ length (now (buffer .exit)) ≡ bufferBytes ⌝ }
+{
+    let mut front: u16 = NO_PAGE;
+    let mut p: usize = PAGES;
+    while 0 < p {
+        p -= 1;
+        front = put_free(buffer, p, front);
+    }
+}
+
+pub fn write_pages(buffer: &mut [u8])
+    requires { ⌜ length (now buffer) ≡ bufferBytes ⌝ }
+    ensures { λ _. ⌜ length (now (buffer .exit)) ≡ bufferBytes ⌝ }
+{
+    write_free(buffer);
+    write_low(buffer, PAGE_ENTRIES, 2);
+    write_high(buffer, false);
+}
