@@ -93,7 +93,7 @@ returns-2 : tie.Need-returns-2
 returns-2 c = λ x.
     let a = c .before .before .before .before .before .before .before .before in
     let e = a .before .before .before .before .before in
-    on-returns x (e .args .bytes .now) (e .args .buffer .now) (λ i. a .before .before .before .shared-slice-known .given i .fits) (a .asked-by .ensures) _ _ (search (needs, c .before .before .before .before .before .before .radio, c .before .before .before .before .before .before .before .match)) (c .before .before .before .sign-on .ensures) (c .accepted .ensures)
+    on-returns x (e .args .bytes .now) (e .args .buffer .now) (λ i. a .before .before .before .shared-slice-known .given i .fits) (a .asked-by .ensures) _ _ (search (needs, c .before .before .before .before .before .before .radio)) (c .before .before .before .sign-on .ensures) (c .accepted .ensures)
 
 -- src/lib.rt:176:1
 same-length-2 : tie.Need-same-length-2
@@ -104,7 +104,7 @@ returns-3 : tie.Need-returns-3
 returns-3 c = λ x.
     let a = c .before .before .before .before .before .before .before .before in
     let e = a .before .before .before .before .before in
-    report-returns x (e .args .bytes .now) (e .args .buffer .now) (λ i. a .before .before .before .shared-slice-known .given i .fits) (a .asked-by .ensures) _ _ (search (needs, c .before .before .before .before .before .before .radio2, c .before .before .before .before .before .before .before .match)) (c .before .before .before .reported .ensures) (c .accepted2 .ensures)
+    report-returns x (e .args .bytes .now) (e .args .buffer .now) (λ i. a .before .before .before .shared-slice-known .given i .fits) (a .asked-by .ensures) _ _ (search (needs, c .before .before .before .before .before .before .radio2)) (c .before .before .before .reported .ensures) (c .accepted2 .ensures)
 
 -- src/lib.rt:176:1
 same-length-3 : tie.Need-same-length-3
@@ -115,7 +115,7 @@ returns-4 : tie.Need-returns-4
 returns-4 c = λ x.
     let a = c .before .before .before .before .before .before .before .before in
     let e = a .before .before .before .before .before in
-    off-returns x (e .args .bytes .now) (e .args .buffer .now) (λ i. a .before .before .before .shared-slice-known .given i .fits) (a .asked-by .ensures) _ (search (needs, c .before .before .before .before .before .before .radio3, c .before .before .before .before .before .before .before .match)) (c .before .before .before .sign-off .ensures) (c .accepted3 .ensures)
+    off-returns x (e .args .bytes .now) (e .args .buffer .now) (λ i. a .before .before .before .shared-slice-known .given i .fits) (a .asked-by .ensures) _ (search (needs, c .before .before .before .before .before .before .radio3)) (c .before .before .before .sign-off .ensures) (c .accepted3 .ensures)
 
 -- src/lib.rt:176:1
 same-length-4 : tie.Need-same-length-4
@@ -130,7 +130,7 @@ returns-5 : tie.Need-returns-5
 returns-5 c = λ x.
     let a = c .before .before .before .before .before .before .before .before in
     let e = a .before .before .before .before .before in
-    range-returns x (e .args .bytes .now) (e .args .buffer .now) (λ i. a .before .before .before .shared-slice-known .given i .fits) (a .asked-by .ensures) _ _ _ _ (search (needs, c .before .before .before .before .before .before .west, c .before .before .before .before .before .before .before .match)) (c .before .before .listed .ensures)
+    range-returns x (e .args .bytes .now) (e .args .buffer .now) (λ i. a .before .before .before .shared-slice-known .given i .fits) (a .asked-by .ensures) _ _ _ _ (search (needs, c .before .before .before .before .before .before .west)) (c .before .before .listed .ensures)
 
 pub carry-sound-spec : {M : Type 1} → statement M
 carry-sound-spec =

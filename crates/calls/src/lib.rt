@@ -1,0 +1,46 @@
+// The desk's calls on a desk that is lent: thin functions over `carry` and `fresh::begin`, which take the desk by value and return it, and those for programs in Rust or C.
+ghost use Rattle.desk.specs.Call.{Answers};
+ghost use Rattle.fresh.specs.Begin.{Begins};
+use desk::Desk;
+use fresh::Answer;
+
+// `carry` on a desk that is lent and altered there.
+pub fn call(desk: &mut Desk, pages: &mut [u8], bytes: &[u8], buffer: &mut [u8]) -> Answer
+    ensures { λ r. ⌜ Answers (record { desk = now (desk .entry); pages = now (pages .entry); bytes = now (bytes .entry); buffer = now (buffer .entry) }) (record { number = r .number; count = r .count; desk = now (desk .exit); pages = now (pages .exit); buffer = now (buffer .exit) }) ⌝ }
+{
+    let d = *desk;
+    let c = carry::carry(d, pages, bytes, buffer);
+    *desk = c.desk;
+    c.answer
+}
+
+// `call`, for a serving program in Rust or C.
+#[no_mangle]
+pub extern "C" fn boragefile_call(
+    desk: &mut Desk,
+    pages: &mut [u8],
+    bytes: &[u8],
+    buffer: &mut [u8],
+) -> Answer
+    ensures { λ a. ⌜ Answers (record { desk = now (desk .entry); pages = now (pages .entry); bytes = now (bytes .entry); buffer = now (buffer .entry) }) (record { number = a .number; count = a .count; desk = now (desk .exit); pages = now (pages .exit); buffer = now (buffer .exit) }) ⌝ }
+{
+    call(desk, pages, bytes, buffer)
+}
+
+// A fresh store on a desk that is lent and altered there.
+pub fn begin(desk: &mut Desk, pages: &mut [u8]) -> Answer
+    ensures { λ r. ⌜ Begins (record { desk = now (desk .entry); pages = now (pages .entry) }) (record { number = r .number; count = r .count; desk = now (desk .exit); pages = now (pages .exit) }) ⌝ }
+{
+    let d = *desk;
+    let c = fresh::begin(d, pages);
+    *desk = c.desk;
+    c.answer
+}
+
+// `begin`, for a serving program in Rust or C.
+#[no_mangle]
+pub extern "C" fn boragefile_begin(desk: &mut Desk, pages: &mut [u8]) -> Answer
+    ensures { λ a. ⌜ Begins (record { desk = now (desk .entry); pages = now (pages .entry) }) (record { number = a .number; count = a .count; desk = now (desk .exit); pages = now (pages .exit) }) ⌝ }
+{
+    begin(desk, pages)
+}
