@@ -1,0 +1,107 @@
+/* The desk through its C interface: the layout of the desk, a fresh store, and the contract's own journal. */
+#undef NDEBUG
+#include "boragefile.h"
+#include <assert.h>
+#include <stdio.h>
+#include <string.h>
+
+_Static_assert(sizeof(boragefile_cut_list) == 40, "cut list");
+_Static_assert(sizeof(boragefile_directory) == 776, "directory");
+_Static_assert(sizeof(boragefile_grid) == 864, "grid");
+_Static_assert(sizeof(boragefile_waiting) == 1032, "waiting");
+_Static_assert(sizeof(boragefile_memo) == 11520, "memo");
+_Static_assert(sizeof(boragefile_on) == 1032, "on");
+_Static_assert(sizeof(boragefile_desk) == 14456, "desk");
+_Static_assert(sizeof(boragefile_answer) == 4, "answer");
+
+/* All that is lent, between guards that no call may touch. */
+static struct lent {
+    uint8_t guard0[64];
+    boragefile_desk desk;
+    uint8_t guard1[64];
+    uint8_t pages[BORAGEFILE_PAGES_BYTES];
+    uint8_t guard2[64];
+    uint8_t buffer[BORAGEFILE_LIST_BYTES];
+    uint8_t guard3[64];
+} lent, before;
+
+static int all(const uint8_t *bytes, size_t n, uint8_t byte)
+{
+    for (size_t i = 0; i < n; i++)
+        if (bytes[i] != byte)
+            return 0;
+    return 1;
+}
+
+static void expect_guards(void)
+{
+    assert(all(lent.guard0, 64, 0xA5) && all(lent.guard1, 64, 0xA5));
+    assert(all(lent.guard2, 64, 0xA5) && all(lent.guard3, 64, 0xA5));
+}
+
+/* Makes a call and expects this answer; a turned-down call keeps every byte of all that is lent. */
+static void expect(const uint8_t *bytes, size_t length, unsigned number, unsigned count)
+{
+    memcpy(&before, &lent, sizeof lent);
+    boragefile_answer answer = boragefile_call(&lent.desk, lent.pages, sizeof lent.pages, bytes, length, lent.buffer, sizeof lent.buffer);
+    assert(answer.number == number && answer.count == count);
+    if (number != 0)
+        assert(memcmp(&before, &lent, sizeof lent) == 0);
+    expect_guards();
+}
+
+static void expect_fresh(void)
+{
+    const boragefile_grid *grid = &lent.desk.grid;
+    assert(grid->easts.n == 0 && grid->norths.n == 0 && grid->cells.n == 1 && grid->free == 1);
+    assert(grid->cells.slots[0].number == 0 && grid->cells.slots[0].first == 0);
+    assert(grid->cells.slots[0].west == 0 && grid->cells.slots[0].east == 65535);
+    assert(grid->cells.slots[0].south == 0 && grid->cells.slots[0].north == 65535);
+    assert(lent.desk.waiting.n == 0 && lent.desk.memo.n == 0 && lent.desk.on.n == 0 && lent.desk.tally == 0);
+    for (unsigned p = 0; p < 128; p++) {
+        const uint8_t *page = lent.pages + 200 * p;
+        unsigned next = p == 0 || p == 127 ? 65535 : p + 1;
+        unsigned cell = p == 0 ? 0 : 65535;
+        const uint8_t head[8] = {8, 0, p == 0 ? 2 : 1, 0, next & 255, next >> 8, cell & 255, cell >> 8};
+        assert(memcmp(page, head, 8) == 0 && all(page + 8, 192, 0));
+    }
+}
+
+int main(void)
+{
+    memset(&lent, 0xA5, sizeof lent);
+
+    /* a page buffer of another size: number 1, and every byte kept */
+    boragefile_answer answer = boragefile_begin(&lent.desk, lent.pages, sizeof lent.pages - 1);
+    assert(answer.number == 1 && answer.count == 0);
+    assert(all((const uint8_t *)&lent, sizeof lent, 0xA5));
+
+    answer = boragefile_begin(&lent.desk, lent.pages, sizeof lent.pages);
+    assert(answer.number == 0 && answer.count == 0);
+    expect_fresh();
+    expect_guards();
+
+    const uint8_t on[] = {10, 0, 1, 0, 7, 0, 100, 0, 200, 0};
+    const uint8_t report[] = {10, 0, 2, 0, 7, 0, 44, 1, 200, 0};
+    const uint8_t range[] = {12, 0, 4, 0, 0, 0, 44, 1, 0, 0, 200, 0};
+    const uint8_t off[] = {6, 0, 3, 0, 7, 0};
+    const uint8_t listed[] = {7, 0, 44, 1, 200, 0};
+    expect(on, sizeof on, 0, 0);
+    expect(report, sizeof report, 0, 0);
+    assert(all(lent.buffer, sizeof lent.buffer, 0xA5));
+    expect(range, sizeof range, 0, 1);
+    assert(memcmp(lent.buffer, listed, sizeof listed) == 0);
+    assert(all(lent.buffer + sizeof listed, sizeof lent.buffer - sizeof listed, 0xA5));
+    expect(off, sizeof off, 0, 0);
+    expect(range, sizeof range, 0, 0);
+    expect(off, sizeof off, 9, 0);
+    expect(on, 0, 3, 0);
+    expect(range, 11, 3, 0);
+
+    /* a damaged store: number 2 */
+    lent.desk.tally = 16;
+    expect(range, sizeof range, 2, 0);
+
+    printf("ok\n");
+    return 0;
+}

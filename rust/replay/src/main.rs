@@ -1,0 +1,111 @@
+//! Replays journals on the compiled desk: JSON lines that say what each call must answer and leave.
+//!
+//! `replay FILE...` ends with 0 only if every call of every file agrees in number, count, answer bytes, pages and, where it
+//! is given, the whole store. It says the first difference of each file.
+#![forbid(unsafe_code)]
+mod json;
+mod sha256;
+mod whole;
+
+use boragefile::Store;
+use json::Json;
+use std::process::ExitCode;
+
+/// What stands in every byte of the answer buffer before a call.
+const UNTOUCHED: u8 = 0xa5;
+
+fn main() -> ExitCode {
+    let files: Vec<String> = std::env::args().skip(1).collect();
+    if files.is_empty() {
+        eprintln!("usage: replay FILE...");
+        return ExitCode::from(2);
+    }
+    let mut agreed = true;
+    for file in &files {
+        match replay_file(file) {
+            Ok((calls, stores)) => println!("{file}: {calls} calls and {stores} whole stores agree"),
+            Err(difference) => {
+                agreed = false;
+                println!("{file}: {difference}");
+            }
+        }
+    }
+    if agreed {
+        ExitCode::SUCCESS
+    } else {
+        ExitCode::FAILURE
+    }
+}
+
+/// Replays one file from a fresh store. Answers how many calls, and how many whole stores, agreed.
+fn replay_file(file: &str) -> Result<(usize, usize), String> {
+    let text = std::fs::read_to_string(file).map_err(|error| error.to_string())?;
+    let mut store = Store::fresh();
+    let (mut calls, mut stores) = (0, 0);
+    for (i, line) in text.lines().enumerate() {
+        let wanted = Json::read(line).map_err(|error| format!("line {}: {error}", i + 1))?;
+        replay_call(&mut store, &wanted).map_err(|difference| format!("line {}: {difference}", i + 1))?;
+        calls += 1;
+        stores += usize::from(wanted.get("store").is_some());
+    }
+    if calls == 0 {
+        return Err("no call".to_string());
+    }
+    Ok((calls, stores))
+}
+
+/// Makes one call and compares it with what the line says.
+fn replay_call(store: &mut Store, wanted: &Json) -> Result<(), String> {
+    let record = bytes_of(text(wanted, "record")?)?;
+    let room = number(wanted, "buffer")?;
+    let list = bytes_of(text(wanted, "answer")?)?;
+    let mut buffer = vec![UNTOUCHED; usize::try_from(room).map_err(|error| error.to_string())?];
+    let answer = store.call(&record, &mut buffer);
+    let (count, pages) = (number(wanted, "count")?, text(wanted, "pages")?);
+    equal("number", answer.number().into(), number(wanted, "number")?)?;
+    equal("count", answer.count().into(), count)?;
+    if !buffer.starts_with(&list) {
+        return Err(format!("the answer's bytes are not {list:?}"));
+    }
+    if buffer[list.len()..].iter().any(|byte| *byte != UNTOUCHED) {
+        return Err("the answer buffer is written past the answer".to_string());
+    }
+    let digest = sha256::hex_digest(store.pages());
+    if digest != pages {
+        return Err(format!("the pages' sha256 is {digest}, not {pages}"));
+    }
+    match wanted.get("store") {
+        Some(given) => whole::difference("store", &whole::whole(store), given).map_or(Ok(()), Err),
+        None => Ok(()),
+    }
+}
+
+fn equal(name: &str, is: u64, wanted: u64) -> Result<(), String> {
+    if is == wanted {
+        Ok(())
+    } else {
+        Err(format!("{name} is {is}, not {wanted}"))
+    }
+}
+
+fn text<'a>(line: &'a Json, name: &str) -> Result<&'a str, String> {
+    line.get(name)
+        .and_then(Json::text)
+        .ok_or_else(|| format!("no text \"{name}\""))
+}
+
+fn number(line: &Json, name: &str) -> Result<u64, String> {
+    line.get(name)
+        .and_then(Json::number)
+        .ok_or_else(|| format!("no number \"{name}\""))
+}
+
+fn bytes_of(hex: &str) -> Result<Vec<u8>, String> {
+    let digit = |byte: u8| char::from(byte).to_digit(16).map(|digit| digit as u8);
+    let pair = |pair: &[u8]| Some(16 * digit(pair[0])? + digit(*pair.get(1)?)?);
+    hex.as_bytes()
+        .chunks(2)
+        .map(pair)
+        .collect::<Option<_>>()
+        .ok_or_else(|| format!("no hex: {hex}"))
+}

@@ -1,0 +1,119 @@
+//! The whole store as the journals write it.
+use crate::json::Json;
+use boragefile::{CutList, Slot, Store, ENTRY_BYTES, NONE, PAGES, PAGE_BYTES};
+use std::collections::BTreeMap;
+
+/// Desk and pages in the journals' form.
+pub fn whole(store: &Store) -> Json {
+    let desk = store.desk();
+    let cells = desk.grid.cells.slots[..desk.grid.cells.n]
+        .iter()
+        .map(|slot| cell(store, slot))
+        .collect();
+    let waiting = desk.waiting.rows[..desk.waiting.n].iter().map(|report| {
+        let mut row = places(&[report.radio, report.east, report.north]);
+        row.push(Json::Bool(report.new == 1));
+        Json::List(row)
+    });
+    let memo = desk.memo.rows[..desk.memo.n].iter().map(|line| {
+        let mut row = places(&[line.radio, line.missed]);
+        row.push(if line.placed == 1 {
+            Json::List(places(&[line.east, line.north]))
+        } else {
+            Json::Null
+        });
+        Json::List(row)
+    });
+    object([
+        ("east_cuts", cuts(&desk.grid.easts)),
+        ("north_cuts", cuts(&desk.grid.norths)),
+        ("cells", Json::List(cells)),
+        ("free", Json::List(places(&chain(store, desk.grid.free)))),
+        ("waiting", Json::List(waiting.collect())),
+        ("memo", Json::List(memo.collect())),
+        ("on", Json::List(places(&desk.on.radios[..desk.on.n]))),
+        ("tally", Json::Number(desk.tally.into())),
+    ])
+}
+
+/// The first difference between what is and what is wanted, named by its place in the value.
+pub fn difference(name: &str, is: &Json, wanted: &Json) -> Option<String> {
+    match (is, wanted) {
+        (Json::Object(members), Json::Object(others)) => {
+            let names = members
+                .keys()
+                .chain(others.keys().filter(|other| !members.contains_key(*other)));
+            names.into_iter().find_map(|key| {
+                let (a, b) = (
+                    members.get(key).unwrap_or(&Json::Null),
+                    others.get(key).unwrap_or(&Json::Null),
+                );
+                difference(&format!("{name}.{key}"), a, b)
+            })
+        }
+        (Json::List(items), Json::List(others)) => {
+            let pairs = items.iter().zip(others).enumerate();
+            let inside = pairs
+                .into_iter()
+                .find_map(|(i, (a, b))| difference(&format!("{name}[{i}]"), a, b));
+            let (a, b) = (items.len(), others.len());
+            inside.or_else(|| (a != b).then(|| format!("{name} has {a} items, not {b}")))
+        }
+        _ => (is != wanted).then(|| format!("{name} is {is}, not {wanted}")),
+    }
+}
+
+fn object<const N: usize>(members: [(&str, Json); N]) -> Json {
+    Json::Object(BTreeMap::from(members.map(|(name, value)| (name.to_string(), value))))
+}
+
+fn places(fields: &[u16]) -> Vec<Json> {
+    fields.iter().map(|field| Json::Number((*field).into())).collect()
+}
+
+fn cuts(list: &CutList) -> Json {
+    Json::List(places(&list.at[..list.n]))
+}
+
+fn cell(store: &Store, slot: &Slot) -> Json {
+    let pages = chain(store, slot.first);
+    let entries = pages.iter().flat_map(|page| entries(page_of(store, *page)));
+    object([
+        ("number", Json::Number(slot.number.into())),
+        (
+            "edges",
+            Json::List(places(&[slot.west, slot.east, slot.south, slot.north])),
+        ),
+        (
+            "entries",
+            Json::List(entries.map(|entry| Json::List(places(&entry))).collect()),
+        ),
+        ("chain", Json::List(places(&pages))),
+    ])
+}
+
+/// The pages of a chain from its front, by next page. It stops after as many pages as there are.
+fn chain(store: &Store, front: u16) -> Vec<u16> {
+    let mut pages = Vec::new();
+    let mut page = front;
+    while page != NONE && usize::from(page) < PAGES && pages.len() < PAGES {
+        pages.push(page);
+        page = field(page_of(store, page), 2);
+    }
+    pages
+}
+
+fn page_of(store: &Store, page: u16) -> &[u8] {
+    &store.pages()[usize::from(page) * PAGE_BYTES..][..PAGE_BYTES]
+}
+
+fn field(bytes: &[u8], at: usize) -> u16 {
+    u16::from_le_bytes([bytes[2 * at], bytes[2 * at + 1]])
+}
+
+fn entries(page: &[u8]) -> impl Iterator<Item = [u16; 3]> + '_ {
+    let used = usize::from(field(page, 0)).clamp(8, PAGE_BYTES);
+    page[8..used]
+        .chunks_exact(ENTRY_BYTES)
+        .map(|entry| [field(entry, 0), field(entry, 1), field(entry, 2)])
+}
