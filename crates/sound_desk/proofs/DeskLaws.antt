@@ -51,6 +51,9 @@ goes {a} {x} {r} {rest} e f q = q ∙ sym (true-both rest (sym e ∙ not-false a
 
 -- ---- what a part that has passed gives to the tests after it
 
+pub passed-true : {a x : Bool} → a ≡ x → not a ≡ false → x ≡ true
+passed-true {a} e f = sym e ∙ not-false a f
+
 pub cuts-room : {a : Bool} (c : CutList) → a ≡ cutsSound c → not a ≡ false → c .n ≤ maxCuts
 unfolding cutsSound
 cuts-room {a} c e f = slots-count number maxCuts (c .n) (c .at) (both-left (slotsTest number maxCuts (c .n) (c .at)) _ (sym e ∙ not-false a f))

@@ -74,7 +74,7 @@ pub record Crowd (easts norths : CutList) (w : Waiting) (i : ℕ) (crowd : List 
   pub counts : (m : Box) → m .east < maxStripes → m .north < maxStripes → getD crowd (maxStripes * m .north + m .east) 0 ≡ waitingIn (cutsBy easts norths) (take i (reportsOf w)) m
   pub few : (m : Box) → waitingIn (cutsBy easts norths) (take i (reportsOf w)) m < fullBox
 
-zero-at : (n k : ℕ) → getD (replicate {A = ℕ} n 0) k 0 ≡ 0
+pub zero-at : (n k : ℕ) → getD (replicate {A = ℕ} n 0) k 0 ≡ 0
 zero-at n k =
     let z : List ℕ = replicate n 0 in
     let l : length z ≡ n = length-replicate n 0 in

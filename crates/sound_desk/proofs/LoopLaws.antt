@@ -179,9 +179,6 @@ pub record Counted {A : Type 0} (w : A → ℕ) (xs : List A) (n i sum : ℕ) : 
   pub fits : n ≤ length xs
   pub same : sum + sumBy w (drop i (take n xs)) ≡ sumBy w (take n xs)
 
-pub count-start : {A : Type 0} (w : A → ℕ) (xs : List A) (n size : ℕ) → length xs ≡ size → n ≤ size → Counted w xs n 0 0
-count-start w xs n size e h = record { fits = omega arith; same = omega arith }
-
 module _ {A : Type 0} {w : A → ℕ} {xs : List A} {n i sum : ℕ} (r : Counted w xs n i sum) where
   pub count-turn : {e : ℕ} (d : A) → i < n → e ≡ w (getD xs i d) → Counted w xs n (i + 1) (sum + e)
   count-turn d h q = record {

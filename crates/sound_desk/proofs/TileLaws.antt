@@ -1,36 +1,38 @@
--- Tiling, memory cell by memory cell: rows from the south, and in each the cells from the west.
-use mathlib.Core.Path.{_≡_, refl, sym, ap, _∙_}
+-- Tiling by stripes: each cell adds 1 in its memory cells in a table of 16 by 16, and each memory cell of the cuts comes to 1.
+use mathlib.Core.Path.{_≡_, refl, sym, ap, ap₂, _∙_}
 use mathlib.Core.Bool.{Bool, true, false, not}
-use mathlib.Core.List.{List, [], _∷_, _++_, append-nil}
+use mathlib.Core.List.{List, [], _∷_}
 use mathlib.Core.Logic.{_≢_}
-use Prim.Native.Nat.{ℕ, suc, _+_, _-_, _≤_, _<_}
+use Prim.Native.Nat.{ℕ, suc, _+_, _*_, _≤_, _<_, min, max}
 use native.Mathlib.Omega.{arith}
 use native.Mathlib.Numerals.{add-one}
-use lib.Dec.{eqb}
-use lib.ListN.{length, getD, set, take, length-set}
-use lib.Seq.{getD-take, length-take-le, take-suc, take-suc-set, take-set-le}
-use borrow.Author.Tests.{le-leb, lt-leb, eq-eqb, ne-eqb}
-use Rattle.terms.specs.Terms.{Place}
+use lib.Dec.{eqb, leb, ltb}
+use lib.ListN.{length, getD, set, take, replicate, length-map, length-set, List·getD-map}
+use lib.Seq.{take-suc, take-all, getD-take, getD-set-same, getD-set-other, length-take-le}
+use borrow.Author.Tests.{ltb-true, ltb-false, leb-true, leb-false, lt-ltb, le-ltb, eqb-true, eqb-false, eq-eqb, ne-eqb}
 use Rattle.lists.specs.Parts.{tab}
-use Rattle.lists.specs.Sums.{sumBy, keep, filter, concat}
-use Rattle.lists.specs.Tests.{one-if, both, all}
-use Rattle.lists.proofs.PartsLaws.{length-tab, getD-tab}
+use Rattle.lists.specs.Sums.{sumBy, concat}
+use Rattle.lists.specs.Tests.{one-if, both, Each, all}
 use Rattle.lists.proofs.Cases.{by-cases}
-use Rattle.lists.proofs.SumsLaws.{sum-filter, sum-filter-ext, sum-const, sum-map}
-use Rattle.lists.proofs.TestsLaws.{all-append, both-intro, not-true, not-false}
-use Rattle.rules.specs.Limits.{maxCells, maxCuts}
-use Rattle.rules.specs.Grid.{within, Rect, Box, inside, stripeLow, cornerOf, boxes}
+use Rattle.lists.proofs.PartsLaws.{length-tab, getD-tab}
+use Rattle.lists.proofs.SumsLaws.{sum-nil, sum-append}
+use Rattle.lists.proofs.TestsLaws.{all-append, both-intro, both-right, not-true, not-false, all-each}
+use Rattle.rules.specs.Limits.{lastMetre, maxCells, maxCuts}
+use Rattle.rules.specs.Grid.{Rect, Cuts, cutsOf, Box, stripe, boxes}
+use Rattle.rules.specs.WellFormed.{RisingCuts}
 use Rattle.desk.specs.declared.CutList.{CutList}
 use Rattle.desk.specs.declared.Slot.{Slot}
 use Rattle.desk.specs.declared.Directory.{Directory}
 use Rattle.desk.specs.Layout.{noSlot}
 use Rattle.desk.specs.Views.{cutsIn, cutsBy, slotsIn, edgesOf as rectOf}
 use Rattle.mirror.specs.Loops.{allTo}
-use Rattle.mirror.specs.Grid.{holding, tileTest}
+use Rattle.mirror.specs.Grid.{cutsTest, edgesTest, holdsBox, holdingBox, tileBoxesTest}
 use Rattle.mirror.proofs.LoopsLaws.{allTo-zero, allTo-suc, allTo-false, allTo-ext, all-allTo}
+use Rattle.mirror.proofs.GridLaws.{WholeBoxes, by-axis, cuts-true, edges-true, tile-boxes}
 use Rattle.sound_desk.specs.Views.{rectsIn}
-use Rattle.sound_desk.specs.Sound.{inRow, rowTiled, tileSound}
-use Rattle.sound_desk.proofs.LoopLaws.{both-false, Counted, count-end}
+use Rattle.sound_desk.specs.Sound.{number, slotsTest, cutsSound, edgesSound, maxStripes, tableSize, boxAt, several, Raised, inRow, inStripes, holders, rowOnce, rowsOnce, tileSound}
+use Rattle.sound_desk.proofs.LoopLaws.{both-false}
+use Rattle.sound_desk.proofs.FewLaws.{zero-at}
 
 -- ---- lists
 
@@ -45,202 +47,285 @@ all-tab p n f d =
     ∙ ap (λ (k : ℕ). allTo k (λ i. p (getD (tab n f) i d))) (length-tab n f)
     ∙ allTo-ext n (λ i. p (getD (tab n f) i d)) (λ i. p (f i)) (λ i h. ap p (getD-tab n f i d h))
 
-filter-last : {A : Type 0} (p : A → Bool) (l : List A) (x : A) → filter p (l ++ (x ∷ [])) ≡ filter p l ++ keep (p x) x []
-unfolding filter
-filter-last p [] x = refl
-filter-last p (y ∷ ys) x = by-cases (p y) (λ t. rw t (ap (λ (l : List _). y ∷ l) (filter-last p ys x))) (λ t. rw t (filter-last p ys x))
+-- ---- stripes from low on, up to before i
 
--- ---- a place in a cell
+abbrev before : ℕ → ℕ → ℕ → Bool
+before low i x = both (leb low x) (ltb x i)
 
-module _ (x : Slot) (east north : ℕ) where
-  abbrev at : Place
-  at = record { east = east; north = north }
+before-none : (low x : ℕ) → before low low x ≡ false
+unfolding both
+before-none low x = by-cases (leb low x) (λ t. rw (t, le-ltb x low (leb-true low x t))) (λ t. rw t)
 
-  pub held-west : east < x .west → 0 ≡ one-if (inside (rectOf x) at)
-  unfolding both
-  held-west h = rw (lt-leb (x .west) east h)
+before-next : (low i x : ℕ) → low ≤ i → one-if (before low (i + 1) x) ≡ one-if (before low i x) + one-if (eqb x i)
+unfolding both
+before-next low i x h =
+    by-cases (leb low x)
+    (λ t. by-cases (ltb x i)
+    (λ u. let g = ltb-true x i u in rw (t, u, lt-ltb x (i + 1) (omega arith), ne-eqb x i (omega arith)))
+    (λ u. let g = ltb-false x i u in
+    by-cases (eqb x i)
+    (λ v. rw (t, u, v, lt-ltb x (i + 1) (omega (arith, eqb-true x i v))))
+    (λ v. rw (t, u, v, le-ltb x (i + 1) (omega (arith, eqb-false x i v))))))
+    (λ t. let g = leb-false low x t in rw (t, ne-eqb x i (omega arith)))
 
-  pub held-east : x .west ≤ east → x .east < east → 0 ≡ one-if (inside (rectOf x) at)
-  unfolding both
-  held-east h k = rw (le-leb (x .west) east h, lt-leb east (x .east) k)
+before-end : (low high i x : ℕ) → high < i → i ≤ max low (high + 1) → before low i x ≡ both (leb low x) (leb x high)
+unfolding both
+before-end low high i x h k =
+    by-cases (leb low x)
+    (λ t. let l = leb-true low x t in
+    by-cases (leb x high)
+    (λ u. rw (t, u, lt-ltb x i (omega (arith, leb-true x high u))))
+    (λ u. rw (t, u, le-ltb x i (omega (arith, leb-false x high u)))))
+    (λ t. rw t)
 
-  module _ (west : x .west ≤ east) (east′ : east ≤ x .east) where
-    pub held-south : north < x .south → 0 ≡ one-if (inside (rectOf x) at)
-    unfolding both
-    held-south h = rw (le-leb (x .west) east west, le-leb east (x .east) east′, lt-leb (x .south) north h)
+sum-left : (a b c d : Bool) → one-if a ≡ one-if b + one-if c → one-if (both a d) ≡ one-if (both b d) + one-if (both c d)
+unfolding both
+sum-left true true c d e = by-cases c (λ t. absurd (omega (arith, ap one-if t))) (λ t. rw t (omega arith))
+sum-left true false c d e = by-cases c (λ t. rw t (omega arith)) (λ t. absurd (omega (arith, ap one-if t)))
+sum-left false true c d e = absurd (omega arith)
+sum-left false false c d e = by-cases c (λ t. absurd (omega (arith, ap one-if t))) (λ t. rw t (omega arith))
 
-    pub held-north : x .south ≤ north → x .north < north → 0 ≡ one-if (inside (rectOf x) at)
-    unfolding both
-    held-north h k = rw (le-leb (x .west) east west, le-leb east (x .east) east′, le-leb (x .south) north h, lt-leb north (x .north) k)
+sum-right : (d a b c : Bool) → one-if a ≡ one-if b + one-if c → one-if (both d a) ≡ one-if (both d b) + one-if (both d c)
+unfolding both
+sum-right true a b c e = e
+sum-right false a b c e = omega arith
 
-    pub held-there : x .south ≤ north → north ≤ x .north → 1 ≡ one-if (inside (rectOf x) at)
-    unfolding both
-    held-there h k = rw (le-leb (x .west) east west, le-leb east (x .east) east′, le-leb (x .south) north h, le-leb north (x .north) k)
+-- ---- a table raised
 
--- 1 where a slot holds the place
-abbrev pub holds : ℕ → ℕ → Slot → ℕ
-holds east north x = one-if (inside (rectOf x) (record { east = east; north = north }))
+raised-same : {t : List ℕ} (f : Box → ℕ) → length t ≡ tableSize → ((m : Box) → f m ≡ 0) → Raised t t f
+raised-same f l z = record { size = l; held = λ m a b. omega (arith, z m) }
 
-pub holding-end : (d : Directory) {i sum : ℕ} (east north : ℕ) → Counted (holds east north) (d .slots) (d .n) i sum → d .n ≤ i → sum ≡ holding (record { east = east; north = north }) (rectsIn d)
-unfolding holding slotsIn
-holding-end d east north r h = count-end r h ∙ sym (sum-map (λ (q : Rect). one-if (inside q (record { east = east; north = north }))) rectOf (take (d .n) (d .slots)))
+raised-ext : {t u : List ℕ} {f : Box → ℕ} (g : Box → ℕ) → Raised t u f → ((m : Box) → f m ≡ g m) → Raised t u g
+raised-ext g r e = record { size = r .size; held = λ m a b. omega (arith, r .held m a b, e m) }
 
--- ---- the cells of a row
+raised-then : {t u v : List ℕ} {f g : Box → ℕ} (h : Box → ℕ) → Raised t u f → Raised u v g → ((m : Box) → h m ≡ f m + g m) → Raised t v h
+raised-then h r s e = record { size = s .size; held = λ m a b. omega (arith, r .held m a b, s .held m a b, e m) }
 
-module _ (x : Slot) (north : ℕ) where
-  pub reach-south : north < x .south → 0 ≡ one-if (inRow north x)
-  unfolding both
-  reach-south h = rw (lt-leb (x .south) north h)
-
-  pub reach-north : x .south ≤ north → x .north < north → 0 ≡ one-if (inRow north x)
-  unfolding both
-  reach-north h k = rw (le-leb (x .south) north h, lt-leb north (x .north) k)
-
-  pub reach-there : x .south ≤ north → north ≤ x .north → 1 ≡ one-if (inRow north x)
-  unfolding both
-  reach-there h k = rw (le-leb (x .south) north h, le-leb north (x .north) k)
-
--- of the first i the ones that reach are kept, one after the other
-pub record Kept (d : Directory) (north i kept : ℕ) (slots : List Slot) : Type 0 where
-  pub fits : d .n ≤ maxCells
-  pub given : length (d .slots) ≡ maxCells
-  pub size : length slots ≡ maxCells
-  pub list : take kept slots ≡ filter (inRow north) (take i (d .slots))
-
-pub keep-start : (d : Directory) (north : ℕ) → length (d .slots) ≡ maxCells → d .n ≤ maxCells → Kept d north 0 0 (d .slots)
-unfolding filter
-keep-start d north l h = record { fits = h; given = l; size = l; list = refl }
-
-pub keep-turn : {d : Directory} {north i kept e : ℕ} {slots : List Slot} → Kept d north i kept slots → i < d .n → kept ≤ i → e ≡ one-if (inRow north (getD (d .slots) i noSlot)) → Kept d north (i + 1) (kept + e) (set slots kept (getD (d .slots) i noSlot))
-keep-turn {d} {north} {i} {kept} {e} {slots} r more room said =
-    let x = getD (d .slots) i noSlot in
-    let next : filter (inRow north) (take (i + 1) (d .slots)) ≡ filter (inRow north) (take i (d .slots)) ++ keep (inRow north x) x [] =
-    ap (filter (inRow north)) (ap (λ (k : ℕ). take k (d .slots)) (add-one i) ∙ take-suc (d .slots) i noSlot (omega (arith, r .fits, r .given))) ∙ filter-last (inRow north) (take i (d .slots)) x in
-    record {
-      fits = r .fits;
-      given = r .given;
-      size = length-set slots kept x ∙ r .size;
-      list = by-cases (inRow north x)
-          (λ t. let k : kept + e ≡ suc kept = omega (arith, said, ap one-if t) in
-          ap (λ (n : ℕ). take n (set slots kept x)) k ∙ take-suc-set slots kept x (omega (arith, r .fits, r .size)) ∙ ap (λ (l : List Slot). l ++ (x ∷ [])) (r .list) ∙ ap (λ (b : Bool). filter (inRow north) (take i (d .slots)) ++ keep b x []) (sym t) ∙ sym next)
-          (λ t. let k : kept + e ≡ kept = omega (arith, said, ap one-if t) in
-          ap (λ (n : ℕ). take n (set slots kept x)) k ∙ take-set-le kept slots kept x (omega arith) ∙ r .list ∙ sym (append-nil (filter (inRow north) (take i (d .slots)))) ∙ ap (λ (b : Bool). filter (inRow north) (take i (d .slots)) ++ keep b x []) (sym t) ∙ sym next);
-    }
-
-pub keep-end : {d : Directory} {north i kept : ℕ} {slots : List Slot} → Kept d north i kept slots → i ≤ d .n → d .n ≤ i → slotsIn (record { n = kept; slots = slots }) ≡ filter (inRow north) (slotsIn d)
-unfolding slotsIn
-keep-end {d} {north} {i} r h k = let e : i ≡ d .n = omega arith in r .list ∙ ap (λ (n : ℕ). filter (inRow north) (take n (d .slots))) e
-
--- no other cell holds a place of the row
-row-holding : (d row : Directory) (east north : ℕ) → slotsIn row ≡ filter (inRow north) (slotsIn d) → holding (record { east = east; north = north }) (rectsIn row) ≡ holding (record { east = east; north = north }) (rectsIn d)
-unfolding holding
-row-holding d row east north e =
-    let f : Slot → ℕ = holds east north in
-    let g : Rect → ℕ = λ q. one-if (inside q (record { east = east; north = north })) in
-    omega (
-      arith,
-      sum-map g rectOf (slotsIn row),
-      sum-map g rectOf (slotsIn d),
-      ap (sumBy f) e,
-      sum-filter f (inRow north) (slotsIn d),
-      sum-filter-ext f (λ _. 0) (λ x. not (inRow north x)) (slotsIn d) (λ x t. outside (within (record { low = x .west; high = x .east }) east) (inRow north x) (not-true (inRow north x) t)),
-      sum-const 0 (filter (λ x. not (inRow north x)) (slotsIn d)),
-    )
-  where
-    outside : (a b : Bool) → b ≡ false → one-if (both a b) ≡ 0
-    outside a b t = ap one-if (both-false a t)
-
-row-same : (easts : List ℕ) (d row : Directory) (north : ℕ) → slotsIn row ≡ filter (inRow north) (slotsIn d) → rowTiled easts (rectsIn row) north ≡ rowTiled easts (rectsIn d) north
-unfolding rowTiled
-row-same easts d row north e =
-    allTo-ext (suc (length easts)) (λ i. eqb (holding (record { east = stripeLow easts i; north = north }) (rectsIn row)) 1) (λ i. eqb (holding (record { east = stripeLow easts i; north = north }) (rectsIn d)) 1)
-    (λ i h. ap (λ (n : ℕ). eqb n 1) (row-holding d row (stripeLow easts i) north e))
-
--- ---- the corner of a stripe
-
-module _ (c : CutList) (i : ℕ) where
-  pub corner-first : i ≡ 0 → 0 ≡ stripeLow (cutsIn c) i
-  unfolding stripeLow
-  corner-first e = ap (λ (j : ℕ). getD (0 ∷ cutsIn c) j 0) (sym e)
-
-  pub corner-cut : i ≢ 0 → i ≤ c .n → getD (c .at) (i - 1) 0 ≡ stripeLow (cutsIn c) i
-  unfolding stripeLow cutsIn
-  corner-cut z h =
-      let e : suc (i - 1) ≡ i = omega arith in
-      sym (getD-take (c .n) (c .at) (i - 1) 0 (omega arith)) ∙ ap (λ (j : ℕ). getD (0 ∷ take (c .n) (c .at)) j 0) e
+-- one memory cell more
+raised-set : (u : List ℕ) (i row x : ℕ) → length u ≡ tableSize → i < maxStripes → row < maxStripes → x ≡ min (getD u (maxStripes * row + i) 0 + 1) several → Raised u (set u (maxStripes * row + i) x) (λ m. one-if (both (eqb (m .east) i) (eqb (m .north) row)))
+unfolding both
+raised-set u i row x l h k q = record {
+  size = length-set u (maxStripes * row + i) x ∙ l;
+  held = λ m a b. by-cases (eqb (m .east) i)
+      (λ t. by-cases (eqb (m .north) row)
+      (λ v. let p : boxAt m ≡ maxStripes * row + i = omega (arith, eqb-true (m .east) i t, eqb-true (m .north) row v) in
+      rw (t, v) (omega (
+        arith,
+        q,
+        ap (λ (j : ℕ). getD u j 0) p,
+        ap (λ (j : ℕ). getD (set u (maxStripes * row + i) x) j 0) p,
+        getD-set-same u (maxStripes * row + i) x 0 (omega (arith, l)),
+      )))
+      (λ v. rw (t, v) (omega (arith, getD-set-other u (maxStripes * row + i) (boxAt m) x 0 (omega (arith, eqb-false (m .north) row v))))))
+      (λ t. rw t (omega (arith, getD-set-other u (maxStripes * row + i) (boxAt m) x 0 (omega (arith, eqb-false (m .east) i t)))));
+}
 
 -- ---- a row
+
+-- its memory cells from stripe west on, up to before i
+unfoldable pub rowTo : ℕ → ℕ → ℕ → Box → ℕ
+rowTo west i row m = one-if (both (before west i (m .east)) (eqb (m .north) row))
+
+pub record RowMarked (west row : ℕ) (t : List ℕ) (i : ℕ) (u : List ℕ) : Type 0 where
+  pub raised : Raised t u (rowTo west i row)
+
+pub row-start : {t : List ℕ} (west row : ℕ) → length t ≡ tableSize → RowMarked west row t west t
+unfolding rowTo both
+row-start west row l = record { raised = raised-same (rowTo west west row) l (λ m. ap (λ (b : Bool). one-if (both b (eqb (m .north) row))) (before-none west (m .east))) }
+
+module _ {west row : ℕ} {t : List ℕ} {i : ℕ} {u : List ℕ} (r : RowMarked west row t i u) where
+  pub row-turn : {x east : ℕ} → west ≤ i → i ≤ east → east < maxStripes → row < maxStripes → x ≡ min (getD u (maxStripes * row + i) 0 + 1) several → RowMarked west row t (i + 1) (set u (maxStripes * row + i) x)
+  unfolding rowTo
+  row-turn {x} w h e k q = record {
+    raised = raised-then (rowTo west (i + 1) row) (r .raised) (raised-set u i row x (r .raised .size) (omega arith) k q)
+        (λ m. sum-left (before west (i + 1) (m .east)) (before west i (m .east)) (eqb (m .east) i) (eqb (m .north) row) (before-next west i (m .east) w));
+  }
+
+  pub row-end : {east : ℕ} → east < i → i ≤ max west (east + 1) → Raised t u (inRow west east row)
+  unfolding rowTo inRow
+  row-end {east} h k = raised-ext (inRow west east row) (r .raised) (λ m. ap (λ (b : Bool). one-if (both b (eqb (m .north) row))) (before-end west east i (m .east) h k))
+
+-- ---- a rectangle of stripes
+
+-- its rows from stripe south on, up to before j
+unfoldable pub cellTo : ℕ → ℕ → ℕ → ℕ → Box → ℕ
+cellTo west east south j m = one-if (both (both (leb west (m .east)) (leb (m .east) east)) (before south j (m .north)))
+
+pub record CellMarked (west east south : ℕ) (t : List ℕ) (j : ℕ) (u : List ℕ) : Type 0 where
+  pub raised : Raised t u (cellTo west east south j)
+
+none-right : (a : Bool) {b : Bool} → b ≡ false → one-if (both a b) ≡ 0
+none-right a e = ap one-if (both-false a e)
+
+pub cell-start : {t : List ℕ} (west east south : ℕ) → length t ≡ tableSize → CellMarked west east south t south t
+unfolding cellTo
+cell-start west east south l = record { raised = raised-same (cellTo west east south south) l (λ m. none-right (both (leb west (m .east)) (leb (m .east) east)) (before-none south (m .north))) }
+
+module _ {west east south : ℕ} {t : List ℕ} {j : ℕ} {u : List ℕ} (r : CellMarked west east south t j u) where
+  pub cell-turn : {v : List ℕ} → south ≤ j → Raised u v (inRow west east j) → CellMarked west east south t (j + 1) v
+  unfolding cellTo inRow
+  cell-turn w q = record {
+    raised = raised-then (cellTo west east south (j + 1)) (r .raised) q
+        (λ m. sum-right (both (leb west (m .east)) (leb (m .east) east)) (before south (j + 1) (m .north)) (before south j (m .north)) (eqb (m .north) j) (before-next south j (m .north) w));
+  }
+
+  pub cell-end : {north : ℕ} → north < j → j ≤ max south (north + 1) → Raised t u (inStripes west east south north)
+  unfolding cellTo inStripes
+  cell-end {north} h k = raised-ext (inStripes west east south north) (r .raised) (λ m. ap (λ (b : Bool). one-if (both (both (leb west (m .east)) (leb (m .east) east)) b)) (before-end south north j (m .north) h k))
+
+-- ---- the cells
+
+-- those up to i have added theirs
+pub record Marked (easts norths : CutList) (d : Directory) (t : List ℕ) (i : ℕ) (u : List ℕ) : Type 0 where
+  pub fits : d .n ≤ length (d .slots)
+  pub raised : Raised t u (holders (cutsBy easts norths) (take i (rectsIn d)))
+
+pub marked-start : {t : List ℕ} (easts norths : CutList) (d : Directory) → length (d .slots) ≡ maxCells → d .n ≤ maxCells → length t ≡ tableSize → Marked easts norths d t 0 t
+unfolding holders holdingBox
+marked-start easts norths d l h k = record {
+  fits = omega arith;
+  raised = raised-same (holders (cutsBy easts norths) []) k (λ m. sum-nil (λ (r : Rect). one-if (holdsBox (cutsBy easts norths) m r)));
+}
+
+length-rects : (d : Directory) → d .n ≤ length (d .slots) → length (rectsIn d) ≡ d .n
+unfolding slotsIn
+length-rects d h = length-map (take (d .n) (d .slots)) rectOf ∙ length-take-le (d .n) (d .slots) h
+
+rect-at : (d : Directory) (i : ℕ) → i < d .n → getD (rectsIn d) i (rectOf noSlot) ≡ rectOf (getD (d .slots) i noSlot)
+unfolding slotsIn
+rect-at d i h = List·getD-map rectOf (take (d .n) (d .slots)) i noSlot ∙ ap rectOf (getD-take (d .n) (d .slots) i noSlot h)
+
+-- a cell's memory cells are those of its stripes
+pub slot-held : (easts norths : CutList) (x : Slot) {t u : List ℕ} {west east south north : ℕ}
+    → west ≡ stripe (take (easts .n) (easts .at)) (x .west) → east ≡ stripe (take (easts .n) (easts .at)) (x .east)
+    → south ≡ stripe (take (norths .n) (norths .at)) (x .south) → north ≡ stripe (take (norths .n) (norths .at)) (x .north)
+    → Raised t u (inStripes west east south north) → Raised t u (holders (cutsBy easts norths) (rectOf x ∷ []))
+unfolding inStripes holders holdingBox sumBy holdsBox cutsIn
+slot-held easts norths x {west = west} {east = east} {south = south} {north = north} w e s n q =
+    raised-ext (holders (cutsBy easts norths) (rectOf x ∷ [])) q
+    (λ m. let same : inStripes west east south north m ≡ one-if (holdsBox (cutsBy easts norths) m (rectOf x)) =
+    ap₂ (λ (a b : Bool). one-if (both a b))
+    (ap₂ (λ (a b : ℕ). both (leb a (m .east)) (leb (m .east) b)) w e)
+    (ap₂ (λ (a b : ℕ). both (leb a (m .north)) (leb (m .north) b)) s n) in
+    omega (arith, same))
+
+holders-last : (cuts : Cuts) (rects : List Rect) (i : ℕ) (m : Box) (x : Rect) → i < length rects → holders cuts (take (i + 1) rects) m ≡ holders cuts (take i rects) m + holders cuts (getD rects i x ∷ []) m
+unfolding holders holdingBox
+holders-last cuts rects i m x h = rw (add-one, take-suc rects i x h) (sum-append (λ (r : Rect). one-if (holdsBox cuts m r)) (take i rects) (getD rects i x ∷ []))
+
+module _ {easts norths : CutList} {d : Directory} {t u : List ℕ} {i : ℕ} (r : Marked easts norths d t i u) where
+  pub marked-turn : {v : List ℕ} → i < d .n → Raised u v (holders (cutsBy easts norths) (rectOf (getD (d .slots) i noSlot) ∷ [])) → Marked easts norths d t (i + 1) v
+  marked-turn more q = record {
+    fits = r .fits;
+    raised = raised-then (holders (cutsBy easts norths) (take (i + 1) (rectsIn d))) (r .raised) q
+        (λ m. holders-last (cutsBy easts norths) (rectsIn d) i m (rectOf noSlot) (omega (arith, length-rects d (r .fits)))
+        ∙ ap (λ (x : Rect). holders (cutsBy easts norths) (take i (rectsIn d)) m + holders (cutsBy easts norths) (x ∷ []) m) (rect-at d i more));
+  }
+
+  pub marked-end : d .n ≤ i → Raised t u (holders (cutsBy easts norths) (rectsIn d))
+  marked-end h =
+      let a : take i (rectsIn d) ≡ rectsIn d = take-all i (rectsIn d) (omega (arith, length-rects d (r .fits))) in
+      raised-ext (holders (cutsBy easts norths) (rectsIn d)) (r .raised) (λ m. ap (λ (l : List Rect). holders (cutsBy easts norths) l m) a)
+
+-- ---- held once
+
+abbrev pub onceAt : List ℕ → ℕ → ℕ → Bool
+onceAt table row i = eqb (getD table (maxStripes * row + i) 0) 1
+
+-- the memory cells of the row up to i are
+pub record RowTo (table : List ℕ) (row i : ℕ) : Type 0 where
+  pub done : allTo i (onceAt table row) ≡ true
+
+pub once-start : (table : List ℕ) (row : ℕ) → RowTo table row 0
+once-start table row = record { done = allTo-zero (onceAt table row) }
+
+module _ {table : List ℕ} {row i : ℕ} (r : RowTo table row i) where
+  pub once-fails : {columns : ℕ} → i < columns → getD table (maxStripes * row + i) 0 ≢ 1 → false ≡ rowOnce table columns row
+  unfolding rowOnce
+  once-fails {columns} h f = sym (allTo-false columns (onceAt table row) i h (ne-eqb (getD table (maxStripes * row + i) 0) 1 f))
+
+  pub once-turn : getD table (maxStripes * row + i) 0 ≡ 1 → RowTo table row (i + 1)
+  once-turn f = record { done = rw add-one (allTo-suc i (onceAt table row) ∙ both-intro (r .done) (eq-eqb (getD table (maxStripes * row + i) 0) 1 f)) }
+
+  pub once-end : {columns : ℕ} → columns ≤ i → i ≤ columns → true ≡ rowOnce table columns row
+  unfolding rowOnce
+  once-end {columns} h k = let e : i ≡ columns = omega arith in sym (r .done) ∙ ap (λ (j : ℕ). allTo j (onceAt table row)) e
+
+-- the rows up to j are
+pub record RowsTo (table : List ℕ) (columns j : ℕ) : Type 0 where
+  pub done : allTo j (rowOnce table columns) ≡ true
+
+pub rows-start : (table : List ℕ) (columns : ℕ) → RowsTo table columns 0
+rows-start table columns = record { done = allTo-zero (rowOnce table columns) }
+
+module _ {table : List ℕ} {columns j : ℕ} (r : RowsTo table columns j) where
+  module _ {b : Bool} (said : b ≡ rowOnce table columns j) where
+    pub rows-fail : {rows : ℕ} → j < rows → not b ≡ true → false ≡ rowsOnce table columns rows
+    unfolding rowsOnce
+    rows-fail {rows} h f = sym (allTo-false rows (rowOnce table columns) j h (sym said ∙ not-true b f))
+
+    pub rows-turn : not b ≡ false → RowsTo table columns (j + 1)
+    rows-turn f = record { done = rw add-one (allTo-suc j (rowOnce table columns) ∙ both-intro (r .done) (sym said ∙ not-false b f)) }
+
+  pub rows-end : {rows : ℕ} → rows ≤ j → j ≤ rows → true ≡ rowsOnce table columns rows
+  unfolding rowsOnce
+  rows-end {rows} h k = let e : j ≡ rows = omega arith in sym (r .done) ∙ ap (λ (i : ℕ). allTo i (rowOnce table columns)) e
+
+-- ---- each memory cell held once, and the clause
+
+-- a table from nothing has its counts, as far as they are 1
+held-once : {t : List ℕ} {f : Box → ℕ} → Raised (replicate tableSize 0) t f → (m : Box) → m .east < maxStripes → m .north < maxStripes → eqb (getD t (boxAt m) 0) 1 ≡ eqb (f m) 1
+held-once {t} {f} r m a b =
+    let h = r .held m a b in
+    let z = zero-at tableSize (boxAt m) in
+    by-cases (eqb (f m) 1)
+    (λ e. eq-eqb (getD t (boxAt m) 0) 1 (omega (arith, h, z, eqb-true (f m) 1 e)) ∙ sym e)
+    (λ e. ne-eqb (getD t (boxAt m) 0) 1 (omega (arith, h, z, eqb-false (f m) 1 e)) ∙ sym e)
+
+rows-held : {t : List ℕ} {f : Box → ℕ} (columns rows : ℕ) → columns ≤ maxStripes → rows ≤ maxStripes → Raised (replicate tableSize 0) t f → rowsOnce t columns rows ≡ allTo rows (λ j. allTo columns (λ i. eqb (f (record { east = i; north = j })) 1))
+unfolding rowsOnce rowOnce
+rows-held {t} {f} columns rows h k r =
+    allTo-ext rows (rowOnce t columns) (λ j. allTo columns (λ i. eqb (f (record { east = i; north = j })) 1))
+    (λ j b. allTo-ext columns (onceAt t j) (λ i. eqb (f (record { east = i; north = j })) 1) (λ i a. held-once r (record { east = i; north = j }) (omega arith) (omega arith)))
+
+-- the test, row by row
+boxes-rows : (cuts : Cuts) (rects : List Rect) → tileBoxesTest cuts rects ≡ allTo (suc (length (cuts .norths))) (λ j. allTo (suc (length (cuts .easts))) (λ i. eqb (holders cuts rects (record { east = i; north = j })) 1))
+unfolding tileBoxesTest boxes holders
+boxes-rows cuts rects =
+    let p : Box → Bool = λ m. eqb (holdingBox cuts m rects) 1 in
+    let row : ℕ → List Box = λ j. tab (suc (length (cuts .easts))) (λ i. record { east = i; north = j }) in
+    all-concat p (tab (suc (length (cuts .norths))) row)
+    ∙ all-tab (all p) (suc (length (cuts .norths))) row []
+    ∙ allTo-ext (suc (length (cuts .norths))) (λ j. all p (row j)) (λ j. allTo (suc (length (cuts .easts))) (λ i. p (record { east = i; north = j })))
+    (λ j h. all-tab p (suc (length (cuts .easts))) (λ i. record { east = i; north = j }) (record { east = 0; north = 0 }))
 
 length-cuts : (c : CutList) → length (c .at) ≡ maxCuts → c .n ≤ maxCuts → length (cutsIn c) ≡ c .n
 unfolding cutsIn
 length-cuts c l h = length-take-le (c .n) (c .at) (omega arith)
 
-abbrev cornerOnce : List ℕ → List Rect → ℕ → ℕ → Bool
-cornerOnce easts rects north i = eqb (holding (record { east = stripeLow easts i; north = north }) rects) 1
+cuts-pass : (c : CutList) → cutsSound c ≡ true → RisingCuts 0 (cutsIn c) × Each (λ x. x ≤ lastMetre) (cutsIn c)
+unfolding cutsSound
+cuts-pass c t = let h = cuts-true (cutsIn c) (both-right (slotsTest number maxCuts (c .n) (c .at)) (cutsTest (cutsIn c)) t) in (h .1, h .2)
 
--- the corners west of stripe i lie in one cell each
-pub record RowTo (easts : CutList) (d : Directory) (north i : ℕ) : Type 0 where
-  pub size : length (cutsIn easts) ≡ easts .n
-  pub done : allTo i (cornerOnce (cutsIn easts) (rectsIn d) north) ≡ true
+edges-pass : (easts norths : CutList) (d : Directory) → edgesSound easts norths d ≡ true → Each (WholeBoxes (cutsBy easts norths)) (rectsIn d)
+unfolding edgesSound
+edges-pass easts norths d t = all-each (edgesTest (cutsBy easts norths)) (WholeBoxes (cutsBy easts norths)) (rectsIn d) (edges-true (cutsBy easts norths)) t
 
-pub row-start : (easts : CutList) (d : Directory) (north : ℕ) → length (easts .at) ≡ maxCuts → easts .n ≤ maxCuts → RowTo easts d north 0
-row-start easts d north l h = record { size = length-cuts easts l h; done = allTo-zero (cornerOnce (cutsIn easts) (rectsIn d) north) }
+module _ (easts norths : CutList) (d : Directory) (east : cutsSound easts ≡ true) (north : cutsSound norths ≡ true) (edged : edgesSound easts norths d ≡ true) where
+  stripes-tile : tileBoxesTest (cutsBy easts norths) (rectsIn d) ≡ tileSound easts norths d
+  unfolding tileSound
+  stripes-tile =
+      tile-boxes (cutsBy easts norths) (rectsIn d)
+      (by-axis (λ a. Each (λ x. x ≤ lastMetre) (cutsOf a (cutsBy easts norths))) (cuts-pass easts east .1) (cuts-pass norths north .1))
+      (by-axis (λ a. RisingCuts 0 (cutsOf a (cutsBy easts norths))) (cuts-pass easts east .0) (cuts-pass norths north .0))
+      (edges-pass easts norths d edged)
 
-module _ {easts : CutList} {d : Directory} {north i : ℕ} (r : RowTo easts d north i) where
-  module _ (more : i ≤ easts .n) {east h : ℕ} (low : east ≡ stripeLow (cutsIn easts) i) (said : h ≡ holding (record { east = east; north = north }) (rectsIn d)) where
-    held-here : h ≡ holding (record { east = stripeLow (cutsIn easts) i; north = north }) (rectsIn d)
-    held-here = said ∙ ap (λ (e : ℕ). holding (record { east = e; north = north }) (rectsIn d)) low
-
-    pub row-fails : h ≢ 1 → false ≡ rowTiled (cutsIn easts) (rectsIn d) north
-    unfolding rowTiled
-    row-fails f = sym (allTo-false (suc (length (cutsIn easts))) (cornerOnce (cutsIn easts) (rectsIn d) north) i (omega (arith, r .size)) (ne-eqb (holding (record { east = stripeLow (cutsIn easts) i; north = north }) (rectsIn d)) 1 (λ z. f (held-here ∙ z))))
-
-    pub row-turn : h ≡ 1 → RowTo easts d north (i + 1)
-    row-turn f = record {
-      size = r .size;
-      done = rw add-one (allTo-suc i (cornerOnce (cutsIn easts) (rectsIn d) north) ∙ both-intro (r .done) (eq-eqb (holding (record { east = stripeLow (cutsIn easts) i; north = north }) (rectsIn d)) 1 (sym held-here ∙ f)));
-    }
-
-  pub row-end : easts .n < i → i ≤ easts .n + 1 → true ≡ rowTiled (cutsIn easts) (rectsIn d) north
-  unfolding rowTiled
-  row-end h k =
-      let e : i ≡ suc (length (cutsIn easts)) = omega (arith, r .size) in
-      sym (r .done) ∙ ap (λ (j : ℕ). allTo j (cornerOnce (cutsIn easts) (rectsIn d) north)) e
-
--- ---- all rows
-
-abbrev pub rowOnce : CutList → CutList → Directory → ℕ → Bool
-rowOnce easts norths d j = rowTiled (cutsIn easts) (rectsIn d) (stripeLow (cutsIn norths) j)
-
-tile-rows : (easts norths : CutList) (d : Directory) → tileSound easts norths d ≡ allTo (suc (length (cutsIn norths))) (rowOnce easts norths d)
-unfolding tileSound tileTest boxes cornerOf rowTiled
-tile-rows easts norths d =
-    let p : Box → Bool = λ m. eqb (holding (cornerOf (cutsBy easts norths) m) (rectsIn d)) 1 in
-    let row : ℕ → List Box = λ j. tab (suc (length (cutsIn easts))) (λ i. record { east = i; north = j }) in
-    all-concat p (tab (suc (length (cutsIn norths))) row)
-    ∙ all-tab (all p) (suc (length (cutsIn norths))) row []
-    ∙ allTo-ext (suc (length (cutsIn norths))) (λ j. all p (row j)) (rowOnce easts norths d) (λ j h. all-tab p (suc (length (cutsIn easts))) (λ i. record { east = i; north = j }) (record { east = 0; north = 0 }))
-
--- the rows south of stripe j are tiled
-pub record TileTo (easts norths : CutList) (d : Directory) (j : ℕ) : Type 0 where
-  pub size : length (cutsIn norths) ≡ norths .n
-  pub done : allTo j (rowOnce easts norths d) ≡ true
-
-pub tile-start : (easts norths : CutList) (d : Directory) → length (norths .at) ≡ maxCuts → norths .n ≤ maxCuts → TileTo easts norths d 0
-tile-start easts norths d l h = record { size = length-cuts norths l h; done = allTo-zero (rowOnce easts norths d) }
-
-module _ {easts norths : CutList} {d : Directory} {j : ℕ} (r : TileTo easts norths d j) where
-  module _ (more : j ≤ norths .n) {north : ℕ} (row : Directory) {b : Bool} (low : north ≡ stripeLow (cutsIn norths) j) (kept : slotsIn row ≡ filter (inRow north) (slotsIn d)) (said : b ≡ rowTiled (cutsIn easts) (rectsIn row) north) where
-    row-here : b ≡ rowOnce easts norths d j
-    row-here = said ∙ row-same (cutsIn easts) d row north kept ∙ ap (rowTiled (cutsIn easts) (rectsIn d)) low
-
-    pub tile-fails : not b ≡ true → false ≡ tileSound easts norths d
-    tile-fails f = sym (tile-rows easts norths d ∙ allTo-false (suc (length (cutsIn norths))) (rowOnce easts norths d) j (omega (arith, r .size)) (sym row-here ∙ not-true b f))
-
-    pub tile-turn : not b ≡ false → TileTo easts norths d (j + 1)
-    tile-turn f = record { size = r .size; done = rw add-one (allTo-suc j (rowOnce easts norths d) ∙ both-intro (r .done) (sym row-here ∙ not-false b f)) }
-
-  pub tile-end : norths .n < j → j ≤ norths .n + 1 → true ≡ tileSound easts norths d
-  tile-end h k =
-      let e : j ≡ suc (length (cutsIn norths)) = omega (arith, r .size) in
-      sym (tile-rows easts norths d ∙ ap (λ (i : ℕ). allTo i (rowOnce easts norths d)) (sym e) ∙ r .done)
+  pub tile-end : {t : List ℕ} {b : Bool} → length (easts .at) ≡ maxCuts → length (norths .at) ≡ maxCuts → easts .n ≤ maxCuts → norths .n ≤ maxCuts
+      → Raised (replicate tableSize 0) t (holders (cutsBy easts norths) (rectsIn d)) → b ≡ rowsOnce t (easts .n + 1) (norths .n + 1) → b ≡ tileSound easts norths d
+  tile-end {t} k l h g r q =
+      let columns : suc (length (cutsIn easts)) ≡ easts .n + 1 = omega (arith, length-cuts easts k h) in
+      let rows : suc (length (cutsIn norths)) ≡ norths .n + 1 = omega (arith, length-cuts norths l g) in
+      q ∙ rows-held (easts .n + 1) (norths .n + 1) (omega arith) (omega arith) r
+      ∙ ap₂ (λ (a b : ℕ). allTo b (λ j. allTo a (λ i. eqb (holders (cutsBy easts norths) (rectsIn d) (record { east = i; north = j })) 1))) (sym columns) (sym rows)
+      ∙ sym (boxes-rows (cutsBy easts norths) (rectsIn d))
+      ∙ stripes-tile

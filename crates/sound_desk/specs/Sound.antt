@@ -3,15 +3,15 @@
 use mathlib.Core.Bool.{Bool, true}
 use mathlib.Core.List.{List, [], _∷_, map}
 use mathlib.Core.Path.{_≡_}
-use Prim.Native.Nat.{ℕ, suc, _+_, _-_}
+use Prim.Native.Nat.{ℕ, _+_, _-_, _*_, _<_, min}
 use lib.Dec.{eqb, leb, ltb}
-use lib.ListN.{length, take, drop}
+use lib.ListN.{length, getD, take, drop}
 use Rattle.terms.specs.Terms.{maxOn}
 use Rattle.lists.specs.Rows.{Rows}
 use Rattle.lists.specs.Sums.{sumBy}
-use Rattle.lists.specs.Tests.{both, either, all}
+use Rattle.lists.specs.Tests.{one-if, both, either, all}
 use Rattle.rules.specs.Limits.{maxCells, maxCuts, fullMemory}
-use Rattle.rules.specs.Grid.{within, Rect, Cuts, stripeLow}
+use Rattle.rules.specs.Grid.{within, Rect, Cuts, Box}
 use Rattle.rules.specs.Store.{Store, Report as StoreReport, Line as StoreLine}
 use Rattle.desk.specs.declared.CutList.{CutList}
 use Rattle.desk.specs.declared.Slot.{Slot}
@@ -26,7 +26,7 @@ use Rattle.desk.specs.Layout.{lineSlots}
 use Rattle.desk.specs.Views.{cutsIn, cutsBy, radiosOf, slotsIn}
 use Rattle.memo.specs.Memo.{lastOf, linesOf}
 use Rattle.mirror.specs.Loops.{risesTo, allTo}
-use Rattle.mirror.specs.Grid.{cutsTest, placeTest, edgesTest, holding, tileTest}
+use Rattle.mirror.specs.Grid.{cutsTest, placeTest, edgesTest, holdingBox, tileTest}
 use Rattle.mirror.specs.Cells.{numbersOf, edgesOf, numbersTest, roundTest}
 use Rattle.mirror.specs.Radios.{onTest, unmarkedTest, memoTest, lastTest, lastsTest}
 use Rattle.mirror.specs.Round.{tallyTest}
@@ -116,22 +116,50 @@ directorySound d = both (slotsTest slotWeight maxCells (d .n) (d .slots)) (names
 unfoldable pub edgesSound : CutList → CutList → Directory → Bool
 edgesSound easts norths d = all (edgesTest (cutsBy easts norths)) (rectsIn d)
 
--- a cell that reaches this north
-abbrev pub inRow : ℕ → Slot → Bool
-inRow north x = within (record { low = x .south; high = x .north }) north
+-- the stripes of a direction are at most so many
+abbrev pub maxStripes : ℕ
+maxStripes = 16
 
--- in the row of memory cells at this north, the corner of each lies in one cell
-unfoldable pub rowTiled : List ℕ → List Rect → ℕ → Bool
-rowTiled easts rects north = allTo (suc (length easts)) (λ i. eqb (holding (record { east = stripeLow easts i; north = north }) rects) 1)
+-- a table has a number for each memory cell
+abbrev pub tableSize : ℕ
+tableSize = maxStripes * maxStripes
+
+-- the place of a memory cell in it
+abbrev pub boxAt : Box → ℕ
+boxAt m = maxStripes * m .north + m .east
+
+-- what stands for any number above 1
+abbrev pub several : ℕ
+several = 2
+
+-- each memory cell is held by so many more
+pub record Raised (before after : List ℕ) (more : Box → ℕ) : Type 0 where
+  pub size : length after ≡ tableSize
+  pub held : (m : Box) → m .east < maxStripes → m .north < maxStripes → min (getD after (boxAt m) 0) several ≡ min (getD before (boxAt m) 0 + more m) several
+
+-- one more in a row of memory cells, from a stripe to a stripe
+unfoldable pub inRow : ℕ → ℕ → ℕ → Box → ℕ
+inRow west east row m = one-if (both (within (record { low = west; high = east }) (m .east)) (eqb (m .north) row))
+
+-- one more in a rectangle of stripes
+unfoldable pub inStripes : ℕ → ℕ → ℕ → ℕ → Box → ℕ
+inStripes west east south north m = one-if (both (within (record { low = west; high = east }) (m .east)) (within (record { low = south; high = north }) (m .north)))
+
+-- one more for each rectangle that has the memory cell
+unfoldable pub holders : Cuts → List Rect → Box → ℕ
+holders cuts rects m = holdingBox cuts m rects
+
+-- in a row of the table each of the first memory cells is held once
+unfoldable pub rowOnce : List ℕ → ℕ → ℕ → Bool
+rowOnce table columns row = allTo columns (λ i. eqb (getD table (maxStripes * row + i) 0) 1)
+
+unfoldable pub rowsOnce : List ℕ → ℕ → ℕ → Bool
+rowsOnce table columns rows = allTo rows (rowOnce table columns)
 
 unfoldable pub tileSound : CutList → CutList → Directory → Bool
 tileSound easts norths d = tileTest (cutsBy easts norths) (rectsIn d)
 
 -- ---- waiting reports against cuts and who is on
-
--- the stripes of a direction are at most so many
-abbrev pub maxStripes : ℕ
-maxStripes = 16
 
 unfoldable pub fewSound : CutList → CutList → Waiting → Bool
 fewSound easts norths w = fewTest (cutsBy easts norths) (reportsOf w)

@@ -1,20 +1,21 @@
 // The test of soundness as far as it looks at the desk alone. The desk may be in any condition: a count is tested before a slot is looked at.
+ghost use mathlib.Core.Bool.{true};
 ghost use mathlib.Core.Path.{_≡_};
-ghost use mathlib.Core.List.{map};
-ghost use Prim.Native.Nat.{_+_, _*_, _<_, _≤_};
+ghost use mathlib.Core.List.{[], _∷_, map};
+ghost use Prim.Native.Nat.{_+_, _*_, _<_, _≤_, min};
 ghost use lib.Dec.{eqb, leb, ltb};
 ghost use lib.ListN.{length, take};
 ghost use Rattle.terms.specs.Terms.{maxRadio, maxOn};
 ghost use Rattle.lists.specs.Rows.{Rising, find};
-ghost use Rattle.lists.specs.Sums.{filter, count};
+ghost use Rattle.lists.specs.Sums.{count};
 ghost use Rattle.lists.specs.Tests.{one-if, either, isSome};
 ghost use Rattle.rules.specs.Limits.{maxCells, maxCuts, fullMemory};
-ghost use Rattle.rules.specs.Grid.{inside, stripe, stripeLow};
+ghost use Rattle.rules.specs.Grid.{stripe};
 ghost use Rattle.desk.specs.Layout.{lineSlots};
-ghost use Rattle.desk.specs.Views.{cutsIn, cutsBy, radioRow, radiosOf, slotsIn, edgesOf as rectOf};
+ghost use Rattle.desk.specs.Views.{cutsIn, cutsBy, radioRow, radiosOf, edgesOf as rectOf};
 ghost use Rattle.mirror.specs.Loops.{risesTo};
-ghost use Rattle.mirror.specs.Grid.{lowTest, highTest, spanTest, edgesTest, holding};
-ghost use Rattle.sound_desk.specs.Sound.{weighs, climbs, mostField, number, cutsSound, onSound, reportWeight, reportTest, waitingSound, lineWeight, lineTest, memoSound, slotWeight, namesSound, directorySound, edgesSound, inRow, rowTiled, tileSound, maxStripes, fewSound, unmarkedSound, gridSound, radiosSound, deskSound};
+ghost use Rattle.mirror.specs.Grid.{lowTest, highTest, spanTest, edgesTest};
+ghost use Rattle.sound_desk.specs.Sound.{weighs, climbs, mostField, number, cutsSound, onSound, reportWeight, reportTest, waitingSound, lineWeight, lineTest, memoSound, slotWeight, namesSound, directorySound, edgesSound, maxStripes, tableSize, several, Raised, inRow, inStripes, holders, rowOnce, rowsOnce, tileSound, fewSound, unmarkedSound, gridSound, radiosSound, deskSound};
 ghost use Rattle.sound_desk.specs.Views.{rectsIn};
 use desk::CutList;
 use desk::Desk;
@@ -33,6 +34,10 @@ const LINE_SLOTS: usize = Desk::MAX_LINES + 1;
 const STRIPES: usize = Desk::MAX_CUTS + 1;
 
 const BOXES: usize = STRIPES * STRIPES;
+
+const ONCE: u8 = 1;
+
+const SEVERAL: u8 = 2;
 
 const MOST_IN_BOX: usize = Desk::FULL_BOX - 1;
 
@@ -397,118 +402,7 @@ fn edges_sound(easts: CutList, norths: CutList, d: Directory) -> bool
     true
 }
 
-// ---- tiling
-
-// 1 where the place lies in the cell, else 0.
-fn held(x: Slot, east: u16, north: u16) -> usize
-    ensures { λ r. ⌜ (r ≡ one-if (inside (rectOf x) (record { east = east; north = north }))) × (r ≤ 1) ⌝ }
-{
-    if east < x.west {
-        return 0;
-    }
-    if x.east < east {
-        return 0;
-    }
-    if north < x.south {
-        return 0;
-    }
-    if x.north < north {
-        return 0;
-    }
-    1
-}
-
-// How many cells hold the place.
-fn holding(d: Directory, east: u16, north: u16) -> usize
-    requires { ⌜ d .n ≤ maxCells ⌝ }
-    ensures { λ r. ⌜ r ≡ holding (record { east = east; north = north }) (rectsIn d) ⌝ }
-{
-    let mut sum: usize = 0;
-    let mut i: usize = 0;
-    while i < d.n {
-        sum = sum + held(d.slots[i], east, north);
-        i += 1;
-    }
-    sum
-}
-
-// The least coordinate of a stripe.
-fn corner(c: CutList, i: usize) -> u16
-    requires { ⌜ (c .n ≤ maxCuts) × (i ≤ c .n) ⌝ }
-    ensures { λ r. ⌜ r ≡ stripeLow (cutsIn c) i ⌝ }
-{
-    if i == 0 {
-        return 0;
-    }
-    let k = i - 1;
-    c.at[k]
-}
-
-// 1 where the cell reaches this north, else 0.
-fn reaches(x: Slot, north: u16) -> usize
-    ensures { λ r. ⌜ (r ≡ one-if (inRow north x)) × (r ≤ 1) ⌝ }
-{
-    if north < x.south {
-        return 0;
-    }
-    if x.north < north {
-        return 0;
-    }
-    1
-}
-
-// The cells that reach this north: a cell is put after those kept, and kept where it does.
-fn in_row(d: Directory, north: u16) -> Directory
-    requires { ⌜ d .n ≤ maxCells ⌝ }
-    ensures { λ r. ⌜ (slotsIn r ≡ filter (inRow north) (slotsIn d)) × (r .n ≤ maxCells) ⌝ }
-{
-    let mut row = d;
-    let mut kept: usize = 0;
-    let mut i: usize = 0;
-    while i < d.n {
-        let x = d.slots[i];
-        row.slots[kept] = x;
-        kept = kept + reaches(x, north);
-        i += 1;
-    }
-    row.n = kept;
-    row
-}
-
-// Whether each memory cell of a row lies in one cell.
-fn row_tiled(easts: CutList, d: Directory, north: u16) -> bool
-    requires { ⌜ (easts .n ≤ maxCuts) × (d .n ≤ maxCells) ⌝ }
-    ensures { λ r. ⌜ r ≡ rowTiled (cutsIn easts) (rectsIn d) north ⌝ }
-{
-    let mut i: usize = 0;
-    while i <= easts.n {
-        let east = corner(easts, i);
-        if holding(d, east, north) != 1 {
-            return false;
-        }
-        i += 1;
-    }
-    true
-}
-
-// Whether the cells tile the square.
-fn tile_sound(easts: CutList, norths: CutList, d: Directory) -> bool
-    requires { ⌜ (easts .n ≤ maxCuts) × (norths .n ≤ maxCuts) × (d .n ≤ maxCells) ⌝ }
-    ensures { λ r. ⌜ r ≡ tileSound easts norths d ⌝ }
-{
-    let mut j: usize = 0;
-    while j <= norths.n {
-        let north = corner(norths, j);
-        let row = in_row(d, north);
-        if !row_tiled(easts, row, north) {
-            return false;
-        }
-        j += 1;
-    }
-    true
-}
-
-// ---- fewer than 8 a memory cell
+// ---- the stripe of a coordinate
 
 // 1 where x is on the high side of the cut, else 0.
 fn past(cut: u16, x: u16) -> usize
@@ -530,6 +424,108 @@ fn stripe_of(slots: &[u16], n: usize, x: u16) -> usize
     }
     sum
 }
+
+// ---- tiling
+
+// One more, where 2 stands for any number above 1.
+fn one_more(x: u8) -> u8
+    ensures { λ r. ⌜ r ≡ min (x + 1) several ⌝ }
+{
+    if x < SEVERAL { x + 1 } else { SEVERAL }
+}
+
+// In a row of memory cells those from stripe `west` to `east` are held by one more.
+fn mark_row<'a>(table: &'a mut [u8; BOXES], row: usize, west: usize, east: usize)
+    requires { ⌜ (length (now table) ≡ tableSize) × (row < maxStripes) × (east < maxStripes) ⌝ }
+    ensures { λ _. ⌜ Raised (now (table .entry)) (now (table .exit)) (inRow west east row) ⌝ }
+{
+    let mut i = west;
+    while i <= east {
+        let k = STRIPES * row + i;
+        let before = table[k];
+        table[k] = one_more(before);
+        i += 1;
+    }
+}
+
+// So are the memory cells of a rectangle of stripes.
+fn mark_cell<'a>(table: &'a mut [u8; BOXES], west: usize, east: usize, south: usize, north: usize)
+    requires { ⌜ (length (now table) ≡ tableSize) × (east < maxStripes) × (north < maxStripes) ⌝ }
+    ensures { λ _. ⌜ Raised (now (table .entry)) (now (table .exit)) (inStripes west east south north) ⌝ }
+{
+    let mut j = south;
+    while j <= north {
+        mark_row(table, j, west, east);
+        j += 1;
+    }
+}
+
+// So are the memory cells of a cell.
+fn mark_slot<'a>(easts: CutList, norths: CutList, x: Slot, table: &'a mut [u8; BOXES])
+    requires { ⌜ (easts .n ≤ maxCuts) × (norths .n ≤ maxCuts) × (length (now table) ≡ tableSize) ⌝ }
+    ensures { λ _. ⌜ Raised (now (table .entry)) (now (table .exit)) (holders (cutsBy easts norths) (rectOf x ∷ [])) ⌝ }
+{
+    let west = stripe_of(&easts.at, easts.n, x.west);
+    let east = stripe_of(&easts.at, easts.n, x.east);
+    let south = stripe_of(&norths.at, norths.n, x.south);
+    let north = stripe_of(&norths.at, norths.n, x.north);
+    mark_cell(table, west, east, south, north);
+}
+
+// So are those of all cells.
+fn mark_cells<'a>(easts: CutList, norths: CutList, d: Directory, table: &'a mut [u8; BOXES])
+    requires { ⌜ (easts .n ≤ maxCuts) × (norths .n ≤ maxCuts) × (d .n ≤ maxCells) × (length (now table) ≡ tableSize) ⌝ }
+    ensures { λ _. ⌜ Raised (now (table .entry)) (now (table .exit)) (holders (cutsBy easts norths) (rectsIn d)) ⌝ }
+{
+    let mut i: usize = 0;
+    while i < d.n {
+        mark_slot(easts, norths, d.slots[i], table);
+        i += 1;
+    }
+}
+
+// Whether each memory cell of a row is held once.
+fn row_once<'a>(table: &'a [u8; BOXES], columns: usize, row: usize) -> bool
+    requires { ⌜ (length (now table) ≡ tableSize) × (columns ≤ maxStripes) × (row < maxStripes) ⌝ }
+    ensures { λ r. ⌜ r ≡ rowOnce (now (table .entry)) columns row ⌝ }
+{
+    let mut i: usize = 0;
+    while i < columns {
+        let k = STRIPES * row + i;
+        if table[k] != ONCE {
+            return false;
+        }
+        i += 1;
+    }
+    true
+}
+
+// Whether each memory cell is.
+fn rows_once<'a>(table: &'a [u8; BOXES], columns: usize, rows: usize) -> bool
+    requires { ⌜ (length (now table) ≡ tableSize) × (columns ≤ maxStripes) × (rows ≤ maxStripes) ⌝ }
+    ensures { λ r. ⌜ r ≡ rowsOnce (now (table .entry)) columns rows ⌝ }
+{
+    let mut j: usize = 0;
+    while j < rows {
+        if !row_once(table, columns, j) {
+            return false;
+        }
+        j += 1;
+    }
+    true
+}
+
+// Whether the cells tile the square: on cuts that rise, cells with edges on them.
+fn tile_sound(easts: CutList, norths: CutList, d: Directory) -> bool
+    requires { ⌜ (easts .n ≤ maxCuts) × (norths .n ≤ maxCuts) × (d .n ≤ maxCells) × (cutsSound easts ≡ true) × (cutsSound norths ≡ true) × (edgesSound easts norths d ≡ true) ⌝ }
+    ensures { λ r. ⌜ r ≡ tileSound easts norths d ⌝ }
+{
+    let mut table = [0u8; BOXES];
+    mark_cells(easts, norths, d, &mut table);
+    rows_once(&table, easts.n + 1, norths.n + 1)
+}
+
+// ---- fewer than 8 a memory cell
 
 // The place of a memory cell in a table of 16 by 16.
 fn box_of(easts: CutList, norths: CutList, east: u16, north: u16) -> usize

@@ -1,4 +1,4 @@
-use Rattle.sound_desk.proofs.DeskLaws.{cuts-room, cells-room, grid-east, grid-north, grid-cells, grid-edges, grid-tile}
+use Rattle.sound_desk.proofs.DeskLaws.{passed-true, cuts-room, cells-room, grid-east, grid-north, grid-cells, grid-edges, grid-tile}
 use borrow.Author.Needs.{needs}
 use Rattle.sound_desk.proofs.grid_sound.Statement.{statement}
 use Rattle.sound_desk.proofs.grid_sound.Tie as tie
@@ -28,7 +28,16 @@ returns-4 : tie.Need-returns-4
 returns-4 c = search grid-edges
 
 tile-sound-requires : tie.Need-tile-sound-requires
-tile-sound-requires c κs = (search cuts-room, search cuts-room, search cells-room)
+tile-sound-requires c κs =
+    let north = c .before .before .before .before in
+    let east = north .before .before in (
+      search cuts-room,
+      search cuts-room,
+      search cells-room,
+      passed-true (east .before .cuts-sound .ensures) (east .if1 .left),
+      passed-true (north .before .cuts-sound2 .ensures) (north .if2 .left),
+      passed-true (c .before .edges-sound .ensures) (c .if4 .left),
+    )
 
 returns-5 : tie.Need-returns-5
 returns-5 c = search grid-tile
