@@ -2,6 +2,7 @@
 ghost use mathlib.Core.Path.{_≡_};
 ghost use Prim.Native.Nat.{_+_, _*_, _≤_};
 ghost use lib.ListN.{length};
+ghost use Rattle.replay.specs.Replay.{Ran};
 use desk::Desk;
 use fresh::Answer;
 use libc::STDIN_FILENO;
@@ -44,7 +45,9 @@ fn main() {
 }
 
 // Record after record, until one is the last. The loop would also end after record 2^64 - 2: that it ends is proved, and the input may not.
-fn print_journal(desk: Desk, pages: &mut [u8], window: &mut [u8], list: &mut [u8]) {
+fn print_journal(desk: Desk, pages: &mut [u8], window: &mut [u8], list: &mut [u8])
+    requires { ⌜ Ran desk (now pages) ⌝ }
+{
     let mut done = Done {
         desk,
         hand: Hand { at: 0, end: 0 },
@@ -60,10 +63,11 @@ fn print_journal(desk: Desk, pages: &mut [u8], window: &mut [u8], list: &mut [u8
     }
 }
 
-// Record i is carried, and its answer is printed; or there is none, and nothing is.
+// Record i is carried, and its answer is printed; or there is none, and nothing is. Desk and pages are always what a list of calls from a fresh store leaves, of which
+// Demands 2 and 3 speak.
 fn next_record(i: u64, done: Done, pages: &mut [u8], window: &mut [u8], list: &mut [u8]) -> Done
-    requires { ⌜ (done .hand .at ≤ done .hand .end) × (done .hand .end ≤ length (now window)) ⌝ }
-    ensures { λ r. ⌜ (r .hand .at ≤ r .hand .end) × (r .hand .end ≤ length (now (window .entry))) ⌝ }
+    requires { ⌜ Ran (done .desk) (now pages) × (done .hand .at ≤ done .hand .end) × (done .hand .end ≤ length (now window)) ⌝ }
+    ensures { λ r. ⌜ Ran (r .desk) (now (pages .exit)) × (r .hand .at ≤ r .hand .end) × (r .hand .end ≤ length (now (window .entry))) ⌝ }
 {
     let hand = record_at_hand(window, done.hand);
     let at = hand.at;
@@ -77,7 +81,7 @@ fn next_record(i: u64, done: Done, pages: &mut [u8], window: &mut [u8], list: &m
         };
     }
     let bytes = &window[at..end];
-    let c = carry::carry(done.desk, pages, bytes, list);
+    let c = replay::carry_next(done.desk, pages, bytes, list);
     let answer = c.answer;
     print_answer(i, answer, is_range(bytes), list);
     let desk = c.desk;

@@ -25,13 +25,18 @@ use Rattle.rules.specs.Store.{fresh}
 use Rattle.rules.specs.Told.{toldList, toldDone, told}
 use Rattle.desk.specs.declared.Desk.{Desk}
 use Rattle.desk.specs.Layout.{deskOf, pagesOf}
-use Rattle.desk.specs.Call.{After, Answers}
+use Rattle.desk.specs.Call.{Before, After, Answers}
 use Rattle.desk.proofs.FreshLaws.{fresh-pages}
 use Rattle.fresh.specs.Begin.{Found as Begin·Found, Made, Begins}
 use Rattle.demands.specs.Trace.{deskCuts, Trace, begun, called, EveryCall}
 use Rattle.demands.specs.Demands.{AsTold, WholeList}
 use Rattle.demands.proofs.Demands.{demand2, demand3}
-use Rattle.replay.specs.Replay.{leftBy, answerBytes, listedBytes, reply, replies, Running, Found, Held, Replays}
+use Rattle.replay.specs.Replay.{Ran, Goes, leftBy, answerBytes, listedBytes, reply, replies, Running, Found, Held, Replays}
+
+-- ---- one call more
+
+pub goes : {x : Before} {y : After} → Bytes (x .bytes) → Answers x y → Goes x y
+goes {x} {y} small a = record { answers = a; ran = λ t. record { plain = plainStep (deskCuts (x .desk)) (x .bytes) (t .plain); calls = called (t .calls) (x .bytes) (x .buffer) y small a } }
 
 -- ---- what the plain rule tells
 
@@ -249,6 +254,9 @@ begins-size {x} {y} g e =
 
 pub begins-fresh : {x : Begin·Found} {y : Made} → Begins x y → y .number ≡ 0 → (y .desk ≡ deskOf fresh) × (y .pages ≡ pagesOf fresh)
 begins-fresh g e = let f = g .made (begins-size g e) in (ap (λ (z : Made). z .desk) f, ap (λ (z : Made). z .pages) f)
+
+pub begins-ran : {x : Begin·Found} {y : Made} → Begins x y → length (x .pages) ≡ bufferBytes → Ran (y .desk) (y .pages)
+begins-ran g l = rw (g .made l, fresh-pages) (record { plain = plainFresh; calls = begun })
 
 pub replays-refused : (journal out : List ℕ) {x : Begin·Found} {y : Made} → Begins x y → (y .number ≡ 0 → ⊥)
     → Replays journal (record { desk = x .desk; pages = x .pages; out = out }) (record { number = y .number; desk = y .desk; pages = y .pages; read = 0; written = 0; out = out })

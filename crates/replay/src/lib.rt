@@ -1,4 +1,4 @@
-// A journal carried record by record from a fresh store, with all its answers.
+// Records carried one after the other from a fresh store: one more, or a whole journal with all its answers.
 ghost use mathlib.Core.Bool.{cond, false};
 ghost use mathlib.Core.List.{_++_};
 ghost use mathlib.Core.Path.{_≡_};
@@ -11,7 +11,8 @@ ghost use Rattle.lists.specs.Words.{le};
 ghost use Rattle.rules.specs.Records.{lengthField, notAtHand};
 ghost use Rattle.rules.specs.Store.{fresh};
 ghost use Rattle.desk.specs.Layout.{deskOf, pagesOf};
-ghost use Rattle.replay.specs.Replay.{answerBytes, listedBytes, Running, Replays};
+ghost use Rattle.replay.specs.Replay.{answerBytes, listedBytes, Goes, Running, Replays};
+use carry::Carried;
 use desk::Desk;
 use fresh::Answer;
 
@@ -31,6 +32,13 @@ pub struct Run {
 pub struct Replayed {
     pub number: u16,
     pub run: Run,
+}
+
+// One record more, on what the records before it left.
+pub fn carry_next(desk: Desk, pages: &mut [u8], bytes: &[u8], buffer: &mut [u8]) -> Carried
+    ensures { λ r. ⌜ Goes (record { desk = desk; pages = now (pages .entry); bytes = now (bytes .entry); buffer = now (buffer .entry) }) (record { number = r .answer .number; count = r .answer .count; desk = r .desk; pages = now (pages .exit); buffer = now (buffer .exit) }) ⌝ }
+{
+    carry::carry(desk, pages, bytes, buffer)
 }
 
 // Number and count at `at`, and every other byte is kept.
@@ -70,7 +78,7 @@ fn step(run: Run, pages: &mut [u8], journal: &[u8], out: &mut [u8]) -> Run
     let at = run.read;
     let from = run.written;
     let room = from + ANSWER_BYTES;
-    let c = carry::carry(run.desk, pages, &journal[at..], &mut out[room..]);
+    let c = carry_next(run.desk, pages, &journal[at..], &mut out[room..]);
     let answer = c.answer;
     write_answer(out, from, answer);
     let desk = c.desk;

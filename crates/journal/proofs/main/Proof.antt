@@ -1,4 +1,5 @@
 use borrow.Author.Needs.{needs}
+use Rattle.replay.proofs.ReplayLaws.{begins-ran}
 use Rattle.journal.proofs.main.Statement.{statement}
 use Rattle.journal.proofs.main.Tie as tie
 
@@ -21,7 +22,7 @@ slice-aggregate-print-journal-3 : tie.Need-slice-aggregate-print-journal-3
 slice-aggregate-print-journal-3 c = search needs
 
 print-journal-requires : tie.Need-print-journal-requires
-print-journal-requires c κs = search needs
+print-journal-requires c κs = begins-ran (c .before .before .before .before .begin .ensures) (search needs)
 
 returns : tie.Need-returns
 returns c = search needs

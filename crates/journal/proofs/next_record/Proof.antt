@@ -21,8 +21,8 @@ part-bytes-start c = search needs
 part-bytes-end : tie.Need-part-bytes-end
 part-bytes-end c = search needs
 
-carry-requires : tie.Need-carry-requires
-carry-requires c κs = search needs
+carry-next-requires : tie.Need-carry-next-requires
+carry-next-requires c κs = search needs
 
 is-range-requires : tie.Need-is-range-requires
 is-range-requires c κs = search needs
@@ -47,9 +47,11 @@ same-length-4 c = search needs
 
 returns-2 : tie.Need-returns-2
 returns-2 c =
-    let h = c .before .before .before .before .before .before .before .before .before .before .before .before .before .before .before .before .before .before .before .before .record-at-hand .ensures in
+    let k = c .before .before .before .before .before .before .before .before .before .before .before .before in
+    let h = k .before .before .before .before .before .before .before .before in
+    let s = h .before .before .before .before .before in
     let p = c .before .passed .ensures in
-    (p .0, omega (arith, h, p))
+    (k .carry-next .ensures .ran (s .pre .0), p .0, omega (arith, h .record-at-hand .ensures, p))
 
 pub next-record-spec : {M : Type 1} → statement M
 next-record-spec =
@@ -61,7 +63,7 @@ next-record-spec =
     sub-bytes
     part-bytes-start
     part-bytes-end
-    carry-requires
+    carry-next-requires
     is-range-requires
     print-answer-requires
     record-length-requires

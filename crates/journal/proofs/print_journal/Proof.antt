@@ -2,12 +2,13 @@ use mathlib.Core.Path.{_≡_}
 use Prim.Native.Nat.{_-_, _≤_}
 use lib.ListN.{length}
 use borrow.Author.Needs.{needs}
+use Rattle.replay.specs.Replay.{Ran}
 use Rattle.journal.proofs.print_journal.Statement.{statement}
 use Rattle.journal.proofs.print_journal.Tie as tie
 
 abbrev Inv-loop : tie.InvT-loop
 Inv-loop pages₀ window₀ list₀ done₀ i₀ pages window list done i =
-    (length pages ≡ length pages₀) × (length window ≡ length window₀) × (length list ≡ length list₀)
+    Ran (done .desk) pages × (length pages ≡ length pages₀) × (length window ≡ length window₀) × (length list ≡ length list₀)
     × (done .hand .at ≤ done .hand .end) × (done .hand .end ≤ length window₀)
 
 abbrev μ-loop : tie.MeasureT-loop

@@ -3,8 +3,8 @@ use Prim.Native.Nat.{_-_, _<_, _≤_}
 use lib.ListN.{length}
 use Rattle.page.specs.Buffer.{bufferBytes}
 use borrow.Author.Needs.{needs}
-use Rattle.show_sound.proofs.flips.flips_at.Statement.{statement}
-use Rattle.show_sound.proofs.flips.flips_at.Tie as tie
+use Rattle.show_sound_pages.proofs.flips.flips_at.Statement.{statement}
+use Rattle.show_sound_pages.proofs.flips.flips_at.Tie as tie
 
 abbrev Inv-loop : tie.InvT-loop
 Inv-loop desk buffer₀ at taken₀ bit₀ i₀ buffer taken bit i = (i ≤ 8) × (taken ≤ i) × (at < bufferBytes) × (length buffer ≡ bufferBytes)

@@ -4,8 +4,8 @@ use lib.ListN.{length}
 use Rattle.terms.specs.Terms.{pages}
 use Rattle.page.specs.Buffer.{bufferBytes}
 use borrow.Author.Needs.{needs}
-use Rattle.show_sound.proofs.flips.flips_of.Statement.{statement}
-use Rattle.show_sound.proofs.flips.flips_of.Tie as tie
+use Rattle.show_sound_pages.proofs.flips.flips_of.Statement.{statement}
+use Rattle.show_sound_pages.proofs.flips.flips_of.Tie as tie
 
 abbrev Inv-loop : tie.InvT-loop
 Inv-loop desk buffer₀ p taken₀ i₀ buffer taken i = (i ≤ 8) × (taken ≤ 8 * i) × (p < pages) × (length buffer ≡ bufferBytes)
