@@ -1,16 +1,19 @@
 -- What follows a record's own effect, in the words of the calls: the flush that is due, and the tally.
+use mathlib.Core.Bool.{Bool, true}
 use mathlib.Core.Path.{_≡_, refl, sym, ap, _∙_}
 use mathlib.Core.List.{List, [], _∷_}
-use Prim.Native.Nat.{ℕ, _+_}
+use Prim.Native.Nat.{ℕ, _+_, _≤_, _<_}
+use native.Mathlib.Omega.{arith}
 use lib.Dec.{ltb}
+use lib.ListN.{length}
 use Rattle.terms.specs.Terms.{Place}
 use Rattle.lists.proofs.Cases.{by-cases, option-cases}
 use Rattle.rules.specs.Store.{Cell, Store}
-use Rattle.rules.specs.Limits.{sweepEvery}
-use Rattle.rules.specs.Grid.{Box}
+use Rattle.rules.specs.Limits.{maxCuts, fullMemory, sweepEvery}
+use Rattle.rules.specs.Grid.{Box, Cuts}
 use Rattle.rules.specs.Sweep.{sweepFront, tick}
 use Rattle.rules.specs.Flush.{Flushed, flushedInto, grown, splitAt, joinedWith, reshaped}
-use Rattle.rules.specs.Carry.{flushDue, afterReport}
+use Rattle.rules.specs.Carry.{waitingIn, boxToFlush, flushDue, afterReport}
 use Rattle.rules.proofs.CutLaws.{flush-cases, reshaped-cases}
 use Rattle.desk.specs.declared.Grid.{Grid}
 use Rattle.desk.specs.declared.Waiting.{Waiting}
@@ -18,8 +21,11 @@ use Rattle.desk.specs.declared.Memo.{Memo}
 use Rattle.desk.specs.declared.On.{On}
 use Rattle.desk.specs.declared.Desk.{Desk}
 use Rattle.desk.specs.Layout.{gridOf, waitingOf, memoOf, onOf, deskOf}
-use Rattle.flush.specs.Flush.{Holds, Tallied, Ticks, Reported, After}
-use Rattle.flush.proofs.AfterLaws.{after-tallied}
+use Rattle.desk.specs.Views.{cutsBy}
+use Rattle.waiting.specs.Waiting.{reportsOf}
+use Rattle.flush.specs.Flush.{Holds, Tallied, Ticks, Reported, After, quiet}
+use Rattle.flush.proofs.TickLaws.{tick-counts}
+use Rattle.flush.proofs.AfterLaws.{due-asks, quiet-due, after-nothing, after-tallied}
 use Rattle.carry.specs.Carry.{Stands, Left, Effected, Followed}
 
 -- ---- a desk by its parts
@@ -132,3 +138,18 @@ module _ {desk : Desk} {p : Place} {b : List ℕ} (x : Effected desk p b) where
     pub effect-followed : {r : Desk} {b″ : List ℕ} → ((y : Left (record { grid = g; waiting = w; memo = m; on = desk .on; tally = desk .tally }) b′) → Stands (tick (y .store)) r b″)
         → Followed (x .store) p r b″
     effect-followed k = record { pick = after .pick; permitted = after .permitted; stands = k flushed-left }
+
+  -- ---- nothing more is due
+
+  -- what `is_quiet` asks
+  pub quiet-asks : (desk .waiting .n ≤ fullMemory) × (desk .grid .easts .n ≤ maxCuts) × (desk .grid .norths .n ≤ maxCuts) × (desk .tally < sweepEvery)
+  quiet-asks = let k = due-asks effect-reported in (k .0, k .1, k .2, omega (arith, tally-held (x .store) (x .stands .held), x .early))
+
+  abbrev cuts : Cuts
+  cuts = cutsBy (desk .grid .easts) (desk .grid .norths)
+
+  pub effect-quiet : {q : Bool} → q ≡ quiet (boxToFlush cuts (waitingIn cuts (reportsOf (desk .waiting))) (length (reportsOf (desk .waiting))) p) (desk .tally + 1) → q ≡ true
+      → Followed (x .store) p (record { grid = desk .grid; waiting = desk .waiting; memo = desk .memo; on = desk .on; tally = desk .tally + 1 }) b
+  effect-quiet e t =
+      let q = quiet-due _ (desk .tally + 1) (sym e ∙ t) in
+      effect-followed (λ y. after-nothing y p (q .0) refl) (λ y. left-returns y (λ z. tick-counts z (q .1)))

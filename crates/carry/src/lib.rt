@@ -88,7 +88,8 @@ fn sign_on(desk: Desk, pages: &mut [u8], radio: u16, east: u16, north: u16) -> D
     followed(signed, pages, east, north)
 }
 
-// "Report replaces a waiting report of that radio, keeping its mark new; otherwise it waits unmarked."
+// "Report replaces a waiting report of that radio, keeping its mark new; otherwise it waits unmarked." After most reports nothing more is due: the desk is then
+// handed to no further function, for each that takes it copies it.
 fn reported(desk: Desk, pages: &mut [u8], radio: u16, east: u16, north: u16) -> Desk
     requires { ⌜ AskedReport desk radio (record { east = east; north = north }) (now pages) ⌝ }
     ensures { λ r. ⌜ ((x : AskedReport desk radio (record { east = east; north = north }) (now (pages .entry))) → Carries (x .sound .store) (report radio (record { east = east; north = north })) r (now (pages .exit))) ⌝ }
@@ -97,13 +98,25 @@ fn reported(desk: Desk, pages: &mut [u8], radio: u16, east: u16, north: u16) -> 
     let waiting = desk.waiting;
     let memo = desk.memo;
     let on = desk.on;
+    let tally = desk.tally;
     let reports = own::reported(waiting, radio, east, north);
+    let easts = grid.easts;
+    let norths = grid.norths;
+    if flush::is_quiet(easts, norths, reports, tally, east, north) {
+        return Desk {
+            grid,
+            waiting: reports,
+            memo,
+            on,
+            tally: tally + 1,
+        };
+    }
     let told = Desk {
         grid,
         waiting: reports,
         memo,
         on,
-        tally: desk.tally,
+        tally,
     };
     followed(told, pages, east, north)
 }

@@ -1,15 +1,17 @@
 -- After a sign-on or report: the memory cell that the code finds due is the one that the rules say, and what it leaves goes on to the tally.
-use mathlib.Core.Bool.{true, false}
+use mathlib.Core.Bool.{Bool, true, false}
 use mathlib.Core.List.{List}
 use mathlib.Core.Option.{Option, none, some}
 use mathlib.Core.Path.{_≡_, refl, sym, ap, ap₂, _∙_, subst}
 use Prim.Native.Nat.{ℕ, _+_, _≤_, _<_}
 use native.Mathlib.Omega.{arith}
+use lib.Dec.{ltb}
 use lib.ListN.{length}
+use borrow.Author.Tests.{ltb-true}
 use Rattle.terms.specs.Terms.{Place}
 use Rattle.lists.specs.Rows.{Rows}
 use Rattle.lists.proofs.Cases.{option-cases}
-use Rattle.rules.specs.Limits.{maxCuts, fullBox, fullMemory}
+use Rattle.rules.specs.Limits.{maxCuts, fullBox, fullMemory, sweepEvery}
 use Rattle.rules.specs.Grid.{Cuts, Box, sameBox, boxOf}
 use Rattle.rules.specs.Store.{Report, Cell, Store}
 use Rattle.rules.specs.Flush.{flushedInto}
@@ -28,7 +30,7 @@ use Rattle.waiting.specs.Boxes.{boxIn, dueOf}
 use Rattle.waiting.specs.Waiting.{reportsOf}
 use Rattle.waiting.proofs.WaitingLaws.{reports-laid}
 use Rattle.directory.proofs.DirectoryLaws.{Boxed, boxed-due, boxed-counts}
-use Rattle.flush.specs.Flush.{Tallied, Reported, Flushes, allowedIf, After}
+use Rattle.flush.specs.Flush.{Tallied, Reported, Flushes, allowedIf, After, quiet}
 use Rattle.flush.proofs.FlushLaws.{holds-easts, holds-norths, holds-cuts, few-easts, few-norths, few-wait}
 
 -- ---- the memory cell that is due
@@ -40,6 +42,24 @@ due-none (some n) e = let z : _≡_ {A = ℕ} 0 1 = cc in absurd (omega arith)
 due-some : (o : Option Box) (m : BoxAt) → dueOf o ≡ Flush m → o ≡ some (boxIn m)
 due-some none m e = let z : _≡_ {A = ℕ} 0 1 = cc in absurd (omega arith)
 due-some (some n) m e = let z : record { east = n .east; north = n .north } ≡ m = cc in ap (λ (k : BoxAt). some (boxIn k)) z
+
+-- ---- whether nothing follows
+
+module _ (o : Option Box) (c : ℕ) {d : BoxDue} (told : d ≡ dueOf o) where
+  pub quiet-not : (m : BoxAt) → d ≡ Flush m → false ≡ quiet o c
+  unfolding quiet
+  quiet-not m e = rw (due-some o m (sym told ∙ e)) refl
+
+  pub quiet-early : d ≡ Nothing → ltb c sweepEvery ≡ quiet o c
+  unfolding quiet
+  quiet-early e = rw (due-none o (sym told ∙ e)) refl
+
+pub quiet-due : (o : Option Box) (c : ℕ) → quiet o c ≡ true → (Nothing ≡ dueOf o) × (c < sweepEvery)
+unfolding quiet
+quiet-due none c e = (refl, ltb-true c sweepEvery e)
+quiet-due (some m) c e = let z : _≡_ {A = ℕ} 0 1 = cc in absurd (omega arith)
+
+-- ---- the flush
 
 module _ {grid : Grid} {waiting : Waiting} {memo : Memo} {b : List ℕ} (x : Reported grid waiting memo b) where
   -- what `box_due` asks

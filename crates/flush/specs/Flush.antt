@@ -1,9 +1,10 @@
 -- The desk's parts and the pages in the middle of a call, and what a flush and the tally leave of them (01, "Flush", "How a record is carried out").
-use mathlib.Core.Bool.{Bool, true}
+use mathlib.Core.Bool.{Bool, true, false}
 use mathlib.Core.List.{List}
 use mathlib.Core.Option.{Option, none, some}
 use mathlib.Core.Path.{_≡_}
 use Prim.Native.Nat.{ℕ, _+_, _≤_, _<_}
+use lib.Dec.{ltb}
 use lib.ListN.{length}
 use Rattle.terms.specs.Terms.{Place, maxOn, pages}
 use Rattle.lists.specs.Rows.{Rows}
@@ -110,3 +111,8 @@ pub record After (s : Store) (p : Place) (grid : Grid) (waiting : Waiting) (memo
   pub permitted : allowedIf pick (flushDue s p) s ≡ true
   pub holds : Holds (afterReport pick p s) grid memo bytes
   pub waiting-is : waiting ≡ waitingOf (afterReport pick p s .waiting)
+
+-- nothing follows but that the record is counted: no memory cell is due, and c does not come to 16
+unfoldable pub quiet : Option Box → ℕ → Bool
+quiet none c = ltb c sweepEvery
+quiet (some m) c = false

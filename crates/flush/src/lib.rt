@@ -1,14 +1,18 @@
 // What follows a record's own effect: a memory cell is flushed where one is due, and the tally counts the record and sweeps the front of the round at the 16th.
 ghost use mathlib.Core.Path.{_≡_};
-ghost use Prim.Native.Nat.{_≤_};
-ghost use Rattle.rules.specs.Limits.{maxCells, maxCuts};
+ghost use Prim.Native.Nat.{_+_, _<_, _≤_};
+ghost use lib.ListN.{length};
+ghost use Rattle.rules.specs.Limits.{maxCells, maxCuts, fullMemory, sweepEvery};
 ghost use Rattle.rules.specs.Grid.{cornerOf};
 ghost use Rattle.rules.specs.Sweep.{swept, sweptMemo, sweepFront};
 ghost use Rattle.rules.specs.Flush.{flushedInto};
+ghost use Rattle.rules.specs.Carry.{waitingIn, boxToFlush};
 ghost use Rattle.desk.specs.Views.{cutsBy, slotsIn};
 ghost use Rattle.waiting.specs.Boxes.{boxIn};
+ghost use Rattle.waiting.specs.Waiting.{reportsOf};
 ghost use Rattle.directory.specs.Directory.{slotAt, foundAt};
-ghost use Rattle.flush.specs.Flush.{Holds, AtPlace, InHand, Tallied, Sixteenth, Ticks, Reported, Homed, Flushes, After};
+ghost use Rattle.flush.specs.Flush.{Holds, AtPlace, InHand, Tallied, Sixteenth, Ticks, Reported, Homed, Flushes, After, quiet};
+use desk::CutList;
 use desk::Desk;
 use desk::Grid;
 use desk::Memo;
@@ -181,4 +185,22 @@ pub fn after_report(
         };
     };
     flush(buffer, grid, waiting, memo, m)
+}
+
+// Whether nothing follows a report but that it is counted, as after most: no memory cell is due, and the tally does not come to 16.
+pub fn is_quiet(
+    easts: CutList,
+    norths: CutList,
+    waiting: Waiting,
+    tally: u16,
+    east: u16,
+    north: u16,
+) -> bool
+    requires { ⌜ (waiting .n ≤ fullMemory) × (easts .n ≤ maxCuts) × (norths .n ≤ maxCuts) × (tally < sweepEvery) ⌝ }
+    ensures { λ r. ⌜ r ≡ quiet (boxToFlush (cutsBy easts norths) (waitingIn (cutsBy easts norths) (reportsOf waiting)) (length (reportsOf waiting)) (record { east = east; north = north })) (tally + 1) ⌝ }
+{
+    match waiting::box_due(easts, norths, waiting, east, north) {
+        BoxDue::Flush(_) => false,
+        BoxDue::Nothing => tally + 1 < Desk::SWEEP_EVERY,
+    }
 }
