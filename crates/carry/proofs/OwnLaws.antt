@@ -1,28 +1,21 @@
 -- A record's own effect on a sound store, and what it leaves once all that follows is done.
-use mathlib.Core.Bool.{true, false, not, cond}
+use mathlib.Core.Bool.{true, false, cond}
 use mathlib.Core.List.{List}
 use mathlib.Core.Option.{Option, none, some}
 use mathlib.Core.Path.{_≡_, refl}
 use Prim.Native.Nat.{ℕ, _+_, _≤_, _<_}
-use native.Mathlib.Omega.{arith}
 use lib.ListN.{length}
 use Rattle.terms.specs.Terms.{Place}
 use Rattle.lists.specs.Rows.{find, alter, insert}
-use Rattle.lists.proofs.RowsLaws.{length-alter}
-use Rattle.lists.proofs.TestsLaws.{one-if-le}
 use Rattle.rules.specs.Limits.{fullMemory, fullBox, sweepEvery}
 use Rattle.rules.specs.Grid.{Box, sameBox, boxOf}
 use Rattle.rules.specs.Store.{Report, Store}
 use Rattle.rules.specs.Sweep.{tick}
 use Rattle.rules.specs.Flush.{raised}
 use Rattle.rules.specs.Records.{signOn, report, signOff}
-use Rattle.rules.specs.Carry.{isOn, wasNew, signedOn, reported, signedOff, waitingIn, allowedIn, carriedOut}
+use Rattle.rules.specs.Carry.{wasNew, signedOn, reported, signedOff, waitingIn, allowedIn, carriedOut}
 use Rattle.rules.proofs.FlushLaws.{Staged}
-use Rattle.rules.proofs.StepLaws.{Done, put-few, put-boxes, put-bounded, on-core, report-core, off-core}
-use Rattle.rules.proofs.WellLaws.{well-core, well-bounded}
-use Rattle.rules.proofs.RoundLaws.{bounded-record}
-use Rattle.rules.proofs.BooksLaws.{stale-off}
-use Rattle.rules.proofs.CutLaws.{waiting-less}
+use Rattle.rules.proofs.StepLaws.{put-few, put-boxes, put-bounded, on-core, report-core, off-done}
 use Rattle.rules.specs.WellFormed.{WellFormed}
 use Rattle.desk.specs.declared.Waiting.{Waiting}
 use Rattle.desk.specs.declared.Desk.{Desk}
@@ -33,8 +26,7 @@ use Rattle.waiting.specs.Waiting.{reportsOf}
 use Rattle.own.specs.declared.SignedOn.{SignedOn}
 use Rattle.own.specs.declared.SignedOff.{SignedOff}
 use Rattle.own.proofs.StoreLaws.{on-gives, report-gives, off-gives, on-laid, report-laid, off-laid}
-use Rattle.records.proofs.AskedLaws.{SignsOn, Reports, SignsOff}
-use Rattle.flush.proofs.AfterLaws.{allowed-signOn, allowed-report}
+use Rattle.records.proofs.AskedLaws.{SignsOn, Reports}
 use Rattle.carry.specs.Carry.{Stands, Effected, Followed, Left, AskedOn, AskedReport, AskedOff, Carries}
 
 -- ---- the store then
@@ -87,8 +79,8 @@ module _ {desk : Desk} {r : ℕ} {p : Place} {b : List ℕ} (x : AskedOn desk r 
     on-effect = put-effect (signedOn r p s) (on-put s (x .sound .well) r p (x .signs)) (record { held = on-gives s desk (x .sound .held) r p o own; laid = on-laid s b (x .sound .laid) r p })
 
     pub on-carries : {d : Desk} {b′ : List ℕ} → ((y : Effected signed p b) → Followed (y .store) p d b′) → Carries s (signOn r p) d b′
-    unfolding on-effect put-effect carriedOut
-    on-carries l = let f : Followed (signedOn r p s) p _ _ = l on-effect in record { pick = f .pick; permitted = allowed-signOn (f .pick) r p s (f .permitted); stands = f .stands }
+    unfolding on-effect put-effect carriedOut allowedIn
+    on-carries l = let f : Followed (signedOn r p s) p _ _ = l on-effect in record { pick = f .pick; permitted = f .permitted; stands = f .stands }
 
 -- ---- report
 
@@ -104,29 +96,10 @@ module _ {desk : Desk} {r : ℕ} {p : Place} {b : List ℕ} (x : AskedReport des
         (record { held = report-gives (x .sound .store) desk (x .sound .held) r p own; laid = report-laid (x .sound .store) b (x .sound .laid) r p })
 
     pub report-carries : {d : Desk} {b′ : List ℕ} → ((y : Effected told p b) → Followed (y .store) p d b′) → Carries (x .sound .store) (report r p) d b′
-    unfolding report-effect put-effect carriedOut
-    report-carries l =
-        let f : Followed (reported r p (x .sound .store)) p _ _ = l report-effect in
-        record { pick = f .pick; permitted = allowed-report (f .pick) r p (x .sound .store) (f .permitted); stands = f .stands }
+    unfolding report-effect put-effect carriedOut allowedIn
+    report-carries l = let f : Followed (reported r p (x .sound .store)) p _ _ = l report-effect in record { pick = f .pick; permitted = f .permitted; stands = f .stands }
 
 -- ---- sign-off
-
-off-done : (s : Store) (w : WellFormed s) (r : ℕ) → SignsOff s r → Done (signedOff r s) (signedOff r s .tally + 1)
-unfolding signedOff isOn
-off-done s w r x =
-    let less = length-alter (λ _. none) 0 r (s .waiting) (x .first) (w .waiting-rises) in
-    record {
-      staged = record {
-        core = off-core s w r (x .first) (x .last) (x .on);
-        bounded =
-            bounded-record (s .memo) _ (s .cells) (length (s .waiting)) (length (alter (λ _. none) r (s .waiting))) (s .tally) (well-bounded s w)
-            (λ j. omega (arith, stale-off r (x .first) (x .last) (x .on) (well-core s w .books) j, less, one-if-le (not (wasNew (find (s .waiting) r)))));
-      };
-      roomy = record {
-        few = omega (arith, less, w .few-wait);
-        boxes = λ n. omega (arith, waiting-less (s .cuts) (λ _. none) r (s .waiting) n (x .first) (w .waiting-rises) refl, w .few-in-box n);
-      };
-    }
 
 module _ {desk : Desk} {r : ℕ} {b : List ℕ} (x : AskedOff desk r b) where
   module _ (o : SignedOff)
@@ -146,7 +119,7 @@ module _ {desk : Desk} {r : ℕ} {b : List ℕ} (x : AskedOff desk r b) where
     off-left = record {
       store = signedOff r (x .sound .store);
       early = early;
-      done = off-done (x .sound .store) (x .sound .well) r (x .signs);
+      done = off-done (x .sound .store) (x .sound .well) r (x .signs .first) (x .signs .last) (x .signs .on);
       stands = record { held = off-gives (x .sound .store) desk (x .sound .held) r o own; laid = off-laid (x .sound .store) b (x .sound .laid) r };
     }
 

@@ -10,14 +10,13 @@ use Rattle.rules.specs.Grid.{Rect, Box, sameBox, boxOf}
 use Rattle.rules.specs.Store.{Store}
 use Rattle.rules.specs.Sweep.{tick}
 use Rattle.rules.specs.Records.{Request}
-use Rattle.rules.specs.Carry.{waitingIn, flushDue, afterReport, found, answered, allowedIn, carriedOut}
+use Rattle.rules.specs.Carry.{waitingIn, flushDue, afterReport, found, answered, allowedIf, allowedIn, carriedOut}
 use Rattle.rules.proofs.FlushLaws.{Staged}
 use Rattle.rules.proofs.StepLaws.{Done}
 use Rattle.desk.specs.declared.Desk.{Desk}
 use Rattle.desk.specs.Layout.{deskOf, Laid}
 use Rattle.desk.specs.Sound.{Sound}
 use Rattle.records.proofs.AskedLaws.{SignsOn, Reports, SignsOff}
-use Rattle.flush.specs.Flush.{allowedIf}
 use Rattle.carry.specs.declared.Carried.{Carried}
 
 -- desk and pages lay out a store

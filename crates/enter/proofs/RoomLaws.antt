@@ -1,13 +1,13 @@
 -- A store in the middle of a call has room for the reports of a memory cell, and what they leave is the flush of it: the swept cell has no stale entry, so it ends with one entry
 -- for each radio on at most; each line counts a stale entry, and what is stale and waits is bounded together.
-use mathlib.Core.Bool.{Bool, true}
+use mathlib.Core.Bool.{true}
 use mathlib.Core.List.{List, _++_}
-use mathlib.Core.Option.{Option, none, some}
+use mathlib.Core.Option.{some}
 use mathlib.Core.Path.{_≡_, sym, ap, _∙_}
 use Prim.Native.Nat.{ℕ, _+_, _≤_, _<_}
 use native.Mathlib.Omega.{arith}
 use lib.ListN.{length}
-use Rattle.terms.specs.Terms.{Place, maxOn}
+use Rattle.terms.specs.Terms.{maxOn}
 use Rattle.lists.specs.Rows.{Rows, find}
 use Rattle.lists.specs.Sums.{filter}
 use Rattle.lists.specs.Tests.{one-if}
@@ -19,11 +19,11 @@ use Rattle.entries.specs.Entries.{rowsOf}
 use Rattle.rules.specs.Limits.{maxCuts, fullMemory, sweepEvery}
 use Rattle.rules.specs.Grid.{eastward, northward, inside, Cuts, Box, cornerOf}
 use Rattle.rules.specs.Store.{Report, Line, Cell, Store}
-use Rattle.rules.specs.Sweep.{stale, staleBy, sweptMemo, swept}
+use Rattle.rules.specs.Sweep.{stale, sweptMemo, swept}
 use Rattle.rules.specs.Flush.{Work, enterEach, inBox, flushedInto, cellOfBox}
-use Rattle.rules.specs.WellFormed.{countIf, staleIn}
-use Rattle.rules.proofs.Parts.{staleR, missedOf, Books, Bounded, Core}
-use Rattle.rules.proofs.BooksLaws.{clean-swept, stale-sweep-sum, memo-total, entries-total}
+use Rattle.rules.specs.WellFormed.{staleIn}
+use Rattle.rules.proofs.Parts.{missedOf, Bounded, Core}
+use Rattle.rules.proofs.BooksLaws.{clean-swept, stale-sweep-sum, memo-total, entries-total, missed-few}
 use Rattle.rules.proofs.RoundLaws.{bounded-total}
 use Rattle.rules.proofs.TilingLaws.{cellAt-split, some-cell}
 use Rattle.rules.proofs.FlushLaws.{Staged, books-before, books-swept, books-flushed, clean-flushed, waiting-flushed}
@@ -46,21 +46,6 @@ use Rattle.enter.specs.Enter.{workOf, Room, Enterable, Entered}
 stale-size : (memo : Rows Line) (c : Cell) → staleIn memo c ≤ length (c .entries)
 unfolding staleIn
 stale-size memo c = omega (arith, sum-le (λ e. one-if (stale memo e)) (λ _. 1) (c .entries) (λ e. one-if-le (stale memo e)), length-sum (c .entries))
-
-count-one : (t : Place → Bool) (o : Option Place) → countIf t o ≤ 1
-count-one t none = omega arith
-count-one t (some p) = one-if-le (t p)
-
--- a radio has one entry in each cell at most
-missed-few : {cells : List Cell} {memo : Rows Line} {new on : ℕ → Bool} → Books cells memo new on → (r : ℕ) → missedOf (find memo r) ≤ length cells
-unfolding staleR
-missed-few {cells} {memo} b r =
-    omega (
-      arith,
-      b .counted r,
-      sum-le (λ c. countIf (staleBy (find memo r)) (find (c .entries) r)) (λ _. 1) cells (λ c. count-one (staleBy (find memo r)) (find (c .entries) r)),
-      length-sum cells,
-    )
 
 -- ---- d swept, before the reports go in
 

@@ -1,5 +1,5 @@
 -- After a sign-on or report: the memory cell that the code finds due is the one that the rules say, and what it leaves goes on to the tally.
-use mathlib.Core.Bool.{Bool, true, false}
+use mathlib.Core.Bool.{true, false}
 use mathlib.Core.List.{List}
 use mathlib.Core.Option.{Option, none, some}
 use mathlib.Core.Path.{_≡_, refl, sym, ap, ap₂, _∙_, subst}
@@ -10,15 +10,11 @@ use lib.ListN.{length}
 use borrow.Author.Tests.{ltb-true}
 use Rattle.terms.specs.Terms.{Place}
 use Rattle.lists.specs.Rows.{Rows}
-use Rattle.lists.proofs.Cases.{option-cases}
 use Rattle.rules.specs.Limits.{maxCuts, fullBox, fullMemory, sweepEvery}
 use Rattle.rules.specs.Grid.{Cuts, Box, sameBox, boxOf}
-use Rattle.rules.specs.Store.{Report, Cell, Store}
-use Rattle.rules.specs.Flush.{flushedInto}
-use Rattle.rules.specs.Records.{signOn, report}
-use Rattle.rules.specs.Carry.{signedOn, reported, boxToFlush, waitingIn, flushDue, afterReport, allowedIn}
-use Rattle.rules.proofs.CutLaws.{reshaped-tally, flush-cases}
-use Rattle.rules.proofs.StepLaws.{Done, report-done}
+use Rattle.rules.specs.Store.{Report}
+use Rattle.rules.specs.Carry.{boxToFlush, waitingIn, flushDue, afterReport}
+use Rattle.rules.proofs.StepLaws.{Done, after-tally, report-done}
 use Rattle.desk.specs.declared.Grid.{Grid}
 use Rattle.desk.specs.declared.Waiting.{Waiting}
 use Rattle.desk.specs.declared.Memo.{Memo}
@@ -30,7 +26,7 @@ use Rattle.waiting.specs.Boxes.{boxIn, dueOf}
 use Rattle.waiting.specs.Waiting.{reportsOf}
 use Rattle.waiting.proofs.WaitingLaws.{reports-laid}
 use Rattle.directory.proofs.DirectoryLaws.{Boxed, boxed-due, boxed-counts}
-use Rattle.flush.specs.Flush.{Tallied, Reported, Flushes, allowedIf, After, quiet}
+use Rattle.flush.specs.Flush.{Tallied, Reported, Flushes, After, quiet}
 use Rattle.flush.proofs.FlushLaws.{holds-easts, holds-norths, holds-cuts, few-easts, few-norths, few-wait}
 
 -- ---- the memory cell that is due
@@ -102,17 +98,6 @@ module _ {grid : Grid} {waiting : Waiting} {memo : Memo} {b : List ℕ} (x : Rep
 
 -- ---- on to the tally
 
--- a flush leaves the tally
-pub after-tally : (pick : ℕ) (p : Place) (s : Store) → afterReport pick p s .tally ≡ s .tally
-unfolding afterReport
-after-tally pick p s =
-    option-cases (flushDue s p)
-    (λ e. rw e)
-    (λ m e. rw e (flush-cases (λ t. t .tally ≡ s .tally) pick m s (λ n. refl) (λ d n. reshaped-tally pick (flushedInto m s d) ∙ flushed-tally m d)))
-  where
-    flushed-tally : (m : Box) (d : Cell) → flushedInto m s d .store .tally ≡ s .tally
-    flushed-tally m d = unfold flushedInto in refl
-
 -- what `tick` asks, where no memory cell but that of p was full
 abbrev pub after-tallied : {grid : Grid} {waiting : Waiting} {memo : Memo} {b : List ℕ} (x : Reported grid waiting memo b) (p : Place) (tally : ℕ) {g : Grid} {w : Waiting} {lines : Memo} {b′ : List ℕ}
     → ((n : Box) → sameBox n (boxOf (x .store .cuts) p) ≡ false → waitingIn (x .store .cuts) (x .store .waiting) n < fullBox)
@@ -127,13 +112,3 @@ after-tallied x p tally others-few a e =
       holds = a .holds;
       tally-is = e ∙ sym same;
     }
-
--- ---- what is allowed of the neighbour's name, in the words of the call
-
-pub allowed-signOn : (pick r : ℕ) (p : Place) (s : Store) → allowedIf pick (flushDue (signedOn r p s) p) (signedOn r p s) ≡ true → allowedIn pick (signOn r p) s ≡ true
-unfolding allowedIn
-allowed-signOn pick r p s = option-cases (flushDue (signedOn r p s) p) (λ e. rw e (λ h. h)) (λ m e. rw e (λ h. h))
-
-pub allowed-report : (pick r : ℕ) (p : Place) (s : Store) → allowedIf pick (flushDue (reported r p s) p) (reported r p s) ≡ true → allowedIn pick (report r p) s ≡ true
-unfolding allowedIn
-allowed-report pick r p s = option-cases (flushDue (reported r p s) p) (λ e. rw e (λ h. h)) (λ m e. rw e (λ h. h))

@@ -15,7 +15,7 @@ use Rattle.rules.specs.Grid.{Box}
 use Rattle.rules.specs.Store.{Line, Cell, Store}
 use Rattle.rules.specs.Sweep.{tick}
 use Rattle.rules.specs.Flush.{cellOfBox, flush, allowedFlush}
-use Rattle.rules.specs.Carry.{flushDue, afterReport}
+use Rattle.rules.specs.Carry.{flushDue, afterReport, allowedIf}
 use Rattle.rules.proofs.FlushLaws.{Staged}
 use Rattle.rules.proofs.StepLaws.{Done}
 use Rattle.desk.specs.declared.Grid.{Grid}
@@ -99,11 +99,6 @@ pub record Flushes (s : Store) (m : Box) (grid : Grid) (waiting : Waiting) (memo
   pub waiting-is : waiting ≡ waitingOf (flush pick m s .waiting)
 
 -- ---- "After sign-on or report"
-
--- what is allowed of the neighbour's name, if a memory cell is flushed
-abbrev pub allowedIf : ℕ → Option Box → Store → Bool
-allowedIf pick none s = true
-allowedIf pick (some m) s = allowedFlush pick m s
 
 -- the memory cell that is due is flushed
 pub record After (s : Store) (p : Place) (grid : Grid) (waiting : Waiting) (memo : Memo) (bytes : List ℕ) : Type 0 where

@@ -175,6 +175,11 @@ module _ {A : Type 0} where
   sum-filter-ext f g p [] h = refl
   sum-filter-ext f g p (x ∷ xs) h = sum-keep-passed f g (p x) x (filter p xs) (h x) (sum-filter-ext f g p xs h)
 
+  pub filter-append : (p : A → Bool) (a b : List A) → filter p (a ++ b) ≡ filter p a ++ filter p b
+  unfolding filter
+  filter-append p [] b = refl
+  filter-append p (x ∷ xs) b = by-cases (p x) (λ t. rw (t, filter-append p xs b)) (λ t. rw (t, filter-append p xs b))
+
   pub length-filter : (p : A → Bool) (l : List A) → length (filter p l) ≡ sumBy (λ x. one-if (p x)) l
   unfolding sumBy filter
   length-filter p [] = refl

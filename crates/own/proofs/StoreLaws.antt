@@ -1,5 +1,5 @@
 -- The desk of a well-formed store: what each record's own effect asks of its parts holds, and what it gives are the parts of the store after it.
-use mathlib.Core.Bool.{Bool, true, cond}
+use mathlib.Core.Bool.{true, cond}
 use mathlib.Core.List.{List}
 use mathlib.Core.Option.{Option, none, some}
 use mathlib.Core.Path.{_≡_, sym, ap, ap₂, _∙_, subst}
@@ -7,16 +7,14 @@ use Prim.Native.Nat.{ℕ, _≤_, _<_}
 use native.Mathlib.Omega.{arith}
 use Rattle.terms.specs.Terms.{Place, maxOn}
 use Rattle.lists.specs.Rows.{Rows, Rising, find, alter, insert}
-use Rattle.lists.proofs.SumsLaws.{sum-le, sum-const}
-use Rattle.lists.proofs.TestsLaws.{one-if-le}
 use Rattle.rules.specs.Limits.{maxCells, fullMemory}
 use Rattle.rules.specs.Store.{Report as StoreReport, Line as StoreLine, Store}
-use Rattle.rules.specs.Sweep.{staleBy}
 use Rattle.rules.specs.Flush.{raised}
 use Rattle.rules.specs.Carry.{onCount, wasNew, signedOn, reported, signedOff}
-use Rattle.rules.specs.WellFormed.{WellFormed, countIf}
-use Rattle.rules.proofs.Parts.{missedOf, staleR}
+use Rattle.rules.specs.WellFormed.{WellFormed}
+use Rattle.rules.proofs.Parts.{missedOf}
 use Rattle.rules.proofs.WellLaws.{well-core}
+use Rattle.rules.proofs.BooksLaws.{missed-few}
 use Rattle.desk.specs.declared.Waiting.{Waiting}
 use Rattle.desk.specs.declared.Memo.{Memo}
 use Rattle.desk.specs.declared.On.{On}
@@ -35,21 +33,8 @@ use Rattle.own.specs.declared.SignedOff.{SignedOff}
 
 -- ---- room in the memo
 
-count-one : (t : Place → Bool) (o : Option Place) → countIf t o ≤ 1
-count-one t none = omega arith
-count-one t (some p) = one-if-le (t p)
-
--- a radio has one stale entry in a cell at most
 pub well-missed : (s : Store) → WellFormed s → (r : ℕ) → missedOf (find (s .memo) r) ≤ maxCells
-unfolding staleR
-well-missed s w r =
-    omega (
-      arith,
-      well-core s w .books .counted r,
-      sum-le (λ c. countIf (staleBy (find (s .memo) r)) (find (c .entries) r)) (λ _. 1) (s .cells) (λ c. count-one (staleBy (find (s .memo) r)) (find (c .entries) r)),
-      sum-const 1 (s .cells),
-      w .few-cells,
-    )
+well-missed s w r = omega (arith, missed-few (well-core s w .books) r, w .few-cells)
 
 -- ---- the desk's parts
 

@@ -15,7 +15,7 @@ use Rattle.lists.specs.Tests.{one-if, isSome, orElse, Each}
 use Rattle.lists.proofs.Cases.{by-cases, option-cases, none-some, orElse-cases}
 use Rattle.lists.proofs.AmongLaws.{Among}
 use Rattle.lists.proofs.TestsLaws.{not-true, each-map, each-append, each-split, each-for, each-every, each-zip, each-drop, each-filter, one-if-false, one-if-le}
-use Rattle.lists.proofs.SumsLaws.{sum-append, sum-ext, sum-add, sum-each, sumTo-ext, sumTo-le, sumTo-add, sumTo-sumBy, sum-zero-each, sum-drop-le}
+use Rattle.lists.proofs.SumsLaws.{sum-append, sum-ext, sum-add, sum-each, sumTo-ext, sumTo-le, sumTo-add, sumTo-sumBy, sum-zero-each, sum-drop-le, sum-le, length-sum}
 use Rattle.lists.proofs.RowsLaws.{find-below, rising-alter, find-alter, rising-filter, find-filter, sum-key, sum-zero-find, rising-merge, find-merge, each-find, find-each, sum-rows, rising-above, upTo-alter, upTo-merge, length-found, find-alter-other, find-alter-same}
 use Rattle.rules.specs.Grid.{samePlace, Rect, spanOf, inside}
 use Rattle.rules.specs.Store.{Report, Line, Cell}
@@ -881,4 +881,21 @@ entries-total {cells} {memo} rows s b =
       sumTo-add (suc maxRadio) (λ r. one-if (isSome (find rows r))) (λ r. sumBy (staleC (find memo r) r) cells),
       sumTo-le (suc maxRadio) (λ r. sumBy (heldC r) cells) (λ r. one-if (isSome (find rows r)) + sumBy (staleC (find memo r) r) cells)
           (λ r _. omega (arith, book-of b r .present, live-stale (find memo r) r cells)),
+    )
+
+-- ---- a bound
+
+count-one : (t : Place → Bool) (o : Option Place) → countIf t o ≤ 1
+count-one t none = omega arith
+count-one t (some p) = one-if-le (t p)
+
+-- a radio has one entry in each cell at most
+pub missed-few : {cells : List Cell} {memo : Rows Line} {new on : ℕ → Bool} → Books cells memo new on → (r : ℕ) → missedOf (find memo r) ≤ length cells
+unfolding staleR
+missed-few {cells} {memo} b r =
+    omega (
+      arith,
+      b .counted r,
+      sum-le (staleC (find memo r) r) (λ _. 1) cells (λ c. count-one (staleBy (find memo r)) (find (c .entries) r)),
+      length-sum cells,
     )

@@ -238,7 +238,7 @@ off-core s w r h k on =
 -- ---- sign-on, report, sign-off
 
 -- a flush leaves the tally
-after-tally : (pick : ℕ) (p : Place) (s : Store) → afterReport pick p s .tally ≡ s .tally
+pub after-tally : (pick : ℕ) (p : Place) (s : Store) → afterReport pick p s .tally ≡ s .tally
 unfolding afterReport
 after-tally pick p s =
     option-cases (flushDue s p)
@@ -268,11 +268,12 @@ report-on-well pick s w r p h k q on =
     let b = wasNew (find (s .waiting) r) in
     report-well pick p (reported r p s) (report-core s w r p h k q on) (put-bounded s w r h f p b refl) (w .tallied) (put-few s w r h f p b refl) (put-boxes s w r h f p b refl)
 
-off-well : (s : Store) (w : WellFormed s) (r : ℕ) → 1 ≤ r → r ≤ maxRadio → isOn s r ≡ true → WellFormed (tick (signedOff r s))
+-- before the tally
+pub off-done : (s : Store) (w : WellFormed s) (r : ℕ) → 1 ≤ r → r ≤ maxRadio → isOn s r ≡ true → Done (signedOff r s) (signedOff r s .tally + 1)
 unfolding signedOff isOn
-off-well s w r h k on =
+off-done s w r h k on =
     let less = length-alter (λ _. none) 0 r (s .waiting) h (w .waiting-rises) in
-    tick-well (signedOff r s) (w .tallied) (record {
+    record {
       staged = record {
         core = off-core s w r h k on;
         bounded =
@@ -283,7 +284,13 @@ off-well s w r h k on =
         few = omega (arith, less, w .few-wait);
         boxes = λ n. omega (arith, waiting-less (s .cuts) (λ _. none) r (s .waiting) n h (w .waiting-rises) refl, w .few-in-box n);
       };
-    })
+    }
+
+off-well : (s : Store) (w : WellFormed s) (r : ℕ) → 1 ≤ r → r ≤ maxRadio → isOn s r ≡ true → WellFormed (tick (signedOff r s))
+off-well s w r h k on = tick-well (signedOff r s) (off-early s w r) (off-done s w r h k on)
+  where
+    off-early : (s : Store) → WellFormed s → (r : ℕ) → signedOff r s .tally < sweepEvery
+    off-early s w r = unfold signedOff in w .tallied
 
 -- ---- any call
 

@@ -169,7 +169,8 @@ carry pick s bytes buffer =
 
 -- ---- what is allowed of the neighbour's name
 
-abbrev allowedIf : ℕ → Option Box → Store → Bool
+-- if a memory cell is flushed
+abbrev pub allowedIf : ℕ → Option Box → Store → Bool
 allowedIf pick none s = true
 allowedIf pick (some m) s = allowedFlush pick m s
 
