@@ -1,4 +1,4 @@
-/* The desk through its C interface: the layout of the desk, a fresh store, and the contract's own journal. */
+/* The desk through its C interface: the layout of the desk, a fresh store, the contract's own journal, and the test of soundness. */
 #undef NDEBUG
 #include "boragefile.h"
 #include <assert.h>
@@ -50,6 +50,15 @@ static void expect(const uint8_t *bytes, size_t length, unsigned number, unsigne
     expect_guards();
 }
 
+/* Asks whether the store is sound; the asking keeps every byte of all that is lent. */
+static int is_sound(size_t pages_length)
+{
+    memcpy(&before, &lent, sizeof lent);
+    bool sound = boragefile_sound(&lent.desk, lent.pages, pages_length);
+    assert(memcmp(&before, &lent, sizeof lent) == 0);
+    return sound;
+}
+
 static void expect_fresh(void)
 {
     const boragefile_grid *grid = &lent.desk.grid;
@@ -75,11 +84,19 @@ int main(void)
     boragefile_answer answer = boragefile_begin(&lent.desk, lent.pages, sizeof lent.pages - 1);
     assert(answer.number == 1 && answer.count == 0);
     assert(all((const uint8_t *)&lent, sizeof lent, 0xA5));
+    assert(!is_sound(sizeof lent.pages));
 
     answer = boragefile_begin(&lent.desk, lent.pages, sizeof lent.pages);
     assert(answer.number == 0 && answer.count == 0);
     expect_fresh();
     expect_guards();
+
+    /* a fresh store is sound; with a byte changed, or cut short, it is not */
+    assert(is_sound(sizeof lent.pages) && !is_sound(sizeof lent.pages - 1));
+    lent.pages[199] = 1;
+    assert(!is_sound(sizeof lent.pages));
+    lent.pages[199] = 0;
+    assert(is_sound(sizeof lent.pages));
 
     const uint8_t on[] = {10, 0, 1, 0, 7, 0, 100, 0, 200, 0};
     const uint8_t report[] = {10, 0, 2, 0, 7, 0, 44, 1, 200, 0};
@@ -98,9 +115,11 @@ int main(void)
     expect(on, 0, 3, 0);
     expect(range, 11, 3, 0);
 
-    /* a damaged store: number 2 */
+    /* sound after all these; a damaged store: number 2 */
+    assert(is_sound(sizeof lent.pages));
     lent.desk.tally = 16;
     expect(range, sizeof range, 2, 0);
+    assert(!is_sound(sizeof lent.pages));
 
     printf("ok\n");
     return 0;

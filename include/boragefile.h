@@ -1,7 +1,8 @@
-/* The position desk: the two functions of libcalls.a, and the desk that they are lent. */
+/* The position desk: the three functions of libcalls.a, and the desk that they are lent. */
 #ifndef BORAGEFILE_H
 #define BORAGEFILE_H
 
+#include <stdbool.h>
 #include <stddef.h>
 #include <stdint.h>
 
@@ -86,6 +87,9 @@ boragefile_answer boragefile_begin(boragefile_desk *desk, uint8_t *pages, size_t
 boragefile_answer boragefile_call(boragefile_desk *desk, uint8_t *pages, size_t pages_length,
                                   const uint8_t *bytes, size_t bytes_length,
                                   uint8_t *buffer, size_t buffer_length);
+
+/* Whether desk and pages are those of a sound store: the test that each call makes first. It changes nothing. */
+bool boragefile_sound(const boragefile_desk *desk, const uint8_t *pages, size_t pages_length);
 
 #ifdef __cplusplus
 }

@@ -1,5 +1,8 @@
-// The desk's calls on a desk that is lent: thin functions over `carry` and `fresh::begin`, which take the desk by value and return it, and those for programs in Rust or C.
+// The desk's calls on a desk that is lent: thin functions over `carry` and `fresh::begin`, which take the desk by value and return it, and those for programs in Rust or C, with the test of soundness.
+ghost use mathlib.Core.Bool.{true};
+ghost use mathlib.Core.Path.{_≡_};
 ghost use Rattle.desk.specs.Call.{Answers};
+ghost use Rattle.desk.specs.Sound.{Sound};
 ghost use Rattle.fresh.specs.Begin.{Begins};
 use desk::Desk;
 use fresh::Answer;
@@ -43,4 +46,13 @@ pub extern "C" fn boragefile_begin(desk: &mut Desk, pages: &mut [u8]) -> Answer
     ensures { λ a. ⌜ Begins (record { desk = now (desk .entry); pages = now (pages .entry) }) (record { number = a .number; count = a .count; desk = now (desk .exit); pages = now (pages .exit) }) ⌝ }
 {
     begin(desk, pages)
+}
+
+// Whether desk and pages are those of a sound store: the test that each call makes first, for a serving program in Rust or C.
+#[no_mangle]
+pub extern "C" fn boragefile_sound(desk: &Desk, pages: &[u8]) -> bool
+    ensures { λ r. ⌜ (r ≡ true → Sound (now (desk .entry)) (now (pages .entry))) × (Sound (now (desk .entry)) (now (pages .entry)) → r ≡ true) ⌝ }
+{
+    let d = *desk;
+    sound::sound(d, pages)
 }

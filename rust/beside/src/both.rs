@@ -51,8 +51,8 @@ impl Both {
 
     /// Hands any bytes to both, with an answer buffer of `room` bytes, and compares all that can be seen: number, count
     /// and list; that nothing else is written to the buffer; that a range or a turned-down call keeps desk and pages;
-    /// that the same radios are on and wait, at their latest places. Now and then it compares all pages with the plain
-    /// rule: chains, stale entries and missed counts.
+    /// that the same radios are on and wait, at their latest places. Now and then it asks whether the store is sound, and
+    /// compares all pages with the plain rule: chains, stale entries and missed counts.
     pub fn call(&mut self, bytes: &[u8], room: usize) -> Answer {
         self.calls += 1;
         self.before.clone_from(&self.store);
@@ -106,6 +106,7 @@ impl Both {
             );
         }
         if self.calls.is_multiple_of(PAGES_COMPARED_EVERY) {
+            assert!(self.store.is_sound(), "call {}: the store is sound", self.calls);
             self.rule.compare_pages(&self.store);
         }
     }

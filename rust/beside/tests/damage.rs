@@ -1,5 +1,5 @@
 //! Damaged stores: each clause of a sound store, broken in the desk or in the pages. Every call is then turned down under
-//! number 2 and keeps every byte.
+//! number 2 and keeps every byte, and the test alone finds the store unsound.
 #![forbid(unsafe_code)]
 use beside::{Both, Xorshift};
 use boragefile::{Answer, Desk, Line, Record, Refusal, Report, Slot, Store, NONE, PAGES, PAGE_BYTES};
@@ -169,7 +169,7 @@ fn requests() -> Vec<Vec<u8>> {
     ]
 }
 
-/// True if number 2 turns every request down. Checks that each then keeps every byte.
+/// True if number 2 turns every request down. Checks that each then keeps every byte, and that the test alone finds the same.
 fn is_turned_down(store: &Store) -> bool {
     let downs = requests().into_iter().map(|bytes| {
         let mut tried = store.clone();
@@ -188,6 +188,7 @@ fn is_turned_down(store: &Store) -> bool {
         downs.iter().all(|down| *down == downs[0]),
         "soundness does not hang on the record"
     );
+    assert_eq!(store.is_sound(), !downs[0], "the test alone finds what the calls find");
     downs[0]
 }
 
@@ -699,7 +700,10 @@ fn stores_in_any_condition() {
         if let Answer::Refused(..) = answer {
             assert!(other == before && buffer == [0x5a; 3072]);
         }
-        sound += usize::from(answer.number() != 2);
+        let was_sound = answer.number() != 2;
+        assert_eq!(before.is_sound(), was_sound);
+        assert_eq!(other.is_sound(), was_sound, "a call keeps a sound store sound");
+        sound += usize::from(was_sound);
     }
     println!("{sound} of 20,000 changed stores are still sound");
 }

@@ -1,7 +1,7 @@
 //! The worked points, on the running desk and beside the plain list.
 #![forbid(unsafe_code)]
 use beside::Both;
-use boragefile::{begin, call, listed, Answer, Desk, Record, Refusal, Store, LIST_BYTES, PAGES_BYTES};
+use boragefile::{begin, call, is_sound, listed, Answer, Desk, Record, Refusal, Store, LIST_BYTES, PAGES_BYTES};
 
 fn on(radio: u16, east: u16, north: u16) -> Record {
     Record::SignOn { radio, east, north }
@@ -55,6 +55,9 @@ fn a_page_buffer_of_another_size_is_turned_down() {
         let answer = call(store.parts_mut().0, &mut pages, &on(1, 2, 3).to_bytes(), &mut buffer);
         assert_eq!(answer, refused(Refusal::PageBuffer));
         assert!(store == fresh && pages.iter().all(|byte| *byte == 7) && buffer == [9; 12]);
+        let mut other = fresh.pages().to_vec();
+        other.resize(size, 0);
+        assert!(!is_sound(fresh.desk(), &other));
     }
 }
 
@@ -67,6 +70,7 @@ fn a_fresh_store_is_made_whatever_was_there() {
     let mut pages = vec![0xff; PAGES_BYTES];
     assert_eq!(begin(&mut desk, &mut pages), Answer::Accepted);
     assert!(desk == *fresh.desk() && pages == fresh.pages());
+    assert!(is_sound(&desk, &pages));
     assert_eq!(
         (desk.grid.easts.n, desk.grid.norths.n, desk.grid.cells.n, desk.grid.free),
         (0, 0, 1, 1)

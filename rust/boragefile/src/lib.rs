@@ -55,6 +55,7 @@ extern "C" {
         buffer: *mut u8,
         buffer_length: usize,
     ) -> Numbers;
+    fn boragefile_sound(desk: *const Desk, pages: *const u8, pages_length: usize) -> bool;
 }
 
 /// Makes desk and pages a fresh store. Only number 1 can turn it down.
@@ -80,6 +81,13 @@ pub fn call(desk: &mut Desk, pages: &mut [u8], bytes: &[u8], buffer: &mut [u8]) 
         )
     };
     Answer::from_numbers(answer.number, answer.count, record::field(bytes, 1) == Some(KIND_RANGE))
+}
+
+/// Whether desk and pages, in whatever condition these are, are those of a sound store: the test that each call makes
+/// first, for number 2.
+pub fn is_sound(desk: &Desk, pages: &[u8]) -> bool {
+    // SAFETY: as in `begin`, and both are only read. The archive answers a bool, that is 0 or 1.
+    unsafe { boragefile_sound(desk, pages.as_ptr(), pages.len()) }
 }
 
 /// The first `count` radios of an answer buffer, each with its east and its north.
@@ -117,6 +125,12 @@ impl Store {
     /// Hands in one record. An accepted range lists its radios at the buffer's start; [`listed`] reads them.
     pub fn call(&mut self, bytes: &[u8], buffer: &mut [u8]) -> Answer {
         call(&mut self.desk, &mut self.pages, bytes, buffer)
+    }
+
+    /// Whether this is a sound store. After any run of calls on a fresh one it is; after a change through
+    /// [`Store::parts_mut`] it may not be.
+    pub fn is_sound(&self) -> bool {
+        is_sound(&self.desk, &self.pages)
     }
 
     /// The desk.
