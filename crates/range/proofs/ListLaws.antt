@@ -14,6 +14,7 @@ use Rattle.lists.specs.Sums.{keep, filter}
 use Rattle.lists.specs.Tests.{one-if}
 use Rattle.lists.specs.Words.{le}
 use Rattle.lists.proofs.Cases.{by-cases}
+use Rattle.lists.proofs.SumsLaws.{filter-append}
 use Rattle.lists.proofs.PartsLaws.{put-nil, put-then}
 use Rattle.lists.proofs.TestsLaws.{each-filter}
 use Rattle.rules.specs.Grid.{Rect, inside}
@@ -26,7 +27,6 @@ use Rattle.desk.specs.declared.Memo.{Memo}
 use Rattle.desk.specs.Views.{radioRow, radiosOf, slotsIn}
 use Rattle.memo.specs.Memo.{linesOf}
 use Rattle.waiting.specs.Waiting.{reportsOf}
-use Rattle.waiting.proofs.BoxLaws.{filter-append}
 use Rattle.range.specs.Range.{Places, placesIn, Holds, placesOf, isFound, rowAt, rowsAt, foundIn}
 use Rattle.range.proofs.TableLaws.{mapped-turn, mapped-end, each-mapped}
 
