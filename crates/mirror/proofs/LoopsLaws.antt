@@ -125,17 +125,13 @@ pub rises-nil : (n b : ℕ) → risesTo n b [] ≡ true
 unfolding risesTo
 rises-nil n b = refl
 
-pub rises-step : (n b x : ℕ) (xs : List ℕ) → b < x → x ≤ n → risesTo n b (x ∷ xs) ≡ risesTo n x xs
+pub rises-cons : (n b x : ℕ) (xs : List ℕ) → risesTo n b (x ∷ xs) ≡ both (both (ltb b x) (leb x n)) (risesTo n x xs)
+unfolding risesTo
+rises-cons n b x xs = refl
+
+rises-step : (n b x : ℕ) (xs : List ℕ) → b < x → x ≤ n → risesTo n b (x ∷ xs) ≡ risesTo n x xs
 unfolding risesTo both
 rises-step n b x xs h k = rw (lt-ltb b x h, le-leb x n k)
-
-pub rises-low : (n b x : ℕ) (xs : List ℕ) → x ≤ b → risesTo n b (x ∷ xs) ≡ false
-unfolding risesTo both
-rises-low n b x xs h = rw (le-ltb b x h)
-
-pub rises-high : (n b x : ℕ) (xs : List ℕ) → n < x → risesTo n b (x ∷ xs) ≡ false
-unfolding risesTo both
-rises-high n b x xs h = by-cases (ltb b x) (λ t. rw (t, lt-leb x n h)) (λ t. rw t)
 
 rises-head : (n b x : ℕ) (xs : List ℕ) → risesTo n b (x ∷ xs) ≡ true → (b < x) × (x ≤ n) × (risesTo n x xs ≡ true)
 unfolding risesTo

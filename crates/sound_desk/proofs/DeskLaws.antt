@@ -8,12 +8,12 @@ use native.Mathlib.Omega.{arith}
 use lib.Dec.{eqb, leb, ltb}
 use lib.ListN.{length, length-map}
 use borrow.Author.Tests.{le-leb, leb-true}
-use Rattle.terms.specs.Terms.{maxOn}
-use Rattle.lists.specs.Rows.{Rising}
+use Rattle.terms.specs.Terms.{maxRadio, maxOn}
+use Rattle.lists.specs.Rows.{UpTo}
 use Rattle.lists.specs.Sums.{concat}
 use Rattle.lists.specs.Tests.{both, all}
-use Rattle.lists.proofs.TestsLaws.{both-left, both-right, both-intro, not-true, not-false}
-use Rattle.rules.specs.Limits.{maxCells, maxCuts, fullMemory, sweepEvery}
+use Rattle.lists.proofs.TestsLaws.{both-left, both-right, both-intro, not-false}
+use Rattle.rules.specs.Limits.{maxCells, fullMemory, sweepEvery}
 use Rattle.rules.specs.Grid.{Cuts, Rect}
 use Rattle.rules.specs.Store.{Store, Cell}
 use Rattle.desk.specs.declared.CutList.{CutList}
@@ -30,85 +30,39 @@ use Rattle.mirror.specs.Grid.{edgesTest, tileTest}
 use Rattle.mirror.specs.Cells.{numbersOf, edgesOf, rowsOf, numbersTest, roundTest}
 use Rattle.mirror.specs.Radios.{onTest, unmarkedTest, staleAt, lineTest, linesTest}
 use Rattle.mirror.specs.Round.{tallyTest}
-use Rattle.mirror.specs.Waiting.{fewTest}
+use Rattle.mirror.specs.Waiting.{waitingTest, fewTest}
 use Rattle.mirror.proofs.LoopsLaws.{all-both}
 use Rattle.mirror.proofs.RadiosLaws.{on-true}
+use Rattle.mirror.proofs.WaitingLaws.{waiting-true}
 use Rattle.mirror.proofs.WellLaws.{Passes}
-use Rattle.sound_desk.specs.Views.{cellOf, rectsIn}
-use Rattle.sound_desk.specs.Sound.{number, slotsTest, reportWeight, cutsSound, onSound, waitingSound, missedTest, memoSound, directorySound, edgesSound, tileSound, fewSound, unmarkedSound, gridSound, radiosSound, deskSound, shown, Tests, DeskTests, Shaped}
-use Rattle.sound_desk.proofs.LoopLaws.{false-both, true-both}
-use Rattle.sound_desk.proofs.SlotLaws.{slots-count}
-use Rattle.sound_desk.proofs.PartLaws.{map-map, map-same, cuts-in, cuts-whole, whole-cuts, on-whole, radios-on, whole-on, waiting-whole, reports-waiting, whole-waiting, memo-whole, whole-memo-sound}
-use Rattle.sound_desk.proofs.GridLaws.{directory-count, directory-whole, slots-in, whole-directory}
-
--- ---- one test after the other
-
-stops : {a x : Bool} (rest : Bool) → a ≡ x → not a ≡ true → false ≡ both x rest
-stops {a} rest e f = sym (false-both rest (sym e ∙ not-true a f))
-
-goes : {a x r rest : Bool} → a ≡ x → not a ≡ false → r ≡ rest → r ≡ both x rest
-goes {a} {x} {r} {rest} e f q = q ∙ sym (true-both rest (sym e ∙ not-false a f))
+use Rattle.sound_grid.specs.Views.{rectsIn}
+use Rattle.sound_grid.specs.Sound.{slotsTest, number, cutsSound, directorySound, edgesSound, tileSound, gridSound}
+use Rattle.sound_grid.proofs.LoopLaws.{stops, goes}
+use Rattle.sound_grid.proofs.SlotLaws.{slots-count}
+use Rattle.sound_grid.proofs.CutsLaws.{cuts-whole, cuts-in, whole-cuts}
+use Rattle.sound_grid.proofs.GridLaws.{directory-count, directory-whole, slots-in, whole-directory}
+use Rattle.sound_desk.specs.Views.{reportsOf, cellOf}
+use Rattle.sound_desk.specs.Sound.{onSound, reportWeight, waitingSound, missedTest, memoSound, fewSound, unmarkedSound, radiosSound, deskSound, shown, Tests, DeskTests, Shaped}
+use Rattle.sound_desk.proofs.PartLaws.{map-map, map-same, on-whole, radios-on, whole-on, waiting-whole, reports-waiting, whole-waiting, memo-whole, whole-memo-sound}
 
 -- ---- what a part that has passed gives to the tests after it
-
-pub passed-true : {a x : Bool} → a ≡ x → not a ≡ false → x ≡ true
-passed-true {a} e f = sym e ∙ not-false a f
-
-pub cuts-room : {a : Bool} (c : CutList) → a ≡ cutsSound c → not a ≡ false → c .n ≤ maxCuts
-unfolding cutsSound
-cuts-room {a} c e f = slots-count number maxCuts (c .n) (c .at) (both-left (slotsTest number maxCuts (c .n) (c .at)) _ (sym e ∙ not-false a f))
-
-pub cells-room : {a : Bool} (d : Directory) → a ≡ directorySound d → not a ≡ false → d .n ≤ maxCells
-cells-room {a} d e f = directory-count d (sym e ∙ not-false a f)
 
 pub waiting-room : {a : Bool} (w : Waiting) → a ≡ waitingSound w → not a ≡ false → w .n ≤ fullMemory
 unfolding waitingSound
 waiting-room {a} w e f = let h = slots-count reportWeight (fullMemory - 1) (w .n) (w .rows) (both-left (slotsTest reportWeight (fullMemory - 1) (w .n) (w .rows)) _ (sym e ∙ not-false a f)) in omega arith
 
+pub waiting-below : {a : Bool} (w : Waiting) → a ≡ waitingSound w → not a ≡ false → UpTo maxRadio (reportsOf w)
+unfolding waitingSound
+waiting-below {a} w e f =
+    waiting-true (reportsOf w) (both-left (waitingTest (reportsOf w)) _ (both-right (slotsTest reportWeight (fullMemory - 1) (w .n) (w .rows)) _ (sym e ∙ not-false a f))) .2
+
 pub on-room : {a : Bool} (on : On) → a ≡ onSound on → not a ≡ false → on .n ≤ maxOn
 unfolding onSound
 on-room {a} on e f = slots-count number maxOn (on .n) (on .radios) (both-left (slotsTest number maxOn (on .n) (on .radios)) _ (sym e ∙ not-false a f))
 
-pub on-rising : {a : Bool} (on : On) → a ≡ onSound on → not a ≡ false → Rising 0 (radiosOf on)
+pub on-below : {a : Bool} (on : On) → a ≡ onSound on → not a ≡ false → UpTo maxRadio (radiosOf on)
 unfolding onSound
-on-rising {a} on e f = on-true (radiosOf on) (both-right (slotsTest number maxOn (on .n) (on .radios)) (onTest (radiosOf on)) (sym e ∙ not-false a f)) .1
-
--- ---- the grid
-
-module _ (easts norths : CutList) (d : Directory) {a : Bool} (east : a ≡ cutsSound easts) where
-  pub grid-east : not a ≡ true → false ≡ gridSound easts norths d
-  unfolding gridSound
-  grid-east f = stops _ east f
-
-  module _ (passed : not a ≡ false) {b : Bool} (north : b ≡ cutsSound norths) where
-    pub grid-north : not b ≡ true → false ≡ gridSound easts norths d
-    unfolding gridSound
-    grid-north f = goes east passed (stops _ north f)
-
-    module _ (passed′ : not b ≡ false) {k : Bool} (cells : k ≡ directorySound d) where
-      pub grid-cells : not k ≡ true → false ≡ gridSound easts norths d
-      unfolding gridSound
-      grid-cells f = goes east passed (goes north passed′ (stops _ cells f))
-
-      module _ (passed″ : not k ≡ false) {l : Bool} (edges : l ≡ edgesSound easts norths d) where
-        pub grid-edges : not l ≡ true → false ≡ gridSound easts norths d
-        unfolding gridSound
-        grid-edges f = goes east passed (goes north passed′ (goes cells passed″ (stops _ edges f)))
-
-        pub grid-tile : {r : Bool} → not l ≡ false → r ≡ tileSound easts norths d → r ≡ gridSound easts norths d
-        unfolding gridSound
-        grid-tile f q = goes east passed (goes north passed′ (goes cells passed″ (goes edges f q)))
-
-module _ (easts norths : CutList) (d : Directory) {a : Bool} (grid : a ≡ gridSound easts norths d) (passed : not a ≡ false) where
-  all-grid : both (cutsSound easts) (both (cutsSound norths) (both (directorySound d) (both (edgesSound easts norths d) (tileSound easts norths d)))) ≡ true
-  unfolding gridSound
-  all-grid = sym grid ∙ not-false a passed
-
-  pub grid-east-room : easts .n ≤ maxCuts
-  grid-east-room = cuts-room easts (sym (both-left (cutsSound easts) _ all-grid)) refl
-
-  pub grid-north-room : norths .n ≤ maxCuts
-  grid-north-room = cuts-room norths (sym (both-left (cutsSound norths) _ (both-right (cutsSound easts) _ all-grid))) refl
+on-below {a} on e f = on-true (radiosOf on) (both-right (slotsTest number maxOn (on .n) (on .radios)) (onTest (radiosOf on)) (sym e ∙ not-false a f)) .2
 
 -- ---- waiting reports and radios on
 

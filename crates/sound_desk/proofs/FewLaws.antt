@@ -1,21 +1,20 @@
--- Waiting reports against the cuts, by a table of memory cells, and against who is on, by binary search.
+-- Waiting reports against the cuts, by a table of memory cells.
 use mathlib.Core.Path.{_≡_, refl, sym, ap, ap₂, _∙_}
-use mathlib.Core.Bool.{Bool, true, false, not}
-use mathlib.Core.List.{List, [], _∷_, map}
+use mathlib.Core.Bool.{true, false}
+use mathlib.Core.List.{List, []}
 use mathlib.Core.Logic.{_≢_}
-use Prim.Native.Nat.{ℕ, _+_, _-_, _*_, _/_, _≤_, _<_}
+use Prim.Native.Nat.{ℕ, _+_, _-_, _*_, _≤_, _<_}
 use native.Mathlib.Omega.{arith}
 use native.Mathlib.Numerals.{add-one}
-use lib.Dec.{eqb, leb, ltb}
-use lib.ListN.{length, getD, set, take, replicate, length-map, length-set, length-take, length-replicate, getD-replicate, List·getD-map, List·getD-eq-default}
+use lib.Dec.{eqb}
+use lib.ListN.{length, getD, set, take, replicate, length-map, length-set, length-take, List·getD-map}
 use lib.Seq.{take-suc, take-all, getD-take, getD-set-same, getD-set-other, length-take-le}
-use borrow.Author.Tests.{ltb-true, ltb-false, le-leb, lt-leb, eqb-true, eqb-false, eq-eqb, ne-eqb}
-use Rattle.lists.specs.Rows.{Row, Rows, Rising, find, rank}
-use Rattle.lists.specs.Tests.{one-if, both, either, all, isSome}
+use borrow.Author.Tests.{eqb-true, eq-eqb}
+use Rattle.lists.specs.Rows.{Row, Rows}
+use Rattle.lists.specs.Tests.{one-if}
 use Rattle.lists.proofs.Cases.{by-cases}
-use Rattle.lists.proofs.SearchLaws.{Between, between-start, between-up, between-down, rank-between, find-rank, find-rank-none}
 use Rattle.lists.proofs.SumsLaws.{sum-nil, sum-take-drop, sum-last}
-use Rattle.lists.proofs.TestsLaws.{both-left, both-right, both-intro, either-left}
+use Rattle.lists.proofs.TestsLaws.{both-left, both-right, both-intro}
 use Rattle.rules.specs.Limits.{maxCuts, fullBox, fullMemory}
 use Rattle.rules.specs.Grid.{Box, Cuts, stripe, boxOf}
 use Rattle.rules.specs.Flush.{inBox}
@@ -25,34 +24,14 @@ use Rattle.rules.proofs.TilingLaws.{stripe-most}
 use Rattle.desk.specs.declared.CutList.{CutList}
 use Rattle.desk.specs.declared.Report.{Report}
 use Rattle.desk.specs.declared.Waiting.{Waiting}
-use Rattle.desk.specs.declared.On.{On}
 use Rattle.desk.specs.Layout.{noReport}
-use Rattle.desk.specs.Views.{cutsIn, cutsBy, radioRow, radiosOf}
-use Rattle.mirror.specs.Loops.{passing}
-use Rattle.mirror.specs.Radios.{onAt, unmarkedTest}
+use Rattle.desk.specs.Views.{cutsIn, cutsBy}
 use Rattle.mirror.specs.Waiting.{fewTest}
-use Rattle.mirror.proofs.LoopsLaws.{passing-some}
 use Rattle.mirror.proofs.WaitingLaws.{few-true, true-few}
+use Rattle.sound_grid.specs.Sound.{maxStripes}
+use Rattle.sound_grid.proofs.LoopLaws.{same-at}
 use Rattle.sound_desk.specs.Views.{reportRow, reportsOf}
-use Rattle.sound_desk.specs.Sound.{maxStripes, fewSound, unmarkedSound}
-use Rattle.sound_desk.proofs.LoopLaws.{Passes, pass-fails, pass-turn, pass-end, Counted, count-end}
-use Rattle.sound_desk.proofs.PartLaws.{all-map}
-
--- ---- the stripe of a coordinate
-
-module _ (cut x : ℕ) where
-  pub past-yes : cut ≤ x → 1 ≡ one-if (leb cut x)
-  past-yes h = rw (le-leb cut x h)
-
-  pub past-no : x < cut → 0 ≡ one-if (leb cut x)
-  past-no h = rw (lt-leb cut x h)
-
-abbrev pub passedBy : ℕ → ℕ → ℕ
-passedBy x c = one-if (leb c x)
-
-pub stripe-end : {slots : List ℕ} {n i sum : ℕ} (x : ℕ) → Counted (passedBy x) slots n i sum → n ≤ i → sum ≡ stripe (take n slots) x
-unfolding stripe
-stripe-end x r h = count-end r h
+use Rattle.sound_desk.specs.Sound.{fewSound}
 
 -- ---- the table of memory cells
 
@@ -74,12 +53,6 @@ pub record Crowd (easts norths : CutList) (w : Waiting) (i : ℕ) (crowd : List 
   pub counts : (m : Box) → m .east < maxStripes → m .north < maxStripes → getD crowd (maxStripes * m .north + m .east) 0 ≡ waitingIn (cutsBy easts norths) (take i (reportsOf w)) m
   pub few : (m : Box) → waitingIn (cutsBy easts norths) (take i (reportsOf w)) m < fullBox
 
-pub zero-at : (n k : ℕ) → getD (replicate {A = ℕ} n 0) k 0 ≡ 0
-zero-at n k =
-    let z : List ℕ = replicate n 0 in
-    let l : length z ≡ n = length-replicate n 0 in
-    by-cases (ltb k n) (λ t. getD-replicate n k 0 0 (ltb-true k n t)) (λ t. List·getD-eq-default z 0 {n = k} (omega (arith, ltb-false k n t)))
-
 none-wait : (cuts : Cuts) (m : Box) → waitingIn cuts [] m ≡ 0
 unfolding waitingIn
 none-wait cuts m = sum-nil (λ w. one-if (inBox cuts m w))
@@ -90,7 +63,7 @@ crowd-start easts norths w l h k f = record {
   east-cuts = h;
   north-cuts = k;
   size = refl;
-  counts = λ m a b. zero-at (maxStripes * maxStripes) (maxStripes * m .north + m .east) ∙ sym (none-wait (cutsBy easts norths) m);
+  counts = λ m a b. same-at {A = ℕ} 0 (maxStripes * maxStripes) (maxStripes * m .north + m .east) ∙ sym (none-wait (cutsBy easts norths) m);
   few = λ m. omega (arith, none-wait (cutsBy easts norths) m);
 }
 
@@ -202,87 +175,3 @@ module _ {easts norths : CutList} {w : Waiting} {i : ℕ} {crowd : List ℕ} (r 
   crowd-end h =
       let a : take i (reportsOf w) ≡ reportsOf w = take-all i (reportsOf w) (omega (arith, length-reports w (r .fits))) in
       sym (true-few (cutsBy easts norths) (reportsOf w) (rw a at (r .few)))
-
--- ---- who is on
-
-module _ (slots : List ℕ) (n : ℕ) where
-  abbrev rows : Rows (Unit {0})
-  rows = map radioRow (take n slots)
-
-  length-rows : n ≤ length slots → length rows ≡ n
-  length-rows h = length-map (take n slots) radioRow ∙ length-take-le n slots h
-
-  row-at : (i : ℕ) → i < n → getD rows i (radioRow 0) .key ≡ getD slots i 0
-  row-at i h = ap (λ (x : Row (Unit {0})). x .key) (List·getD-map radioRow (take n slots) i 0) ∙ getD-take n slots i 0 h
-
-  pub seek-start : (radio : ℕ) → n ≤ length slots → Rising 0 (map radioRow (take n slots)) → Between (map radioRow (take n slots)) radio (radioRow 0) 0 n
-  seek-start radio h a = between-start radio (radioRow 0) n a (length-rows h)
-
-abbrev mid : ℕ → ℕ → ℕ
-mid lo hi = lo + (hi - lo) / 2
-
-module _ (slots : List ℕ) (n : ℕ) {radio lo hi : ℕ} (s : Between (map radioRow (take n slots)) radio (radioRow 0) lo hi) where
-  module _ (inside : hi ≤ n) (more : lo < hi) where
-    pub seek-up : getD slots (mid lo hi) 0 < radio → Between (map radioRow (take n slots)) radio (radioRow 0) (mid lo hi + 1) hi
-    seek-up k = between-up s (mid lo hi) (omega arith) (omega arith) (omega (arith, row-at slots n (mid lo hi) (omega arith)))
-
-    pub seek-down : radio ≤ getD slots (mid lo hi) 0 → Between (map radioRow (take n slots)) radio (radioRow 0) lo (mid lo hi)
-    seek-down k = between-down s (mid lo hi) (omega arith) (omega arith) (omega (arith, row-at slots n (mid lo hi) (omega arith)))
-
-  module _ (ended : hi ≤ lo) (fits : n ≤ length slots) where
-    pub seek-past : n ≤ lo → false ≡ isSome (find (map radioRow (take n slots)) radio)
-    seek-past h =
-        let q = rank-between s ended in
-        let l = length-rows slots n fits in
-        rw (find-rank-none 0 radio (map radioRow (take n slots)) (radioRow 0) (s .rising) (λ g _. absurd (omega arith)))
-
-    pub seek-here : lo < n → eqb (getD slots lo 0) radio ≡ isSome (find (map radioRow (take n slots)) radio)
-    seek-here h =
-        let q = rank-between s ended in
-        let l = length-rows slots n fits in
-        let g : rank radio (map radioRow (take n slots)) < length (map radioRow (take n slots)) = omega arith in
-        let e : getD (map radioRow (take n slots)) (rank radio (map radioRow (take n slots))) (radioRow 0) .key ≡ getD slots lo 0 = ap (λ (j : ℕ). getD (map radioRow (take n slots)) j (radioRow 0) .key) q ∙ row-at slots n lo h in
-        by-cases (eqb (getD slots lo 0) radio)
-        (λ t. rw (t, find-rank 0 radio (map radioRow (take n slots)) (radioRow 0) (s .rising) g (e ∙ eqb-true (getD slots lo 0) radio t)))
-        (λ t. rw (t, find-rank-none 0 radio (map radioRow (take n slots)) (radioRow 0) (s .rising) (λ _ z. eqb-false (getD slots lo 0) radio t (sym e ∙ z))))
-
--- ---- reports that belong
-
--- marked new, or of a radio on
-abbrev pub belongs : On → Report → Bool
-belongs on x = either (eqb (x .new) 1) (isSome (find (map radioRow (take (on .n) (on .radios))) (x .radio)))
-
-pub belong-new : (m : ℕ) (b : Bool) → m ≡ 1 → true ≡ either (eqb m 1) b
-belong-new m b e = sym (either-left b (eq-eqb m 1 e))
-
-pub belong-on : (m : ℕ) {r : Bool} (b : Bool) → m ≢ 1 → r ≡ b → r ≡ either (eqb m 1) b
-unfolding either
-belong-on m b e q = rw (ne-eqb m 1 e) q
-
-all-same : {A : Type 0} (p q : A → Bool) → ((x : A) → p x ≡ q x) → (l : List A) → all p l ≡ all q l
-unfolding all
-all-same p q h [] = refl
-all-same p q h (x ∷ xs) = ap₂ both (h x) (all-same p q h xs)
-
-module _ (w : Waiting) (on : On) where
-  unmarked-slots : all (belongs on) (take (w .n) (w .rows)) ≡ unmarkedSound w on
-  unfolding unmarkedSound unmarkedTest onAt reportsOf radiosOf
-  unmarked-slots =
-      let l = map radioRow (take (on .n) (on .radios)) in
-      all-same (belongs on) (λ x. either (eqb (x .new) 1) (ltb 0 (passing (λ _. true) (x .radio) l))) (λ x. ap (either (eqb (x .new) 1)) (sym (passing-some (x .radio) l))) (take (w .n) (w .rows))
-      ∙ sym (all-map (λ (y : Row StoreReport). either (y .val .new) (ltb 0 (passing (λ _. true) (y .key) l))) reportRow (take (w .n) (w .rows)))
-
-  module _ {i : ℕ} (r : Passes (belongs on) (w .rows) (w .n) i) where
-    pub unmarked-fail : i < w .n → {b : Bool} → b ≡ either (eqb (getD (w .rows) i noReport .new) 1) (isSome (find (map radioRow (take (on .n) (on .radios))) (getD (w .rows) i noReport .radio))) → not b ≡ true → false ≡ unmarkedSound w on
-    unmarked-fail more e f = pass-fails r more noReport e f ∙ unmarked-slots
-
-    pub unmarked-turn : i < w .n → {b : Bool} → b ≡ either (eqb (getD (w .rows) i noReport .new) 1) (isSome (find (map radioRow (take (on .n) (on .radios))) (getD (w .rows) i noReport .radio))) → not b ≡ false → Passes (belongs on) (w .rows) (w .n) (i + 1)
-    unmarked-turn more e f = pass-turn r more noReport e f
-
-    pub unmarked-end : w .n ≤ i → true ≡ unmarkedSound w on
-    unmarked-end h = pass-end r h ∙ unmarked-slots
-
--- what the search asks of the radios on
-pub rising-slots : (on : On) → Rising 0 (radiosOf on) → Rising 0 (map radioRow (take (on .n) (on .radios)))
-unfolding radiosOf
-rising-slots on a = a

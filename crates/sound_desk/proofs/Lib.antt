@@ -1,7 +1,5 @@
-pub mod LoopLaws
-pub mod SlotLaws
+pub mod ClimbLaws
 pub mod PartLaws
-pub mod GridLaws
-pub mod TileLaws
 pub mod FewLaws
+pub mod MarksLaws
 pub mod DeskLaws

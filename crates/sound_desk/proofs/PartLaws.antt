@@ -1,4 +1,4 @@
--- Cuts, radios on, waiting reports and memo lines: what the code's tests come to, and that the test of each part says just that the part is that of its rows
+-- Radios on, waiting reports and memo lines: what the code's tests come to, and that the test of each part says just that the part is that of its rows
 -- and that the mirror's tests of these hold.
 use mathlib.Core.Path.{_≡_, refl, sym, ap, ap₂, _∙_}
 use mathlib.Core.Bool.{Bool, true, false, cond}
@@ -8,42 +8,38 @@ use mathlib.Core.Option.{Option, none, some}
 use Prim.Native.Nat.{ℕ, _-_, _≤_, _<_}
 use native.Mathlib.Omega.{arith}
 use lib.Dec.{eqb, leb, ltb}
-use lib.ListN.{length, take, length-take, length-map}
+use lib.ListN.{length, take, length-map}
 use borrow.Author.Tests.{lt-ltb, le-ltb, le-leb, ltb-true, leb-true, eqb-true, eqb-false, eq-eqb, ne-eqb}
 use Rattle.terms.specs.Terms.{Place, maxRadio, maxOn}
 use Rattle.lists.specs.Rows.{Row, Rows}
 use Rattle.lists.specs.Tests.{one-if, both, either, all}
 use Rattle.lists.proofs.Cases.{by-cases}
-use Rattle.lists.proofs.TestsLaws.{both-left, both-right, both-intro, either-cases}
-use Rattle.rules.specs.Limits.{lastMetre, maxCuts, fullMemory}
+use Rattle.lists.proofs.TestsLaws.{both-left, both-right, both-intro, both-left-false, both-right-false, either-cases}
+use Rattle.rules.specs.Limits.{lastMetre, fullMemory}
 use Rattle.rules.specs.Store.{Report as StoreReport, Line as StoreLine}
-use Rattle.desk.specs.declared.CutList.{CutList}
 use Rattle.desk.specs.declared.Report.{Report}
 use Rattle.desk.specs.declared.Waiting.{Waiting}
 use Rattle.desk.specs.declared.Line.{Line}
 use Rattle.desk.specs.declared.Memo.{Memo}
 use Rattle.desk.specs.declared.On.{On}
-use Rattle.desk.specs.Layout.{lineSlots, slotted, cutListOf, reportOf, noReport, waitingOf, lineWith, lineOf, noLine, memoOf, onOf}
-use Rattle.desk.specs.Views.{cutsIn, radioRow, radiosOf}
-use Rattle.desk.proofs.UniqueLaws.{take-cuts, take-waiting, take-memo, take-on}
+use Rattle.desk.specs.Layout.{lineSlots, slotted, reportOf, noReport, waitingOf, lineWith, lineOf, noLine, memoOf, onOf}
+use Rattle.desk.specs.Views.{radioRow, radiosOf}
+use Rattle.desk.proofs.UniqueLaws.{take-waiting, take-memo, take-on}
 use Rattle.memo.specs.Memo.{lastOf, rowOf, linesOf}
 use Rattle.memo.proofs.MemoLaws.{lines-memo}
 use Rattle.mirror.specs.Loops.{risesTo, keys}
-use Rattle.mirror.specs.Grid.{cutsTest, placeTest}
+use Rattle.mirror.specs.Grid.{placeTest}
 use Rattle.mirror.specs.Radios.{onTest, memoTest, lastTest, lastsTest}
 use Rattle.mirror.specs.Waiting.{waitingTest, placesTest}
 use Rattle.mirror.proofs.LoopsLaws.{all-both}
+use Rattle.sound_grid.specs.Sound.{weighs, slotsTest, number}
+use Rattle.sound_grid.proofs.LoopLaws.{true-both, all-map, few-used, Weighed, weighed-end}
+use Rattle.sound_grid.proofs.SlotLaws.{slots-long, slots-heavy, slots-fit, slots-used, slots-slotted, slotted-slots}
 use Rattle.sound_desk.specs.Views.{placeOf, reportRow, reportsOf}
-use Rattle.sound_desk.specs.Sound.{weighs, slotsTest, climbs, number, cutsSound, onSound, reportWeight, reportMarked, reportTest, waitingSound, lineWeight, lineMarked, missedTest, lineTest, memoSound}
-use Rattle.sound_desk.proofs.LoopLaws.{both-false, false-both, true-both}
-use Rattle.sound_desk.proofs.SlotLaws.{map-back, slots-long, slots-heavy, slots-fit, slots-used, slots-slotted, slotted-slots}
+use Rattle.sound_desk.specs.Sound.{onSound, reportWeight, reportMarked, reportTest, waitingSound, lineWeight, lineMarked, missedTest, lineTest, memoSound}
+use Rattle.sound_desk.proofs.ClimbLaws.{climbs}
 
 -- ---- lists
-
-pub all-map : {A B : Type 0} (p : B → Bool) (f : A → B) (l : List A) → all p (map f l) ≡ all (λ x. p (f x)) l
-unfolding all
-all-map p f [] = refl
-all-map p f (x ∷ xs) = ap (both (p (f x))) (all-map p f xs)
 
 pub map-map : {A B C : Type 0} (g : B → C) (f : A → B) (l : List A) → map g (map f l) ≡ map (λ x. g (f x)) l
 map-map g f [] = refl
@@ -53,46 +49,11 @@ pub map-same : {A : Type 0} (f : A → A) → ((x : A) → f x ≡ x) → (l : L
 map-same f h [] = refl
 map-same f h (x ∷ xs) = ap₂ _∷_ (h x) (map-same f h xs)
 
-few-used : {A : Type 0} (n most : ℕ) (xs : List A) → n ≤ most → length (take n xs) ≤ most
-few-used n most xs h = rw length-take (omega arith)
-
--- ---- cuts
-
-module _ (c : CutList) where
-  pub cuts-long : maxCuts < c .n → false ≡ cutsSound c
-  unfolding cutsSound
-  cuts-long h = sym (false-both (cutsTest (cutsIn c)) (slots-long number maxCuts (c .n) (c .at) h))
-
-  pub cuts-heavy : {s : ℕ} → s ≡ weighs number (c .n) (c .at) → s ≢ 0 → false ≡ cutsSound c
-  unfolding cutsSound
-  cuts-heavy e h = sym (false-both (cutsTest (cutsIn c)) (slots-heavy number maxCuts (c .n) (c .at) e h))
-
-  pub cuts-rise : {s : ℕ} {r : Bool} → c .n ≤ maxCuts → s ≡ weighs number (c .n) (c .at) → s ≡ 0 → r ≡ risesTo lastMetre 0 (take (c .n) (c .at)) → r ≡ cutsSound c
-  unfolding cutsSound cutsTest cutsIn
-  cuts-rise h e z q =
-      q
-      ∙ sym (true-both (risesTo lastMetre 0 (take (c .n) (c .at))) (le-leb (length (take (c .n) (c .at))) maxCuts (few-used (c .n) maxCuts (c .at) h)))
-      ∙ sym (true-both (cutsTest (take (c .n) (c .at))) (slots-fit number maxCuts (c .n) (c .at) h e z))
-
-  pub cuts-whole : length (c .at) ≡ maxCuts → cutsSound c ≡ true → (c ≡ cutListOf (cutsIn c)) × (cutsTest (cutsIn c) ≡ true)
-  unfolding cutsSound cutListOf cutsIn
-  cuts-whole l t =
-      let s = both-left (slotsTest number maxCuts (c .n) (c .at)) (cutsTest (take (c .n) (c .at))) t in
-      let n = slots-used number maxCuts (c .n) (c .at) s maxCuts l (omega arith) in
-      let a = slots-slotted number maxCuts (c .n) (c .at) s maxCuts l (omega arith) 0 (λ x e. e) in
-      (λ i. record { n = n i; at = a i }, both-right (slotsTest number maxCuts (c .n) (c .at)) (cutsTest (take (c .n) (c .at))) t)
-
-cuts-few : (l : List ℕ) → cutsTest l ≡ true → length l ≤ maxCuts
-unfolding cutsTest
-cuts-few l t = leb-true (length l) maxCuts (both-left (leb (length l) maxCuts) (risesTo lastMetre 0 l) t)
-
-pub cuts-in : (l : List ℕ) → cutsIn (cutListOf l) ≡ l
-unfolding cutsIn
-cuts-in l = take-cuts l
-
-pub whole-cuts : (l : List ℕ) → cutsTest l ≡ true → cutsSound (cutListOf l) ≡ true
-unfolding cutsSound cutListOf
-whole-cuts l t = both-intro (slotted-slots number maxCuts maxCuts 0 l refl (cuts-few l t)) (ap cutsTest (cuts-in l) ∙ t)
+-- there and back
+pub map-back : {A B : Type 0} (f : B → A) (g : A → B) (p : A → Bool) (l : List A) → ((x : A) → p x ≡ true → x ≡ f (g x)) → all p l ≡ true → l ≡ map f (map g l)
+unfolding all
+map-back f g p [] h e = refl
+map-back f g p (x ∷ xs) h e = ap₂ _∷_ (h x (both-left (p x) (all p xs) e)) (map-back f g p xs h (both-right (p x) (all p xs) e))
 
 -- ---- who is on
 
@@ -105,11 +66,11 @@ module _ (on : On) where
 
   pub on-long : maxOn < on .n → false ≡ onSound on
   unfolding onSound
-  on-long h = sym (false-both (onTest (radiosOf on)) (slots-long number maxOn (on .n) (on .radios) h))
+  on-long h = sym (both-left-false (onTest (radiosOf on)) (slots-long number maxOn (on .n) (on .radios) h))
 
   pub on-heavy : {s : ℕ} → s ≡ weighs number (on .n) (on .radios) → s ≢ 0 → false ≡ onSound on
   unfolding onSound
-  on-heavy e h = sym (false-both (onTest (radiosOf on)) (slots-heavy number maxOn (on .n) (on .radios) e h))
+  on-heavy e h = sym (both-left-false (onTest (radiosOf on)) (slots-heavy number maxOn (on .n) (on .radios) e h))
 
   on-used : on .n ≤ maxOn → onTest (radiosOf on) ≡ risesTo maxRadio 0 heard
   unfolding onTest radiosOf
@@ -189,13 +150,13 @@ module _ (w : Waiting) where
 
   pub waiting-long : fullMemory - 1 < w .n → false ≡ waitingSound w
   unfolding waitingSound
-  waiting-long h = sym (false-both reportsOk (slots-long reportWeight (fullMemory - 1) (w .n) (w .rows) h))
+  waiting-long h = sym (both-left-false reportsOk (slots-long reportWeight (fullMemory - 1) (w .n) (w .rows) h))
 
-  pub waiting-heavy : {s : ℕ} → s ≡ weighs reportWeight (w .n) (w .rows) → s ≢ 0 → false ≡ waitingSound w
+  pub waiting-heavy : {k s : ℕ} → Weighed reportWeight (w .rows) fullMemory (w .n) k s → fullMemory ≤ k → s ≢ 0 → false ≡ waitingSound w
   unfolding waitingSound
-  waiting-heavy e h = sym (false-both reportsOk (slots-heavy reportWeight (fullMemory - 1) (w .n) (w .rows) e h))
+  waiting-heavy r e h = sym (both-left-false reportsOk (slots-heavy reportWeight (fullMemory - 1) (w .n) (w .rows) (weighed-end r e) h))
 
-  waiting-used : w .n ≤ fullMemory - 1 → climbs (λ x. x .radio) reportTest maxRadio 0 kept ≡ reportsOk
+  waiting-used : w .n ≤ fullMemory - 1 → climbs (λ x. x .radio) reportTest 0 kept ≡ reportsOk
   unfolding climbs waitingTest placesTest reportsOf
   waiting-used h =
       let f = few-used (w .n) (fullMemory - 1) (w .rows) h in
@@ -204,9 +165,9 @@ module _ (w : Waiting) where
       ∙ sym (true-both (risesTo maxRadio 0 (keys (map reportRow kept))) (lt-ltb (length (map reportRow kept)) fullMemory (rw (length-map kept reportRow) (omega arith)))))
       (all-both reportMarked (λ x. placeTest (placeOf x)) kept ∙ ap (both (all reportMarked kept)) (sym (all-map (λ (x : Row StoreReport). placeTest (x .val .place)) reportRow kept)))
 
-  pub waiting-climb : {s : ℕ} {r : Bool} → w .n ≤ fullMemory - 1 → s ≡ weighs reportWeight (w .n) (w .rows) → s ≡ 0 → r ≡ climbs (λ x. x .radio) reportTest maxRadio 0 (take (w .n) (w .rows)) → r ≡ waitingSound w
+  pub waiting-climb : {k s : ℕ} {r : Bool} → w .n ≤ fullMemory - 1 → Weighed reportWeight (w .rows) fullMemory (w .n) k s → fullMemory ≤ k → s ≡ 0 → r ≡ climbs (λ x. x .radio) reportTest 0 (take (w .n) (w .rows)) → r ≡ waitingSound w
   unfolding waitingSound
-  waiting-climb h e z q = q ∙ waiting-used h ∙ sym (true-both reportsOk (slots-fit reportWeight (fullMemory - 1) (w .n) (w .rows) h e z))
+  waiting-climb h r e z q = q ∙ waiting-used h ∙ sym (true-both reportsOk (slots-fit reportWeight (fullMemory - 1) (w .n) (w .rows) h (weighed-end r e) z))
 
   waiting-laid : length (w .rows) ≡ fullMemory → slotsTest reportWeight (fullMemory - 1) (w .n) (w .rows) ≡ true → all reportMarked kept ≡ true → w ≡ waitingOf (reportsOf w)
   unfolding waitingOf reportsOf
@@ -251,7 +212,7 @@ whole-waiting l t u =
 
 module _ (x : Line) where
   pub line-unmissed : x .missed ≡ 0 → false ≡ lineTest x
-  line-unmissed e = sym (both-false (lineMarked x) (false-both (lastTest (lastOf x)) (le-ltb 0 (x .missed) (omega arith))))
+  line-unmissed e = sym (both-right-false (lineMarked x) (both-left-false (lastTest (lastOf x)) (le-ltb 0 (x .missed) (omega arith))))
 
   pub line-placed : x .missed ≢ 0 → x .placed ≡ 1 → x .east ≤ lastMetre → x .north ≤ lastMetre → true ≡ lineTest x
   unfolding both either placeTest
@@ -307,13 +268,13 @@ module _ (m : Memo) where
 
   pub memo-long : lineSlots < m .n → false ≡ memoSound m
   unfolding memoSound
-  memo-long h = sym (false-both linesOk (slots-long lineWeight lineSlots (m .n) (m .rows) h))
+  memo-long h = sym (both-left-false linesOk (slots-long lineWeight lineSlots (m .n) (m .rows) h))
 
-  pub memo-heavy : {s : ℕ} → s ≡ weighs lineWeight (m .n) (m .rows) → s ≢ 0 → false ≡ memoSound m
+  pub memo-heavy : {k s : ℕ} → Weighed lineWeight (m .rows) lineSlots (m .n) k s → lineSlots ≤ k → s ≢ 0 → false ≡ memoSound m
   unfolding memoSound
-  memo-heavy e h = sym (false-both linesOk (slots-heavy lineWeight lineSlots (m .n) (m .rows) e h))
+  memo-heavy r e h = sym (both-left-false linesOk (slots-heavy lineWeight lineSlots (m .n) (m .rows) (weighed-end r e) h))
 
-  memo-used : climbs (λ x. x .radio) lineTest maxRadio 0 noted ≡ linesOk
+  memo-used : climbs (λ x. x .radio) lineTest 0 noted ≡ linesOk
   unfolding climbs memoTest missedTest lastsTest linesOf
   memo-used =
       ap₂ both
@@ -322,9 +283,9 @@ module _ (m : Memo) where
       ∙ ap (both (all lineMarked noted)) (all-both (λ x. ltb 0 (x .missed)) (λ x. lastTest (lastOf x)) noted
       ∙ ap₂ both (sym (all-map (λ (x : Row StoreLine). ltb 0 (x .val .missed)) rowOf noted)) (sym (all-map (λ (x : Row StoreLine). lastTest (x .val .last)) rowOf noted))))
 
-  pub memo-climb : {s : ℕ} {r : Bool} → m .n ≤ lineSlots → s ≡ weighs lineWeight (m .n) (m .rows) → s ≡ 0 → r ≡ climbs (λ x. x .radio) lineTest maxRadio 0 (take (m .n) (m .rows)) → r ≡ memoSound m
+  pub memo-climb : {k s : ℕ} {r : Bool} → m .n ≤ lineSlots → Weighed lineWeight (m .rows) lineSlots (m .n) k s → lineSlots ≤ k → s ≡ 0 → r ≡ climbs (λ x. x .radio) lineTest 0 (take (m .n) (m .rows)) → r ≡ memoSound m
   unfolding memoSound
-  memo-climb h e z q = q ∙ memo-used ∙ sym (true-both linesOk (slots-fit lineWeight lineSlots (m .n) (m .rows) h e z))
+  memo-climb h r e z q = q ∙ memo-used ∙ sym (true-both linesOk (slots-fit lineWeight lineSlots (m .n) (m .rows) h (weighed-end r e) z))
 
   memo-laid : length (m .rows) ≡ lineSlots → slotsTest lineWeight lineSlots (m .n) (m .rows) ≡ true → all lineMarked noted ≡ true → m ≡ memoOf (linesOf m)
   unfolding memoOf linesOf

@@ -1,17 +1,14 @@
 -- The waiting reports and the cells of a desk in any condition, as far as their counts say: what a store would have there.
-use mathlib.Core.List.{List, [], _∷_, map}
-use Prim.Native.Nat.{ℕ}
+use mathlib.Core.List.{[], _∷_, map}
 use lib.Dec.{eqb}
 use lib.ListN.{take}
 use Rattle.terms.specs.Terms.{Place}
 use Rattle.lists.specs.Rows.{Row, Rows}
-use Rattle.rules.specs.Grid.{Rect}
 use Rattle.rules.specs.Store.{Report as StoreReport, Cell}
 use Rattle.desk.specs.declared.Slot.{Slot}
-use Rattle.desk.specs.declared.Directory.{Directory}
 use Rattle.desk.specs.declared.Report.{Report}
 use Rattle.desk.specs.declared.Waiting.{Waiting}
-use Rattle.desk.specs.Views.{slotsIn, edgesOf as rectOf}
+use Rattle.desk.specs.Views.{edgesOf as rectOf}
 
 -- the waiting reports
 abbrev pub placeOf : Report → Place
@@ -26,9 +23,3 @@ reportsOf w = map reportRow (take (w .n) (w .rows))
 -- a cell of the directory, with its first page alone
 abbrev pub cellOf : Slot → Cell
 cellOf s = record { number = s .number; edges = rectOf s; chain = s .first ∷ []; entries = [] }
-
-abbrev pub numbersIn : Directory → List ℕ
-numbersIn d = map (λ s. s .number) (slotsIn d)
-
-abbrev pub rectsIn : Directory → List Rect
-rectsIn d = map rectOf (slotsIn d)

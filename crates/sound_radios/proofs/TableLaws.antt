@@ -19,7 +19,7 @@ use Rattle.lists.proofs.RowsLaws.{find-below}
 use Rattle.lists.proofs.SumsLaws.{sum-nil, sum-cons}
 use Rattle.lists.proofs.TestsLaws.{each-split}
 use Rattle.mirror.proofs.LoopsLaws.{passing-cons, passing-append}
-use Rattle.sound_desk.proofs.LoopLaws.{used-cons, used-none}
+use Rattle.sound_grid.proofs.LoopLaws.{used-cons, used-none}
 use Rattle.sound_radios.specs.Tables.{fieldEnd, Spare, added, written, keyed, Fits}
 
 -- ---- what the slots in use stand for

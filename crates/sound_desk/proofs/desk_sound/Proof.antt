@@ -1,4 +1,5 @@
-use Rattle.sound_desk.proofs.DeskLaws.{grid-east-room, grid-north-room, desk-grid, desk-radios, desk-memo, desk-tally}
+use Rattle.sound_grid.proofs.SoundLaws.{grid-east-room, grid-north-room}
+use Rattle.sound_desk.proofs.DeskLaws.{desk-grid, desk-radios, desk-memo, desk-tally}
 use borrow.Author.Needs.{needs}
 use Rattle.sound_desk.proofs.desk_sound.Statement.{statement}
 use Rattle.sound_desk.proofs.desk_sound.Tie as tie

@@ -1,4 +1,4 @@
-use Rattle.sound_desk.proofs.DeskLaws.{waiting-room, on-room, on-rising, radios-waiting, radios-heard, radios-few, radios-unmarked}
+use Rattle.sound_desk.proofs.DeskLaws.{waiting-room, waiting-below, on-room, on-below, radios-waiting, radios-heard, radios-few, radios-unmarked}
 use borrow.Author.Needs.{needs}
 use Rattle.sound_desk.proofs.radios_sound.Statement.{statement}
 use Rattle.sound_desk.proofs.radios_sound.Tie as tie
@@ -22,7 +22,7 @@ returns-3 : tie.Need-returns-3
 returns-3 c = search radios-few
 
 unmarked-sound-requires : tie.Need-unmarked-sound-requires
-unmarked-sound-requires c κs = (search waiting-room, search on-room, search on-rising)
+unmarked-sound-requires c κs = (search waiting-room, search waiting-below, search on-room, search on-below)
 
 returns-4 : tie.Need-returns-4
 returns-4 c = search radios-unmarked

@@ -1,0 +1,7 @@
+pub mod LoopLaws
+pub mod SlotLaws
+pub mod CutsLaws
+pub mod GridLaws
+pub mod StripeLaws
+pub mod TileLaws
+pub mod SoundLaws

@@ -1,0 +1,189 @@
+-- Loops over the slots of a part of the desk: over those in use, that they rise and pass, and over the others, that they are zero.
+use mathlib.Core.Path.{_≡_, refl, sym, ap, _∙_}
+use mathlib.Core.Bool.{Bool, true, false, not, _&&_}
+use mathlib.Core.List.{List, [], _∷_, map}
+use mathlib.Core.Logic.{_≢_}
+use Prim.Native.Nat.{ℕ, _+_, _≤_, _<_}
+use native.Mathlib.Omega.{arith}
+use native.Mathlib.Numerals.{add-one}
+use lib.Dec.{eqb, leb, ltb}
+use lib.ListN.{length, getD, take, drop, replicate, length-take, length-replicate, getD-replicate, drop-of-length-le, List·getD-eq-default}
+use lib.Seq.{drop-cons, getD-take}
+use borrow.Author.Tests.{ltb-true, ltb-false, lt-ltb, le-ltb, eq-eqb, ne-eqb}
+use Rattle.lists.specs.Sums.{sumBy, count}
+use Rattle.lists.specs.Tests.{one-if, both, all}
+use Rattle.lists.proofs.Cases.{by-cases}
+use Rattle.lists.proofs.SumsLaws.{sum-nil, sum-cons}
+use Rattle.lists.proofs.TestsLaws.{both-left-false, both-true, all-cons, not-true, not-false}
+use Rattle.mirror.specs.Loops.{risesTo}
+use Rattle.mirror.proofs.LoopsLaws.{rises-nil, rises-cons}
+use Rattle.sound_grid.specs.Sound.{weighs}
+
+-- ---- lists
+
+pub true-both : {a : Bool} (b : Bool) → a ≡ true → both a b ≡ b
+unfolding both
+true-both b e = rw e
+
+pub all-nil : {A : Type 0} (p : A → Bool) → all p [] ≡ true
+unfolding all
+all-nil p = refl
+
+module _ {A : Type 0} where
+  -- the slots in use from i on
+  pub used-cons : (xs : List A) (n i : ℕ) (d : A) → n ≤ length xs → i < n → drop i (take n xs) ≡ getD xs i d ∷ drop (i + 1) (take n xs)
+  used-cons xs n i d h k =
+      let l : i < length (take n xs) = rw length-take (omega arith) in
+      rw (add-one, drop-cons (take n xs) i d l, getD-take n xs i d k)
+
+  pub used-none : (xs : List A) (n i : ℕ) → n ≤ i → drop i (take n xs) ≡ []
+  used-none xs n i h = drop-of-length-le (take n xs) {i = i} (rw length-take (omega arith))
+
+pub all-map : {A B : Type 0} (p : B → Bool) (f : A → B) (l : List A) → all p (map f l) ≡ all (λ x. p (f x)) l
+unfolding all
+all-map p f [] = refl
+all-map p f (x ∷ xs) = ap (both (p (f x))) (all-map p f xs)
+
+pub few-used : {A : Type 0} (n most : ℕ) (xs : List A) → n ≤ most → length (take n xs) ≤ most
+few-used n most xs h = rw length-take (omega arith)
+
+-- a list of the same at any place
+pub same-at : {A : Type 0} (z : A) (n k : ℕ) → getD (replicate n z) k z ≡ z
+same-at z n k =
+    by-cases (ltb k n)
+    (λ t. getD-replicate n k z z (ltb-true k n t))
+    (λ t. List·getD-eq-default (replicate n z) z {n = k} (rw (length-replicate n z) (ltb-false k n t)))
+
+-- ---- one test after the other
+
+pub stops : {a x : Bool} (rest : Bool) → a ≡ x → not a ≡ true → false ≡ both x rest
+stops {a} rest e f = sym (both-left-false rest (sym e ∙ not-true a f))
+
+pub goes : {a x r rest : Bool} → a ≡ x → not a ≡ false → r ≡ rest → r ≡ both x rest
+goes {a} {x} {r} {rest} e f q = q ∙ sym (true-both rest (sym e ∙ not-false a f))
+
+pub passed-true : {a x : Bool} → a ≡ x → not a ≡ false → x ≡ true
+passed-true {a} e f = sym e ∙ not-false a f
+
+-- ---- numbers that rise
+
+-- the code's "and"
+pub and-both : (a b : Bool) → (a && b) ≡ both a b
+unfolding both
+and-both a b = by-cases a (λ t. rw t) (λ t. rw t)
+
+-- up to i they do if so, and end at last: with what is left to test it is the test
+pub record Rises (top : ℕ) (xs : List ℕ) (n : ℕ) (so : Bool) (last i : ℕ) : Type 0 where
+  pub fits : n ≤ length xs
+  pub same : both so (risesTo top last (drop i (take n xs))) ≡ risesTo top 0 (take n xs)
+
+pub rise-start : (top : ℕ) (xs : List ℕ) (n : ℕ) → n ≤ length xs → Rises top xs n true 0 0
+unfolding both
+rise-start top xs n h = record { fits = h; same = refl }
+
+both-then : (a b c : Bool) → both (both a b) c ≡ both a (both b c)
+unfolding both
+both-then a b c = by-cases a (λ t. rw t) (λ t. rw t)
+
+module _ {top : ℕ} {xs : List ℕ} {n : ℕ} {so : Bool} {last i : ℕ} (r : Rises top xs n so last i) where
+  pub rise-turn : {b : Bool} → i < n → b ≡ both (ltb last (getD xs i 0)) (leb (getD xs i 0) top) → Rises top xs n (so && b) (getD xs i 0) (i + 1)
+  rise-turn {b} more e =
+      let x = getD xs i 0 in
+      let tail = drop (i + 1) (take n xs) in
+      record {
+        fits = r .fits;
+        same =
+            ap (λ (y : Bool). both y (risesTo top x tail)) (and-both so b ∙ ap (both so) e)
+            ∙ both-then so (both (ltb last x) (leb x top)) (risesTo top x tail)
+            ∙ ap (both so) (sym (rises-cons top last x tail) ∙ ap (risesTo top last) (sym (used-cons xs n i 0 (r .fits) more)))
+            ∙ r .same;
+      }
+
+  pub rise-end : n ≤ i → so ≡ risesTo top 0 (take n xs)
+  rise-end h = sym (both-true so) ∙ ap (both so) (sym (ap (risesTo top last) (used-none xs n i h) ∙ rises-nil top last)) ∙ r .same
+
+-- ---- slots that pass
+
+-- up to i they do: what is left to test is the test
+pub record Passes {A : Type 0} (p : A → Bool) (xs : List A) (n i : ℕ) : Type 0 where
+  pub fits : n ≤ length xs
+  pub same : all p (drop i (take n xs)) ≡ all p (take n xs)
+
+pub pass-start : {A : Type 0} (p : A → Bool) (xs : List A) (n size : ℕ) → length xs ≡ size → n ≤ size → Passes p xs n 0
+pass-start p xs n size e h = record { fits = omega arith; same = refl }
+
+module _ {A : Type 0} {p : A → Bool} {xs : List A} {n i : ℕ} (r : Passes p xs n i) where
+  module _ (more : i < n) (d : A) {b : Bool} (said : b ≡ p (getD xs i d)) where
+    one : both (p (getD xs i d)) (all p (drop (i + 1) (take n xs))) ≡ all p (take n xs)
+    one = sym (all-cons p (getD xs i d) (drop (i + 1) (take n xs))) ∙ ap (all p) (sym (used-cons xs n i d (r .fits) more)) ∙ r .same
+
+    pub pass-fails : not b ≡ true → false ≡ all p (take n xs)
+    pass-fails f = sym (both-left-false (all p (drop (i + 1) (take n xs))) (sym said ∙ not-true b f)) ∙ one
+
+    pub pass-turn : not b ≡ false → Passes p xs n (i + 1)
+    pass-turn f = record { fits = r .fits; same = sym (true-both (all p (drop (i + 1) (take n xs))) (sym said ∙ not-false b f)) ∙ one }
+
+  pub pass-end : n ≤ i → true ≡ all p (take n xs)
+  pass-end h = sym (all-nil p) ∙ ap (all p) (sym (used-none xs n i h)) ∙ r .same
+
+-- ---- a number among the first n
+
+-- up to i it is not: where it is left to be is where it is
+pub record Sought (x : ℕ) (xs : List ℕ) (n i : ℕ) : Type 0 where
+  pub fits : n ≤ length xs
+  pub same : count x (drop i (take n xs)) ≡ count x (take n xs)
+
+module _ {x : ℕ} {xs : List ℕ} {n i : ℕ} (r : Sought x xs n i) where
+  seen : i < n → count x (take n xs) ≡ one-if (eqb x (getD xs i 0)) + count x (drop (i + 1) (take n xs))
+  seen more = sym (r .same) ∙ ap (count x) (used-cons xs n i 0 (r .fits) more) ∙ sum-cons (λ y. one-if (eqb x y)) (getD xs i 0) (drop (i + 1) (take n xs))
+
+  pub seek-found : i < n → getD xs i 0 ≡ x → true ≡ ltb 0 (count x (take n xs))
+  seek-found more e = sym (lt-ltb 0 (count x (take n xs)) (omega (arith, seen more, ap one-if (eq-eqb x (getD xs i 0) (sym e)))))
+
+  pub seek-turn : i < n → getD xs i 0 ≢ x → Sought x xs n (i + 1)
+  seek-turn more e = record { fits = r .fits; same = omega (arith, seen more, ap one-if (ne-eqb x (getD xs i 0) (λ z. e (sym z)))) }
+
+  pub seek-end : n ≤ i → false ≡ ltb 0 (count x (take n xs))
+  seek-end h = sym (le-ltb 0 (count x (take n xs)) (omega (arith, r .same, ap (count x) (used-none xs n i h) ∙ sum-nil (λ y. one-if (eqb x y)))))
+
+-- ---- a sum over the slots in use
+
+-- those up to i come to sum: with the rest it is the whole
+pub record Counted {A : Type 0} (w : A → ℕ) (xs : List A) (n i sum : ℕ) : Type 0 where
+  pub fits : n ≤ length xs
+  pub same : sum + sumBy w (drop i (take n xs)) ≡ sumBy w (take n xs)
+
+module _ {A : Type 0} {w : A → ℕ} {xs : List A} {n i sum : ℕ} (r : Counted w xs n i sum) where
+  pub count-turn : {e : ℕ} (d : A) → i < n → e ≡ w (getD xs i d) → Counted w xs n (i + 1) (sum + e)
+  count-turn d h q = record {
+    fits = r .fits;
+    same = omega (arith, r .same, ap (sumBy w) (used-cons xs n i d (r .fits) h) ∙ sum-cons w (getD xs i d) (drop (i + 1) (take n xs)));
+  }
+
+  pub count-end : n ≤ i → sum ≡ sumBy w (take n xs)
+  count-end h = omega (arith, r .same, ap (sumBy w) (used-none xs n i h) ∙ sum-nil w)
+
+-- ---- what the slots that are not used weigh
+
+-- those up to i weigh sum: with the rest it is the whole
+pub record Weighed {A : Type 0} (w : A → ℕ) (xs : List A) (size n i sum : ℕ) : Type 0 where
+  pub sized : length xs ≡ size
+  pub same : sum + weighs w i xs ≡ weighs w n xs
+
+pub weighed-start : {A : Type 0} (w : A → ℕ) (xs : List A) (size n : ℕ) → length xs ≡ size → Weighed w xs size n n 0
+weighed-start w xs size n e = record { sized = e; same = omega arith }
+
+weigh-cons : {A : Type 0} (w : A → ℕ) (xs : List A) (i : ℕ) (d : A) → i < length xs → weighs w i xs ≡ w (getD xs i d) + weighs w (i + 1) xs
+unfolding weighs sumBy
+weigh-cons w xs i d h = rw (add-one, drop-cons xs i d h)
+
+weigh-none : {A : Type 0} (w : A → ℕ) (xs : List A) (i : ℕ) → length xs ≤ i → weighs w i xs ≡ 0
+unfolding weighs sumBy
+weigh-none w xs i h = rw (drop-of-length-le xs {i = i} h)
+
+module _ {A : Type 0} {w : A → ℕ} {xs : List A} {size n i sum : ℕ} (r : Weighed w xs size n i sum) where
+  pub weighed-turn : {e : ℕ} (d : A) → i < size → e ≡ w (getD xs i d) → Weighed w xs size n (i + 1) (sum + e)
+  weighed-turn d h q = record { sized = r .sized; same = omega (arith, weigh-cons w xs i d (omega (arith, r .sized)), r .same) }
+
+  pub weighed-end : size ≤ i → sum ≡ weighs w n xs
+  weighed-end h = omega (arith, weigh-none w xs i (omega (arith, r .sized)), r .same)

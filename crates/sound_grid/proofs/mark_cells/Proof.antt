@@ -1,0 +1,55 @@
+-- The cells so far have added theirs (`Marked`).
+use mathlib.Core.Path.{_≡_}
+use Prim.Native.Nat.{_-_, _≤_}
+use lib.ListN.{length}
+use Rattle.lists.proofs.ShiftLaws.{length-mapped}
+use Rattle.sound_grid.specs.Sound.{tableSize}
+use Rattle.sound_grid.proofs.TileLaws.{Marked, marked-start, marked-turn, marked-end}
+use borrow.Author.Needs.{needs}
+use Rattle.sound_grid.proofs.mark_cells.Statement.{statement}
+use Rattle.sound_grid.proofs.mark_cells.Tie as tie
+
+abbrev Inv-loop : tie.InvT-loop
+Inv-loop easts norths table₀ d i₀ table i = (i ≤ d .n) × (length table ≡ tableSize) × Marked easts norths d table₀ i table
+
+abbrev μ-loop : tie.MeasureT-loop
+μ-loop easts norths table₀ d i₀ table i = d .n - i
+
+loop-holds : tie.Need-loop-holds Inv-loop μ-loop
+loop-holds c = (search needs, search needs, search (marked-start, length-mapped))
+
+mul-mark-slot : tie.Need-mul-mark-slot Inv-loop μ-loop
+mul-mark-slot c = search needs
+
+element-copy-out-mark-slot : tie.Need-element-copy-out-mark-slot Inv-loop μ-loop
+element-copy-out-mark-slot c = search needs
+
+mark-slot-requires : tie.Need-mark-slot-requires Inv-loop μ-loop
+mark-slot-requires c κs = search needs
+
+add-i : tie.Need-add-i Inv-loop μ-loop
+add-i c = search needs
+
+loop-less : tie.Need-loop-less Inv-loop μ-loop
+loop-less c = search needs
+
+loop-again : tie.Need-loop-again Inv-loop μ-loop
+loop-again c = (search needs, search needs, search marked-turn)
+
+returns : tie.Need-returns Inv-loop μ-loop
+returns c = search marked-end
+
+pub mark-cells-spec : {M : Type 1} → statement M
+mark-cells-spec =
+    tie.close
+    (tie.spec
+    Inv-loop
+    μ-loop
+    loop-holds
+    mul-mark-slot
+    element-copy-out-mark-slot
+    mark-slot-requires
+    add-i
+    loop-less
+    loop-again
+    returns)

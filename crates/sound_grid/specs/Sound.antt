@@ -1,0 +1,107 @@
+-- The test of soundness as far as it looks at cuts and directory alone (01, "A sound store"). They may be in any condition, with a count beyond their slots or
+-- anything in the slots that are not used.
+use mathlib.Core.Bool.{Bool}
+use mathlib.Core.List.{List}
+use mathlib.Core.Path.{_≡_}
+use Prim.Native.Nat.{ℕ, _+_, _*_, _<_, min}
+use lib.Dec.{eqb, leb}
+use lib.ListN.{length, getD, drop}
+use Rattle.lists.specs.Sums.{sumBy}
+use Rattle.lists.specs.Tests.{one-if, both, all}
+use Rattle.rules.specs.Limits.{maxCells, maxCuts}
+use Rattle.rules.specs.Grid.{within, Rect, Cuts, Box}
+use Rattle.desk.specs.declared.CutList.{CutList}
+use Rattle.desk.specs.declared.Slot.{Slot}
+use Rattle.desk.specs.declared.Directory.{Directory}
+use Rattle.desk.specs.Views.{cutsIn, cutsBy}
+use Rattle.mirror.specs.Loops.{allTo}
+use Rattle.mirror.specs.Grid.{cutsTest, edgesTest, holdingBox, tileTest}
+use Rattle.mirror.specs.Cells.{numbersTest, roundTest}
+use Rattle.sound_grid.specs.Views.{numbersIn, rectsIn}
+
+module _ {A : Type 0} where
+  -- what the slots from n on weigh, a slot being weighed by w: 0 exactly if each is zero
+  unfoldable pub weighs : (A → ℕ) → ℕ → List A → ℕ
+  weighs w n slots = sumBy w (drop n slots)
+
+  -- a count within its limit, and zero in the slots past it
+  unfoldable pub slotsTest : (A → ℕ) → ℕ → ℕ → List A → Bool
+  slotsTest w most n slots = both (leb n most) (eqb (weighs w n slots) 0)
+
+-- the greatest number that a 16-bit field holds
+abbrev pub mostField : ℕ
+mostField = 65535
+
+-- ---- cuts
+
+abbrev pub number : ℕ → ℕ
+number x = x
+
+unfoldable pub cutsSound : CutList → Bool
+cutsSound c = both (slotsTest number maxCuts (c .n) (c .at)) (cutsTest (cutsIn c))
+
+-- ---- the directory
+
+abbrev pub slotWeight : Slot → ℕ
+slotWeight x = x .number + x .west + x .east + x .south + x .north + x .first
+
+-- numbers from 0 to 63, "The round names each cell once."
+unfoldable pub namesSound : Directory → Bool
+namesSound d = both (numbersTest (numbersIn d)) (roundTest (numbersIn d))
+
+unfoldable pub directorySound : Directory → Bool
+directorySound d = both (slotsTest slotWeight maxCells (d .n) (d .slots)) (namesSound d)
+
+-- ---- edges and tiling
+
+unfoldable pub edgesSound : CutList → CutList → Directory → Bool
+edgesSound easts norths d = all (edgesTest (cutsBy easts norths)) (rectsIn d)
+
+-- the stripes of a direction are at most so many
+abbrev pub maxStripes : ℕ
+maxStripes = 16
+
+-- a table has a number for each memory cell
+abbrev pub tableSize : ℕ
+tableSize = maxStripes * maxStripes
+
+-- the place of a memory cell in it
+abbrev pub boxAt : Box → ℕ
+boxAt m = maxStripes * m .north + m .east
+
+-- what stands for any number above 1
+abbrev pub several : ℕ
+several = 2
+
+-- each memory cell is held by so many more
+pub record Raised (before after : List ℕ) (more : Box → ℕ) : Type 0 where
+  pub size : length after ≡ tableSize
+  pub held : (m : Box) → m .east < maxStripes → m .north < maxStripes → min (getD after (boxAt m) 0) several ≡ min (getD before (boxAt m) 0 + more m) several
+
+-- one more in a row of memory cells, from a stripe to a stripe
+unfoldable pub inRow : ℕ → ℕ → ℕ → Box → ℕ
+inRow west east row m = one-if (both (within (record { low = west; high = east }) (m .east)) (eqb (m .north) row))
+
+-- one more in a rectangle of stripes
+unfoldable pub inStripes : ℕ → ℕ → ℕ → ℕ → Box → ℕ
+inStripes west east south north m = one-if (both (within (record { low = west; high = east }) (m .east)) (within (record { low = south; high = north }) (m .north)))
+
+-- one more for each rectangle that has the memory cell
+unfoldable pub holders : Cuts → List Rect → Box → ℕ
+holders cuts rects m = holdingBox cuts m rects
+
+-- in a row of the table each of the first memory cells is held once
+unfoldable pub rowOnce : List ℕ → ℕ → ℕ → Bool
+rowOnce table columns row = allTo columns (λ i. eqb (getD table (maxStripes * row + i) 0) 1)
+
+unfoldable pub rowsOnce : List ℕ → ℕ → ℕ → Bool
+rowsOnce table columns rows = allTo rows (rowOnce table columns)
+
+unfoldable pub tileSound : CutList → CutList → Directory → Bool
+tileSound easts norths d = tileTest (cutsBy easts norths) (rectsIn d)
+
+-- ---- the grid
+
+unfoldable pub gridSound : CutList → CutList → Directory → Bool
+gridSound easts norths d =
+    both (cutsSound easts) (both (cutsSound norths) (both (directorySound d) (both (edgesSound easts norths d) (tileSound easts norths d))))
