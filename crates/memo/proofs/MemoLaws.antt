@@ -1,6 +1,5 @@
 -- The memo's array as rows: where a search of it ends, what stores in it do, and what a line put at its place makes of the rows.
 use mathlib.Core.Path.{_≡_, refl, sym, ap, ap₂, _∙_}
-use mathlib.Core.Bool.{Bool, true, false, not}
 use mathlib.Core.List.{List, [], _∷_, _++_, map}
 use mathlib.Core.Logic.{_≢_}
 use mathlib.Core.Option.{Option, none, some}
@@ -8,31 +7,26 @@ use Prim.Native.Nat.{ℕ, suc, _+_, _-_, _/_, _≤_, _<_}
 use native.Mathlib.Omega.{arith}
 use lib.Dec.{eqb, ltb}
 use lib.ListN.{length, getD, set, take, drop, replicate, length-map, length-take, length-set, length-append, length-drop, length-replicate, take-append-drop, List·getD-map}
-use lib.Seq.{drop-at, drop-drop, getD-take, length-take-le, set-split, take-set-lt, take-set-le, drop-set-lt}
-use borrow.Author.Tests.{eqb-true, eqb-false, eq-eqb, ne-eqb, ltb-true, ltb-false, lt-ltb, le-ltb}
+use lib.Seq.{drop-at, drop-drop, getD-take, take-set-lt, drop-set-lt}
+use borrow.Author.Tests.{eqb-true, eqb-false, ltb-true, ltb-false}
 use Rattle.terms.specs.Terms.{Place}
-use Rattle.lists.specs.Parts.{part, put, insertAt, removeAt}
-use Rattle.lists.specs.Rows.{Row, Rows, Rising, find, putRow, alter, rank}
-use Rattle.lists.specs.Tests.{both}
+use Rattle.lists.specs.Parts.{part, put, insertAt}
+use Rattle.lists.specs.Rows.{Row, Rows, Rising, find, alter, rank}
 use Rattle.lists.proofs.Cases.{by-cases, option-cases}
-use Rattle.lists.proofs.MapLaws.{map-set, map-insertAt, map-removeAt}
-use Rattle.lists.proofs.PartsLaws.{length-part, length-put, drop-put}
-use Rattle.lists.proofs.RowsLaws.{rising-alter, length-alter-le}
-use Rattle.lists.proofs.ShiftLaws.{Opened, open-end, Closed, close-end}
-use Rattle.lists.proofs.SearchLaws.{Between, between-start, between-up, between-down, find-rank, find-rank-none, rank-le, alter-insertAt, alter-set, alter-removeAt}
+use Rattle.lists.proofs.MapLaws.{map-set, map-insertAt}
+use Rattle.lists.proofs.PartsLaws.{length-part, drop-put}
+use Rattle.lists.proofs.ShiftLaws.{Opened, open-end}
+use Rattle.lists.proofs.SearchLaws.{Between, between-start, between-up, between-down, find-rank, find-rank-none, rank-le, alter-insertAt, alter-set}
 use Rattle.rules.specs.Store.{Line as StoreLine}
-use Rattle.rules.specs.Sweep.{isAt, stale, lowered}
 use Rattle.rules.specs.Flush.{placed, raised}
 use Rattle.rules.proofs.Parts.{missedOf}
 use Rattle.desk.specs.declared.Line.{Line}
 use Rattle.desk.specs.declared.Memo.{Memo}
 use Rattle.desk.specs.Layout.{lineSlots, slotted, lineWith, lineOf, noLine, memoOf}
 use Rattle.desk.proofs.UniqueLaws.{take-memo}
-use Rattle.memo.specs.declared.FoundLine.{FoundLine}
-use Rattle.memo.specs.declared.FoundLine.the-variants.{Line as Found, Missing}
 use Rattle.memo.specs.declared.Spot.{Spot}
 use Rattle.memo.specs.declared.Spot.the-variants.{Held, Open}
-use Rattle.memo.specs.Memo.{lastOf, rowOf, noRow, linesOf, Plain, Whole, mostMissed, foundLine, spotOf}
+use Rattle.memo.specs.Memo.{lastOf, rowOf, noRow, linesOf, Plain, Whole, mostMissed, spotOf}
 
 -- ---- lists
 
@@ -40,11 +34,7 @@ length-insertAt : {A : Type 0} (xs : List A) (a : ℕ) (v : A) → a ≤ length 
 unfolding insertAt
 length-insertAt xs a v h = simp (length-append, length-take, length-drop) (omega arith)
 
-length-removeAt : {A : Type 0} (xs : List A) (a : ℕ) → a < length xs → length (removeAt xs a) ≡ length xs - 1
-unfolding removeAt
-length-removeAt xs a h = simp (length-append, length-take, length-drop) (omega arith)
-
--- past the place that was opened, and past the one that was closed, nothing has moved
+-- past the place that was opened nothing has moved
 open-rest : {A : Type 0} {xs ys : List A} {n : ℕ} (a : ℕ) (v : A) → Opened xs n a ys → drop (n + 1) (set ys a v) ≡ drop (n + 1) xs
 open-rest {A} {xs} {ys} {n} a v o =
     let f = o .fits in
@@ -57,17 +47,6 @@ open-rest {A} {xs} {ys} {n} a v o =
     ∙ drop-put xs (a + 1) (part xs a (n - a)) (omega arith)
     ∙ ap (λ (k : ℕ). drop k xs) (sym e)
 
-close-rest : {A : Type 0} {xs ys : List A} {a i : ℕ} → Closed xs a i ys → drop (suc i) ys ≡ drop (suc i) xs
-close-rest {A} {xs} {ys} {a} {i} c =
-    let f = c .fits in
-    let g = c .low in
-    let p : List A = part xs (a + 1) (i - a) in
-    let l : length p ≡ i - a = length-part xs (a + 1) (i - a) (omega arith) in
-    let e : i ≡ a + length p = omega arith in
-    let o : suc i ≡ i + 1 = omega arith in
-    let q : drop i ys ≡ drop i xs = ap (drop i) (c .list) ∙ ap (λ (k : ℕ). drop k (put xs a p)) e ∙ drop-put xs a p (omega arith) ∙ ap (λ (k : ℕ). drop k xs) (sym e) in
-    rw o (sym (drop-drop 1 i ys) ∙ ap (drop 1) q ∙ drop-drop 1 i xs)
-
 -- nothing stands at the key, and nothing is made
 alter-none : {Val : Type 0} (f : Option Val → Option Val) (r : ℕ) (l : Rows Val) → find l r ≡ none → f none ≡ none → alter f r l ≡ l
 unfolding alter find
@@ -78,20 +57,6 @@ alter-none {Val} f r (x ∷ xs) =
     (λ t. by-cases (ltb r (x .key))
     (λ u. rw (t, u) (λ n e. rw e))
     (λ u. rw (t, u) (λ n e. ap (λ (y : Rows Val). x ∷ y) (alter-none f r xs n e))))
-
-length-putRow : {Val : Type 0} (r : ℕ) (o : Option Val) (l : Rows Val) → length (putRow r o l) ≤ suc (length l)
-length-putRow r none l = omega arith
-length-putRow r (some v) l = omega arith
-
-length-alter-kept : {Val : Type 0} (f : Option Val → Option Val) (r : ℕ) (l : Rows Val) → f none ≡ none → length (alter f r l) ≤ length l
-unfolding alter
-length-alter-kept f r [] e = rw e (omega arith)
-length-alter-kept f r (x ∷ xs) e =
-    by-cases (eqb r (x .key))
-    (λ t. rw t (length-putRow r (f (some (x .val))) xs))
-    (λ t. by-cases (ltb r (x .key))
-    (λ u. rw (t, u, e) (omega arith))
-    (λ u. rw (t, u) (omega (arith, length-alter-kept f r xs e))))
 
 -- what is found stands at the rank
 rank-find : {Val : Type 0} (r : ℕ) (l : Rows Val) (d : Row Val) (v : Val) → Rising 0 l → find l r ≡ some v → (rank r l < length l) × (getD l (rank r l) d ≡ record { key = r; val = v })
@@ -118,7 +83,7 @@ missed-with : (r m : ℕ) (o : Option Place) → lineWith r m o .missed ≡ m
 missed-with r m none = refl
 missed-with r m (some p) = refl
 
-row-line : (x : Row StoreLine) → rowOf (lineOf x) ≡ x
+pub row-line : (x : Row StoreLine) → rowOf (lineOf x) ≡ x
 row-line x = row-with (x .key) (x .val .missed) (x .val .last)
 
 rows-lines : (l : Rows StoreLine) → map rowOf (map lineOf l) ≡ l
@@ -129,9 +94,6 @@ rows-lines (x ∷ xs) = ap₂ _∷_ (row-line x) (rows-lines xs)
 pub lines-memo : (l : Rows StoreLine) → linesOf (memoOf l) ≡ l
 unfolding linesOf
 lines-memo l = ap (map rowOf) (take-memo l) ∙ rows-lines l
-
-pub whole-memo : (l : Rows StoreLine) → Whole (memoOf l)
-whole-memo l = ap memoOf (sym (lines-memo l))
 
 count-memo : (l : Rows StoreLine) → memoOf l .n ≡ length l
 unfolding memoOf
@@ -272,24 +234,6 @@ module _ (m : Memo) (w : Whole m) where
       (open-end k x q ∙ ap₂ (λ (l : List Line) (y : Line). insertAt l k y) (whole-take m w) p ∙ sym (map-insertAt lineOf (linesOf m) k (rowOf x)))
       (open-rest k x q ∙ sym (drop-drop 1 (m .n) (m .rows)) ∙ ap (drop 1) (whole-drop m w) ∙ ap (λ (j : ℕ). drop 1 (replicate j noLine)) u)
 
-  pub memo-close : (k : ℕ) {i : ℕ} {ys : List Line} → Closed (m .rows) k i ys → i ≤ m .n - 1 → m .n - 1 ≤ i → k < m .n → m .n ≤ lineSlots → record { n = m .n - 1; rows = set ys (m .n - 1) noLine } ≡ memoOf (removeAt (linesOf m) k)
-  memo-close k {i} {ys} c g h f d =
-      let z : i ≡ m .n - 1 = omega arith in
-      let q = rw z at c in
-      let n = whole-count m w in
-      let a = c .fits in
-      let b = c .low in
-      let e : suc (m .n - 1) ≡ m .n = omega arith in
-      let t : length ys ≡ length (m .rows) = ap length (c .list) ∙ length-put (m .rows) k (part (m .rows) (k + 1) (i - k)) (omega (arith, length-part (m .rows) (k + 1) (i - k) (omega arith))) in
-      let u : suc (lineSlots - m .n) ≡ lineSlots - (m .n - 1) = omega arith in
-      memo-is (record { n = m .n - 1; rows = set ys (m .n - 1) noLine }) (removeAt (linesOf m) k)
-      (omega (arith, length-removeAt (linesOf m) k (omega arith)))
-      (take-set-le (m .n - 1) ys (m .n - 1) noLine (omega arith) ∙ close-end (m .n) q f ∙ ap (λ (l : List Line). removeAt l k) (whole-take m w) ∙ sym (map-removeAt lineOf (linesOf m) k))
-      (ap (drop (m .n - 1)) (set-split ys (m .n - 1) noLine (omega arith))
-      ∙ drop-at (take (m .n - 1) ys) (noLine ∷ drop (suc (m .n - 1)) ys) (m .n - 1) (length-take-le (m .n - 1) ys (omega arith))
-      ∙ ap (λ (l : List Line). noLine ∷ l) (close-rest q ∙ ap (λ (j : ℕ). drop j (m .rows)) e ∙ whole-drop m w)
-      ∙ ap (λ (j : ℕ). replicate j noLine) u)
-
 -- ---- lines
 
 plain-with : (r m : ℕ) (o : Option Place) {x : Line} → x ≡ lineWith r m o → Plain x
@@ -307,12 +251,6 @@ module _ (m : Memo) (r : ℕ) {k : ℕ} {o : Spot} (whole : Whole m) (rising : R
   module _ (here : o ≡ Open k) where
     missing : find (linesOf m) r ≡ none
     missing = free m r whole rising said here .missing
-
-    pub find-open : Missing ≡ foundLine r (find (linesOf m) r)
-    find-open = rw missing
-
-    pub lower-open : m ≡ memoOf (alter lowered r (linesOf m))
-    lower-open = whole ∙ ap memoOf (sym (alter-none lowered r (linesOf m) missing refl))
 
     pub place-open : (p : Place) → m ≡ memoOf (alter (placed (some p)) r (linesOf m))
     place-open p = whole ∙ ap memoOf (sym (alter-none (placed (some p)) r (linesOf m) missing refl))
@@ -340,31 +278,12 @@ module _ (m : Memo) (r : ℕ) {k : ℕ} {o : Spot} (whole : Whole m) (rising : R
     held-missed : getD (m .rows) k noLine .missed ≡ at .val .missed
     held-missed = ap (λ (x : Line). x .missed) (at .line) ∙ missed-with r (at .val .missed) (at .val .last)
 
-    pub find-held : Found (getD (m .rows) k noLine) ≡ foundLine r (find (linesOf m) r)
-    find-held = rw (at .found) (ap Found (at .line))
-
     pub held-room : missedOf (find (linesOf m) r) < mostMissed → getD (m .rows) k noLine .missed < mostMissed
     held-room h = omega (arith, held-missed, ap missedOf (at .found))
 
     -- the line with another value
     held-set : (f : Option StoreLine → Option StoreLine) (v : StoreLine) {x : Memo} → f (some (at .val)) ≡ some v → x ≡ memoOf (set (linesOf m) k (record { key = r; val = v })) → x ≡ memoOf (alter f r (linesOf m))
     held-set f v e s = s ∙ ap memoOf (ap (λ (j : ℕ). set (linesOf m) j (record { key = r; val = v })) (at .place) ∙ sym (alter-set f r 0 (linesOf m) (at .val) v rising (at .found) e))
-
-    pub lower-drop : {x : Memo} → getD (m .rows) k noLine .missed ≤ 1 → x ≡ memoOf (removeAt (linesOf m) k) → x ≡ memoOf (alter lowered r (linesOf m))
-    lower-drop h s =
-        let e : lowered (some (at .val)) ≡ none = rw (le-ltb 1 (at .val .missed) (omega (arith, held-missed))) in
-        s ∙ ap memoOf (ap (removeAt (linesOf m)) (at .place) ∙ sym (alter-removeAt lowered r 0 (linesOf m) (at .val) rising (at .found) e))
-
-    pub plain-held : (c : ℕ) → Plain (recounted r c (getD (m .rows) k noLine))
-    plain-held c = plain-with r c (at .val .last) (recount r (at .val .missed) c (at .val .last) (at .line))
-
-    pub lower-set : {x : Memo} → 1 < getD (m .rows) k noLine .missed → x ≡ memoOf (set (linesOf m) k (rowOf (recounted r (getD (m .rows) k noLine .missed - 1) (getD (m .rows) k noLine)))) → x ≡ memoOf (alter lowered r (linesOf m))
-    lower-set h s =
-        let c : ℕ = getD (m .rows) k noLine .missed - 1 in
-        let e : lowered (some (at .val)) ≡ some (record { missed = at .val .missed - 1; last = at .val .last }) = rw (lt-ltb 1 (at .val .missed) (omega (arith, held-missed))) in
-        let q : rowOf (recounted r c (getD (m .rows) k noLine)) ≡ record { key = r; val = record { missed = at .val .missed - 1; last = at .val .last } } =
-        ap rowOf (recount r (at .val .missed) c (at .val .last) (at .line)) ∙ row-with r c (at .val .last) ∙ ap (λ (j : ℕ). record { key = r; val = record { missed = j - 1; last = at .val .last } }) held-missed in
-        held-set lowered (record { missed = at .val .missed - 1; last = at .val .last }) e (s ∙ ap (λ (y : Row StoreLine). memoOf (set (linesOf m) k y)) q)
 
     pub place-set : (east north : ℕ) {x : Memo} → x ≡ memoOf (set (linesOf m) k (rowOf (record { radio = r; missed = getD (m .rows) k noLine .missed; placed = 1; east = east; north = north }))) → x ≡ memoOf (alter (placed (some (record { east = east; north = north }))) r (linesOf m))
     place-set east north s =
@@ -380,38 +299,6 @@ module _ (m : Memo) (r : ℕ) {k : ℕ} {o : Spot} (whole : Whole m) (rising : R
 pub plain-recounted : (x : Line) (c : ℕ) → Plain x → Plain (recounted (x .radio) c x)
 plain-recounted x c p = plain-with (x .radio) c (lastOf x) (recount (x .radio) (x .missed) c (lastOf x) p)
 
--- ---- stale by its line
-
-module _ (x : Line) (east north : ℕ) where
-  abbrev there : Place
-  there = record { east = east; north = north }
-
-  pub elsewhere-none : x .placed ≡ 0 → true ≡ not (isAt (lastOf x) there)
-  elsewhere-none h = rw (eq-eqb (x .placed) 0 h)
-
-  pub elsewhere-east : x .placed ≢ 0 → x .east ≢ east → true ≡ not (isAt (lastOf x) there)
-  unfolding both
-  elsewhere-east h g = rw (ne-eqb (x .placed) 0 h, ne-eqb (x .east) east g)
-
-  pub elsewhere-north : x .placed ≢ 0 → x .east ≡ east → not (eqb (x .north) north) ≡ not (isAt (lastOf x) there)
-  unfolding both
-  elsewhere-north h g = rw (ne-eqb (x .placed) 0 h, eq-eqb (x .east) east g)
-
-module _ (l : Rows StoreLine) (r : ℕ) (p : Place) {o : FoundLine} (said : o ≡ foundLine r (find l r)) where
-  pub stale-missing : o ≡ Missing → false ≡ stale l (record { key = r; val = p })
-  stale-missing e =
-      option-cases (find l r)
-      (λ f. rw f)
-      (λ v f. let q = ap (foundLine r) f in let z : _≡_ {A = ℕ} 0 1 = cc in absurd (omega arith))
-
-  pub stale-found : {x : Line} {b : Bool} → o ≡ Found x → b ≡ not (isAt (lastOf x) p) → b ≡ stale l (record { key = r; val = p })
-  stale-found {x} {b} e s =
-      option-cases (find l r)
-      (λ f. let q = ap (foundLine r) f in let z : _≡_ {A = ℕ} 0 1 = cc in absurd (omega arith))
-      (λ v f. let q = ap (foundLine r) f in
-      let z : x ≡ lineWith r (v .missed) (v .last) = cc in
-      rw f (s ∙ ap (λ (u : Option Place). not (isAt u p)) (ap lastOf z ∙ ap (λ (y : Row StoreLine). y .val .last) (row-with r (v .missed) (v .last)))))
-
 -- ---- what a caller knows of the memo that it gets
 
 module _ (l : Rows StoreLine) {x : Memo} (said : x ≡ memoOf l) where
@@ -426,14 +313,3 @@ module _ (l : Rows StoreLine) {x : Memo} (said : x ≡ memoOf l) where
 
   pub rising-is : Rising 0 l → Rising 0 (linesOf x)
   rising-is a = rw lines-are a
-
-module _ (m : Memo) (r : ℕ) (f : Option StoreLine → Option StoreLine) {x : Memo} (whole : Whole m) (rising : Rising 0 (linesOf m)) (named : 0 < r) (said : x ≡ memoOf (alter f r (linesOf m))) where
-  pub rising-altered : Rising 0 (linesOf x)
-  rising-altered = rising-is (alter f r (linesOf m)) said (rising-alter f 0 r (linesOf m) named rising)
-
-  pub count-altered : x .n ≤ m .n + 1
-  count-altered = omega (arith, count-is (alter f r (linesOf m)) said, whole-count m whole, length-alter-le f 0 r (linesOf m) named rising)
-
-  -- no line is made
-  pub count-kept : f none ≡ none → x .n ≤ m .n
-  count-kept e = omega (arith, count-is (alter f r (linesOf m)) said, whole-count m whole, length-alter-kept f r (linesOf m) e)

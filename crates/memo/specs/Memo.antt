@@ -11,9 +11,7 @@ use Rattle.lists.specs.Rows.{Row, Rows, find, rank}
 use Rattle.rules.specs.Store.{Line as StoreLine}
 use Rattle.desk.specs.declared.Line.{Line}
 use Rattle.desk.specs.declared.Memo.{Memo}
-use Rattle.desk.specs.Layout.{lineWith, lineOf, memoOf}
-use Rattle.memo.specs.declared.FoundLine.{FoundLine}
-use Rattle.memo.specs.declared.FoundLine.the-variants.{Line as Found, Missing}
+use Rattle.desk.specs.Layout.{lineOf, memoOf}
 use Rattle.memo.specs.declared.Spot.{Spot}
 use Rattle.memo.specs.declared.Spot.the-variants.{Held, Open}
 
@@ -47,12 +45,7 @@ Whole m = m ≡ memoOf (linesOf m)
 abbrev pub mostMissed : ℕ
 mostMissed = 65535
 
--- ---- answers
-
--- the line of a radio
-abbrev pub foundLine : ℕ → Option StoreLine → FoundLine
-foundLine r none = Missing
-foundLine r (some l) = Found (lineWith r (l .missed) (l .last))
+-- ---- where a radio stands
 
 abbrev spotAt : ℕ → Option StoreLine → Spot
 spotAt k none = Open k

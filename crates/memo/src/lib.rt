@@ -1,28 +1,20 @@
 // The memo in the desk's array: lines by rising radio, unused slots zero. By value; the inner loops work in place.
-ghost use mathlib.Core.Bool.{not};
 ghost use mathlib.Core.Option.{none, some};
 ghost use mathlib.Core.Path.{_≡_};
 ghost use Prim.Native.Nat.{_<_, _≤_};
 ghost use lib.ListN.{set};
-ghost use Rattle.lists.specs.Parts.{insertAt, removeAt};
+ghost use Rattle.lists.specs.Parts.{insertAt};
 ghost use Rattle.lists.specs.Rows.{Rising, find, rank, alter};
-ghost use Rattle.rules.specs.Sweep.{isAt, stale, lowered};
 ghost use Rattle.rules.specs.Flush.{placed, raised};
 ghost use Rattle.rules.proofs.Parts.{missedOf};
 ghost use Rattle.desk.specs.Layout.{lineSlots, memoOf};
-ghost use Rattle.memo.specs.Memo.{lastOf, rowOf, linesOf, Plain, Whole, mostMissed, foundLine, spotOf};
+ghost use Rattle.memo.specs.Memo.{lastOf, rowOf, linesOf, Plain, Whole, mostMissed, spotOf};
 use desk::Line;
 use desk::Memo;
 
 const PLACED: u16 = 1;
 
 const UNPLACED: u16 = 0;
-
-// The line of a radio, if the memo has one.
-pub enum FoundLine {
-    Line(Line),
-    Missing,
-}
 
 // Where the line of a radio stands, or would.
 enum Spot {
@@ -95,89 +87,7 @@ fn opened(memo: Memo, at: usize, line: Line) -> Memo
     m
 }
 
-// Without the line at `at`; what stood after it stands one place nearer, and the last slot is unused.
-fn closed(memo: Memo, at: usize) -> Memo
-    requires { ⌜ Whole memo × (at < memo .n) × (memo .n ≤ lineSlots) ⌝ }
-    ensures { λ r. ⌜ r ≡ memoOf (removeAt (linesOf memo) at) ⌝ }
-{
-    let mut m = memo;
-    let last = m.n - 1;
-    let mut i = at;
-    while i < last {
-        let j = i + 1;
-        let x = m.rows[j];
-        m.rows[i] = x;
-        i = j;
-    }
-    m.rows[last] = Line {
-        radio: 0,
-        missed: 0,
-        placed: UNPLACED,
-        east: 0,
-        north: 0,
-    };
-    m.n = last;
-    m
-}
-
 // ---- lines
-
-// The line of `radio`.
-pub fn find(memo: Memo, radio: u16) -> FoundLine
-    requires { ⌜ Whole memo × (memo .n ≤ lineSlots) × Rising 0 (linesOf memo) ⌝ }
-    ensures { λ r. ⌜ r ≡ foundLine radio (find (linesOf memo) radio) ⌝ }
-{
-    let Spot::Held(at) = lookup(memo, radio) else {
-        return FoundLine::Missing;
-    };
-    FoundLine::Line(memo.rows[at])
-}
-
-// Whether a line has "another place or none".
-fn is_elsewhere(line: Line, east: u16, north: u16) -> bool
-    ensures { λ r. ⌜ r ≡ not (isAt (lastOf line) (record { east = east; north = north })) ⌝ }
-{
-    if line.placed == UNPLACED {
-        return true;
-    }
-    if line.east != east {
-        return true;
-    }
-    line.north != north
-}
-
-// Whether an entry of `radio` at this place is stale: its radio "has a memo line with another place or none".
-pub fn is_stale(memo: Memo, radio: u16, east: u16, north: u16) -> bool
-    requires { ⌜ Whole memo × (memo .n ≤ lineSlots) × Rising 0 (linesOf memo) ⌝ }
-    ensures { λ r. ⌜ r ≡ stale (linesOf memo) (record { key = radio; val = record { east = east; north = north } }) ⌝ }
-{
-    let FoundLine::Line(line) = find(memo, radio) else {
-        return false;
-    };
-    is_elsewhere(line, east, north)
-}
-
-// "lower the missed count by 1; drop the line at 0"
-pub fn lowered(memo: Memo, radio: u16) -> Memo
-    requires { ⌜ Whole memo × (memo .n ≤ lineSlots) × Rising 0 (linesOf memo) ⌝ }
-    ensures { λ r. ⌜ r ≡ memoOf (alter lowered radio (linesOf memo)) ⌝ }
-{
-    let Spot::Held(at) = lookup(memo, radio) else {
-        return memo;
-    };
-    let held = memo.rows[at];
-    if held.missed <= 1 {
-        return closed(memo, at);
-    }
-    let line = Line {
-        radio,
-        missed: held.missed - 1,
-        placed: held.placed,
-        east: held.east,
-        north: held.north,
-    };
-    replaced(memo, at, line)
-}
 
 // "any memo line takes the new place"
 pub fn placed(memo: Memo, radio: u16, east: u16, north: u16) -> Memo

@@ -1,33 +1,107 @@
--- Sweep a cell (01, "How a record is carried out"): the entries on a chain's pages, and what a run of them makes of a table and a memo.
-use mathlib.Core.List.{List, _++_, map}
+-- Sweep a cell (01, "How a record is carried out"): the entries on a chain's pages, the memo's lines in tables, and what a run of entries makes of a table and of the marks of lines.
+use mathlib.Core.Bool.{Bool, false, not, cond}
+use mathlib.Core.List.{List, [], _∷_, _++_, map}
+use mathlib.Core.Option.{Option, none, some}
 use mathlib.Core.Path.{_≡_}
-use Prim.Native.Nat.{ℕ, _+_, _≤_}
-use lib.ListN.{length}
+use Prim.Native.Nat.{ℕ, suc, _+_, _-_, _≤_}
+use lib.Dec.{ltb}
+use lib.ListN.{length, getD, set}
 use Rattle.terms.specs.Terms.{Place, maxOn}
-use Rattle.lists.specs.Rows.{Rows, Rising}
-use Rattle.lists.specs.Sums.{concat}
+use Rattle.lists.specs.Parts.{tab}
+use Rattle.lists.specs.Rows.{Row, Rows, Rising, find, rank, putRow}
+use Rattle.lists.specs.Sums.{concat, filter}
+use Rattle.entries.specs.declared.Entries.{Entries}
 use Rattle.entries.specs.Entries.{rowsOf}
 use Rattle.page.specs.Page.{entries}
 use Rattle.page.specs.Buffer.{pageAt}
-use Rattle.rules.specs.Sweep.{sweptEntries, sweptMemo}
-use Rattle.desk.specs.Layout.{lineSlots, memoOf}
-use Rattle.memo.specs.Memo.{linesOf, Whole}
-use Rattle.sweep.specs.declared.Swept.{Swept}
+use Rattle.rules.specs.Store.{Line}
+use Rattle.rules.specs.Sweep.{isAt, lowered}
+use Rattle.desk.specs.declared.Line.{Line as Slot}
+use Rattle.desk.specs.Layout.{lineSlots, lineWith, noLine}
+use Rattle.memo.specs.Memo.{lastOf}
 
 -- the entries on these pages, one page after the other
 unfoldable pub entriesOn : List ℕ → List ℕ → Rows Place
 entriesOn b ps = concat (map (λ p. entries (pageAt b p)) ps)
 
--- these entries may come next: the memo is as the desk lays it out, and the table has room for what stays
-pub record Ready (from : Swept) (es : Rows Place) : Type 0 where
-  pub whole : Whole (from .memo)
-  pub fits : from .memo .n ≤ lineSlots
-  pub lines-rise : Rising 0 (linesOf (from .memo))
-  pub rising : Rising 0 es
-  pub room : from .table .n + length (sweptEntries (linesOf (from .memo)) es) ≤ maxOn
+-- ---- the memo's lines in tables: by the line's place in the memo, and one place more
 
--- these entries are swept: what stays stands behind what the table had, and the memo is lowered
-pub record Sweeps (from : Swept) (es : Rows Place) (to : Swept) : Type 0 where
-  pub table : rowsOf (to .table) ≡ rowsOf (from .table) ++ sweptEntries (linesOf (from .memo)) es
-  pub count : to .table .n ≡ from .table .n + length (sweptEntries (linesOf (from .memo)) es)
-  pub memo : to .memo ≡ memoOf (sweptMemo (linesOf (from .memo)) es)
+abbrev pub linePlaces : ℕ
+linePlaces = suc lineSlots
+
+-- radios in a table
+unfoldable pub radiosIn : ℕ → List ℕ → Rows (Unit {0})
+radiosIn n radios = tab n (λ i. record { key = getD radios i 0; val = tt })
+
+-- a line's place from its fields
+abbrev pub lastAt : ℕ → ℕ → ℕ → Option Place
+lastAt placed east north = lastOf (record { radio = 0; missed = 0; placed = placed; east = east; north = north })
+
+-- radios and last places in tables
+unfoldable pub lastsIn : ℕ → List ℕ → List ℕ → List ℕ → List ℕ → Rows (Option Place)
+lastsIn n radios placed easts norths = tab n (λ i. record { key = getD radios i 0; val = lastAt (getD placed i 0) (getD easts i 0) (getD norths i 0) })
+
+-- the same of the memo
+abbrev pub lastsOf : Rows Line → Rows (Option Place)
+lastsOf = map (λ x. record { key = x .key; val = x .val .last })
+
+-- ---- entries judged by last places
+
+-- another place or "none"
+abbrev pub elsewhere : Option (Option Place) → Place → Bool
+elsewhere none p = false
+elsewhere (some o) p = not (isAt o p)
+
+-- an "entry whose radio has a memo line with another place or none"
+abbrev pub isStale : Rows (Option Place) → Row Place → Bool
+isStale lasts e = elsewhere (find lasts (e .key)) (e .val)
+
+-- what stays
+unfoldable pub stay : Rows (Option Place) → Rows Place → Rows Place
+stay lasts es = filter (λ e. not (isStale lasts e)) es
+
+-- each entry marks the place of its radio's line: whether it is stale
+unfoldable pub marked : Rows (Option Place) → List Bool → Rows Place → List Bool
+marked lasts marks [] = marks
+marked lasts marks (e ∷ es) = marked lasts (set marks (rank (e .key) lasts) (isStale lasts e)) es
+
+-- the slot of a table after n entries, or the last of all
+unfoldable pub slotAfter : ℕ → ℕ
+slotAfter n = cond (ltb n maxOn) n (maxOn - 1)
+
+-- these entries may come next: the table has room for what stays
+pub record Ready (lasts : Rows (Option Place)) (from : Entries) (es : Rows Place) : Type 0 where
+  pub rising : Rising 0 lasts
+  pub room : from .n + length (stay lasts es) ≤ maxOn
+
+-- these entries are swept: what stays stands behind what the table had, and the lines are marked
+pub record Sweeps (lasts : Rows (Option Place)) (from : Entries) (before : List Bool) (es : Rows Place) (to : Entries) (after : List Bool) : Type 0 where
+  pub table : rowsOf to ≡ rowsOf from ++ stay lasts es
+  pub count : to .n ≡ from .n + length (stay lasts es)
+  pub marks : after ≡ marked lasts before es
+
+-- the same with no entry in the table before
+pub record SweepsAll (lasts : Rows (Option Place)) (before : List Bool) (es : Rows Place) (table : Entries) (after : List Bool) : Type 0 where
+  pub rows : rowsOf table ≡ stay lasts es
+  pub count : table .n ≡ length (stay lasts es)
+  pub marks : after ≡ marked lasts before es
+
+-- ---- lines lowered
+
+-- "lower the missed count by 1; drop the line at 0", if it is marked
+abbrev pub lowerIf : Bool → Line → Option Line
+lowerIf mark l = cond mark (lowered (some l)) (some l)
+
+-- what is left of a line in its slot
+abbrev pub lineIf : ℕ → Option Line → Slot
+lineIf r none = noLine
+lineIf r (some l) = lineWith r (l .missed) (l .last)
+
+-- every line that stays
+unfoldable pub lowerWhere : (Row Line → Bool) → Rows Line → Rows Line
+lowerWhere mark [] = []
+lowerWhere mark (x ∷ l) = putRow (x .key) (lowerIf (mark x) (x .val)) (lowerWhere mark l)
+
+-- the mark at a line's place
+abbrev pub markOf : List Bool → Rows Line → Row Line → Bool
+markOf marks memo x = getD marks (rank (x .key) memo) false

@@ -1,23 +1,33 @@
-// Sweep a cell: its pages are read one after the other, each entry is judged by the memo, what stays goes to a table, and the memo is lowered. No page is written.
-ghost use mathlib.Core.Bool.{true};
-ghost use mathlib.Core.List.{[], _∷_};
+// Sweep a cell: the memo's radios and last places are written to tables, the cell's pages are read one after the other, each entry is judged by the tables, what stays goes
+// to a table of entries, and at the end each line that has lost an entry is lowered. The memo is read twice and written once. No page is written.
+ghost use mathlib.Core.Bool.{true, not, cond};
 ghost use mathlib.Core.Path.{_≡_};
-ghost use Prim.Native.Nat.{_≤_};
+ghost use Prim.Native.Nat.{_<_, _≤_};
 ghost use lib.ListN.{length};
 ghost use Rattle.terms.specs.Terms.{maxOn, pages};
-ghost use Rattle.lists.specs.Rows.{Rising};
-ghost use Rattle.lists.specs.Tests.{Each};
-ghost use Rattle.entries.specs.Entries.{rowOf, rowsOf};
+ghost use Rattle.lists.specs.Rows.{Rising, rank};
+ghost use Rattle.lists.specs.Tests.{Each, one-if, isSome};
+ghost use Rattle.entries.specs.Entries.{rowOf as entryRow, placeOf, rowsOf};
 ghost use Rattle.page.specs.Page.{entries};
 ghost use Rattle.page.specs.Buffer.{pageAt, there, pagesOf};
-ghost use Rattle.rules.specs.Sweep.{sweptEntries, sweptMemo};
+ghost use Rattle.rules.specs.Sweep.{isAt, sweptEntries, sweptMemo};
 ghost use Rattle.desk.specs.Layout.{lineSlots, memoOf};
-ghost use Rattle.memo.specs.Memo.{linesOf, Whole};
-ghost use Rattle.sweep.specs.Sweep.{entriesOn, Ready, Sweeps};
+ghost use Rattle.memo.specs.Memo.{rowOf, linesOf, Plain, Whole};
+ghost use Rattle.sweep.specs.Sweep.{entriesOn, linePlaces, radiosIn, lastAt, lastsIn, lastsOf, isStale, stay, slotAfter, Ready, Sweeps, SweepsAll, lowerIf, lineIf, lowerWhere, markOf};
+use desk::Desk;
+use desk::Line;
 use desk::Memo;
 use entries::Entries;
 use entries::Entry;
 use page::Chain;
+
+// As many lines as the memo has slots.
+const LINES: usize = Desk::MAX_LINES + 1;
+
+// A number for each line, and one for the place past the last.
+const PLACES: usize = LINES + 1;
+
+const UNPLACED: u16 = 0;
 
 // What stays of the entries read, and the memo then.
 pub struct Swept {
@@ -25,55 +35,258 @@ pub struct Swept {
     pub memo: Memo,
 }
 
-// One entry: it goes, and its radio's missed count is lowered; or it stays.
-fn sweep_entry(swept: Swept, e: Entry) -> Swept
-    requires { ⌜ Ready swept (rowOf e ∷ []) ⌝ }
-    ensures { λ r. ⌜ Sweeps swept (rowOf e ∷ []) r ⌝ }
+// ---- the memo's lines in tables
+
+// Each line's radio and last place.
+fn read_lines<'a>(
+    memo: Memo,
+    radios: &'a mut [u16; PLACES],
+    placed: &'a mut [u16; PLACES],
+    easts: &'a mut [u16; PLACES],
+    norths: &'a mut [u16; PLACES],
+)
+    requires { ⌜ (memo .n ≤ lineSlots) × (length (now radios) ≡ linePlaces) × (length (now placed) ≡ linePlaces) × (length (now easts) ≡ linePlaces) × (length (now norths) ≡ linePlaces) ⌝ }
+    ensures { λ _. ⌜ lastsIn (memo .n) (now (radios .exit)) (now (placed .exit)) (now (easts .exit)) (now (norths .exit)) ≡ lastsOf (linesOf memo) ⌝ }
 {
-    let table = swept.table;
-    let memo = swept.memo;
-    if memo::is_stale(memo, e.radio, e.east, e.north) {
-        return Swept {
-            table,
-            memo: memo::lowered(memo, e.radio),
-        };
-    }
-    Swept {
-        table: table.pushed(e),
-        memo,
+    let n = memo.n;
+    let mut i: usize = 0;
+    while i < n {
+        let x = memo.rows[i];
+        radios[i] = x.radio;
+        placed[i] = x.placed;
+        easts[i] = x.east;
+        norths[i] = x.north;
+        i += 1;
     }
 }
 
-// The entries of page p.
-fn sweep_page(buffer: &[u8], p: u16, swept: Swept) -> Swept
-    requires { ⌜ (there (now buffer) p ≡ true) × Ready swept (entries (pageAt (now buffer) p)) ⌝ }
-    ensures { λ r. ⌜ Sweeps swept (entries (pageAt (now (buffer .entry)) p)) r ⌝ }
+// How many of the first n radios lie below `radio`, by binary search.
+fn rank<'a>(radios: &'a [u16; PLACES], n: usize, radio: u16) -> usize
+    requires { ⌜ (n ≤ lineSlots) × Rising 0 (radiosIn n (now radios)) ⌝ }
+    ensures { λ r. ⌜ (r ≡ rank radio (radiosIn n (now (radios .entry)))) × (r ≤ n) ⌝ }
+{
+    let mut low: usize = 0;
+    let mut high = n;
+    while low < high {
+        let mid = low + (high - low) / 2;
+        let x = radios[mid];
+        if x < radio {
+            low = mid + 1;
+        } else {
+            high = mid;
+        }
+    }
+    low
+}
+
+// ---- entries
+
+// Whether a last place is "another place or none".
+fn is_elsewhere(placed: u16, east: u16, north: u16, e: Entry) -> bool
+    ensures { λ r. ⌜ r ≡ not (isAt (lastAt placed east north) (placeOf e)) ⌝ }
+{
+    if placed == UNPLACED {
+        return true;
+    }
+    if east != e.east {
+        return true;
+    }
+    north != e.north
+}
+
+// Whether an entry is stale: the line at its radio's rank is its radio's, and has "another place or none".
+fn is_stale<'a>(
+    e: Entry,
+    at: usize,
+    n: usize,
+    radios: &'a [u16; PLACES],
+    placed: &'a [u16; PLACES],
+    easts: &'a [u16; PLACES],
+    norths: &'a [u16; PLACES],
+) -> bool
+    requires { ⌜ (n ≤ lineSlots) × Rising 0 (lastsIn n (now radios) (now placed) (now easts) (now norths)) × (at ≡ rank (e .radio) (radiosIn n (now radios))) ⌝ }
+    ensures { λ r. ⌜ r ≡ isStale (lastsIn n (now (radios .entry)) (now (placed .entry)) (now (easts .entry)) (now (norths .entry))) (entryRow e) ⌝ }
+{
+    if n <= at {
+        return false;
+    }
+    if radios[at] != e.radio {
+        return false;
+    }
+    is_elsewhere(placed[at], easts[at], norths[at], e)
+}
+
+// The slot after n entries, or the last of all.
+fn slot_after(n: usize) -> usize
+    ensures { λ r. ⌜ (r ≡ slotAfter n) × (r < maxOn) ⌝ }
+{
+    if n < Desk::MAX_ON {
+        n
+    } else {
+        Desk::MAX_ON - 1
+    }
+}
+
+// The entry, or what stood there if it goes.
+fn entry_or(goes: bool, old: Entry, e: Entry) -> Entry
+    ensures { λ r. ⌜ r ≡ cond goes old e ⌝ }
+{
+    if goes { old } else { e }
+}
+
+// 1 where the test holds.
+fn one_if(test: bool) -> usize
+    ensures { λ r. ⌜ (r ≡ one-if test) × (r ≤ 1) ⌝ }
+{
+    if test { 1 } else { 0 }
+}
+
+// The entries of page p: those that are stale mark their lines, the others go behind those in the table.
+fn sweep_page<'a>(
+    buffer: &'a [u8],
+    p: u16,
+    table: Entries,
+    n: usize,
+    radios: &'a [u16; PLACES],
+    placed: &'a [u16; PLACES],
+    easts: &'a [u16; PLACES],
+    norths: &'a [u16; PLACES],
+    marks: &'a mut [bool; PLACES],
+) -> Entries
+    requires { ⌜ (there (now buffer) p ≡ true) × (n ≤ lineSlots) × Ready (lastsIn n (now radios) (now placed) (now easts) (now norths)) table (entries (pageAt (now buffer) p)) ⌝ }
+    ensures { λ r. ⌜ Sweeps (lastsIn n (now (radios .entry)) (now (placed .entry)) (now (easts .entry)) (now (norths .entry))) table (now (marks .entry)) (entries (pageAt (now (buffer .entry)) p)) r (now (marks .exit)) ⌝ }
 {
     let page = page::page_at(buffer, p as usize);
-    let n = page::entry_count(page);
-    let mut done = swept;
+    let count = page::entry_count(page);
+    let mut all = table.all;
+    let mut k = table.n;
     let mut i: usize = 0;
-    while i < n {
-        done = sweep_entry(done, page::read_entry(page, i));
+    while i < count {
+        let e = page::read_entry(page, i);
+        let at = rank(radios, n, e.radio);
+        let stale = is_stale(e, at, n, radios, placed, easts, norths);
+        marks[at] = stale;
+        let slot = slot_after(k);
+        let old = all[slot];
+        all[slot] = entry_or(stale, old, e);
+        k = k + one_if(!stale);
         i += 1;
     }
-    done
+    Entries { n: k, all }
 }
+
+// The entries on the pages of a chain: what stays of them, and the lines of the others marked.
+fn sweep_pages<'a>(
+    buffer: &'a [u8],
+    chain: Chain,
+    n: usize,
+    radios: &'a [u16; PLACES],
+    placed: &'a [u16; PLACES],
+    easts: &'a [u16; PLACES],
+    norths: &'a [u16; PLACES],
+    marks: &'a mut [bool; PLACES],
+) -> Entries
+    requires { ⌜ (chain .n ≤ pages) × Each (λ p. there (now buffer) p ≡ true) (pagesOf chain) × (n ≤ lineSlots) × Rising 0 (lastsIn n (now radios) (now placed) (now easts) (now norths)) × (length (stay (lastsIn n (now radios) (now placed) (now easts) (now norths)) (entriesOn (now buffer) (pagesOf chain))) ≤ maxOn) ⌝ }
+    ensures { λ r. ⌜ SweepsAll (lastsIn n (now (radios .entry)) (now (placed .entry)) (now (easts .entry)) (now (norths .entry))) (now (marks .entry)) (entriesOn (now (buffer .entry)) (pagesOf chain)) r (now (marks .exit)) ⌝ }
+{
+    let mut table = Entries::empty();
+    let mut i: usize = 0;
+    while i < chain.n {
+        let p = chain.pages[i];
+        table = sweep_page(buffer, p, table, n, radios, placed, easts, norths, marks);
+        i += 1;
+    }
+    table
+}
+
+// ---- lines
+
+// "lower the missed count by 1; drop the line at 0": what is left of a line in its slot.
+fn lowered_line(x: Line, mark: bool) -> Line
+    requires { ⌜ Plain x ⌝ }
+    ensures { λ r. ⌜ r ≡ lineIf (x .radio) (lowerIf mark (rowOf x .val)) ⌝ }
+{
+    if !mark {
+        return x;
+    }
+    if x.missed <= 1 {
+        return Line {
+            radio: 0,
+            missed: 0,
+            placed: UNPLACED,
+            east: 0,
+            north: 0,
+        };
+    }
+    Line {
+        radio: x.radio,
+        missed: x.missed - 1,
+        placed: x.placed,
+        east: x.east,
+        north: x.north,
+    }
+}
+
+// Whether a line stays.
+fn line_stays(x: Line, mark: bool) -> bool
+    ensures { λ r. ⌜ r ≡ isSome (lowerIf mark (rowOf x .val)) ⌝ }
+{
+    if !mark {
+        return true;
+    }
+    1 < x.missed
+}
+
+// Each marked line has one miss less; those that stay, one after the other.
+fn lowered<'a>(memo: Memo, marks: &'a [bool; PLACES]) -> Memo
+    requires { ⌜ Whole memo × (memo .n ≤ lineSlots) × Rising 0 (linesOf memo) ⌝ }
+    ensures { λ r. ⌜ r ≡ memoOf (lowerWhere (markOf (now (marks .entry)) (linesOf memo)) (linesOf memo)) ⌝ }
+{
+    let n = memo.n;
+    let mut rows = [Line {
+        radio: 0,
+        missed: 0,
+        placed: UNPLACED,
+        east: 0,
+        north: 0,
+    }; LINES];
+    let mut k: usize = 0;
+    let mut i: usize = 0;
+    while i < n {
+        let x = memo.rows[i];
+        let mark = marks[i];
+        rows[k] = lowered_line(x, mark);
+        k = k + one_if(line_stays(x, mark));
+        i += 1;
+    }
+    Memo { n: k, rows }
+}
+
+// ---- a chain
 
 // "remove each entry whose radio has a memo line with another place or none; lower the missed count by 1; drop the line at 0": the entries on the pages of a chain.
 pub fn sweep_chain(buffer: &[u8], chain: Chain, memo: Memo) -> Swept
     requires { ⌜ (chain .n ≤ pages) × Each (λ p. there (now buffer) p ≡ true) (pagesOf chain) × Rising 0 (entriesOn (now buffer) (pagesOf chain)) × Whole memo × (memo .n ≤ lineSlots) × Rising 0 (linesOf memo) × (length (sweptEntries (linesOf memo) (entriesOn (now buffer) (pagesOf chain))) ≤ maxOn) ⌝ }
     ensures { λ r. ⌜ (rowsOf (r .table) ≡ sweptEntries (linesOf memo) (entriesOn (now (buffer .entry)) (pagesOf chain))) × (r .table .n ≡ length (sweptEntries (linesOf memo) (entriesOn (now (buffer .entry)) (pagesOf chain)))) × (r .memo ≡ memoOf (sweptMemo (linesOf memo) (entriesOn (now (buffer .entry)) (pagesOf chain)))) ⌝ }
 {
-    let mut swept = Swept {
-        table: Entries::empty(),
-        memo,
-    };
-    let mut i: usize = 0;
-    while i < chain.n {
-        let p = chain.pages[i];
-        swept = sweep_page(buffer, p, swept);
-        i += 1;
+    let mut radios = [0u16; PLACES];
+    let mut placed = [0u16; PLACES];
+    let mut easts = [0u16; PLACES];
+    let mut norths = [0u16; PLACES];
+    read_lines(memo, &mut radios, &mut placed, &mut easts, &mut norths);
+    let mut marks = [false; PLACES];
+    let table = sweep_pages(
+        buffer,
+        chain,
+        memo.n,
+        &radios,
+        &placed,
+        &easts,
+        &norths,
+        &mut marks,
+    );
+    Swept {
+        table,
+        memo: lowered(memo, &marks),
     }
-    swept
 }

@@ -1,6 +1,6 @@
-use Rattle.memo.proofs.MemoLaws.{elsewhere-none, elsewhere-east, elsewhere-north}
-use Rattle.memo.proofs.is_elsewhere.Statement.{statement}
-use Rattle.memo.proofs.is_elsewhere.Tie as tie
+use Rattle.sweep.proofs.TableLaws.{elsewhere-none, elsewhere-east, elsewhere-north}
+use Rattle.sweep.proofs.is_elsewhere.Statement.{statement}
+use Rattle.sweep.proofs.is_elsewhere.Tie as tie
 
 returns : tie.Need-returns
 returns c = search elsewhere-none

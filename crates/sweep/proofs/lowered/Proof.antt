@@ -1,0 +1,75 @@
+-- Those of the first i lines that stay are in the slots, and every other slot is unused (`Lowering`).
+use Prim.Native.Nat.{_-_, _≤_}
+use borrow.Author.Needs.{needs}
+use Rattle.sweep.proofs.LowerLaws.{Lowering, lower-start, line-plain, lower-turn, lower-end}
+use Rattle.sweep.proofs.lowered.Statement.{statement}
+use Rattle.sweep.proofs.lowered.Tie as tie
+
+abbrev Inv-loop : tie.InvT-loop
+Inv-loop marks memo n rows₀ k₀ i₀ rows k i = (k ≤ i) × (i ≤ n) × Lowering marks memo i k rows
+
+abbrev μ-loop : tie.MeasureT-loop
+μ-loop marks memo n rows₀ k₀ i₀ rows k i = n - i
+
+loop-holds : tie.Need-loop-holds Inv-loop μ-loop
+loop-holds c = (search needs, search needs, lower-start _ _)
+
+mul-x : tie.Need-mul-x Inv-loop μ-loop
+mul-x c = search needs
+
+element-copy-out-x : tie.Need-element-copy-out-x Inv-loop μ-loop
+element-copy-out-x c = search needs
+
+element-copy-out-mark : tie.Need-element-copy-out-mark Inv-loop μ-loop
+element-copy-out-mark c = search needs
+
+lowered-line-requires : tie.Need-lowered-line-requires Inv-loop μ-loop
+lowered-line-requires c κs = search line-plain
+
+mul-rows : tie.Need-mul-rows Inv-loop μ-loop
+mul-rows c = search needs
+
+array-set-from-rows : tie.Need-array-set-from-rows Inv-loop μ-loop
+array-set-from-rows c = search needs
+
+line-stays-requires : tie.Need-line-stays-requires Inv-loop μ-loop
+line-stays-requires c κs = search needs
+
+one-if-requires : tie.Need-one-if-requires Inv-loop μ-loop
+one-if-requires c κs = search needs
+
+add-k : tie.Need-add-k Inv-loop μ-loop
+add-k c = search needs
+
+add-i : tie.Need-add-i Inv-loop μ-loop
+add-i c = search needs
+
+loop-less : tie.Need-loop-less Inv-loop μ-loop
+loop-less c = search needs
+
+loop-again : tie.Need-loop-again Inv-loop μ-loop
+loop-again c = (search needs, search needs, search lower-turn)
+
+returns : tie.Need-returns Inv-loop μ-loop
+returns c = search lower-end
+
+pub lowered-spec : {M : Type 1} → statement M
+lowered-spec =
+    tie.close
+    (tie.spec
+    Inv-loop
+    μ-loop
+    loop-holds
+    mul-x
+    element-copy-out-x
+    element-copy-out-mark
+    lowered-line-requires
+    mul-rows
+    array-set-from-rows
+    line-stays-requires
+    one-if-requires
+    add-k
+    add-i
+    loop-less
+    loop-again
+    returns)
