@@ -19,6 +19,7 @@ use Rattle.lists.specs.Tests.{Each, one-if}
 use Rattle.lists.proofs.Cases.{by-cases}
 use Rattle.lists.proofs.PartsLaws.{tab-suc}
 use Rattle.lists.proofs.RowsLaws.{rising-alter, rising-filter, length-alter}
+use Rattle.lists.proofs.SumsLaws.{filter-append}
 use Rattle.lists.proofs.TestsLaws.{each-getD}
 use Rattle.entries.specs.declared.Entry.{Entry}
 use Rattle.entries.specs.declared.Entries.{Entries}
@@ -28,7 +29,6 @@ use Rattle.page.specs.Page.{count, entryAt, entries}
 use Rattle.page.specs.Buffer.{pageAt, there}
 use Rattle.rules.specs.Store.{Line}
 use Rattle.rules.specs.Sweep.{stale, lowered, lowerEach, sweptMemo}
-use Rattle.waiting.proofs.BoxLaws.{filter-append}
 use Rattle.sweep.specs.Sweep.{entriesOn, radiosIn, lastsIn, isStale, stay, marked, slotAfter, Ready, Sweeps, SweepsAll}
 use Rattle.sweep.proofs.TableLaws.{rank-radios}
 
