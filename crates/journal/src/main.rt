@@ -1,8 +1,9 @@
 // Carries the records on standard input on a fresh store, one after the other, and prints what each is answered.
 ghost use mathlib.Core.Path.{_≡_};
+ghost use mathlib.Core.List.{[]};
 ghost use Prim.Native.Nat.{_+_, _*_, _≤_};
-ghost use lib.ListN.{length};
-ghost use Rattle.replay.specs.Replay.{Ran};
+ghost use lib.ListN.{length, take, drop};
+ghost use Rattle.journal.specs.Journal.{atHand, Grows, Printed, Turns};
 use desk::Desk;
 use fresh::Answer;
 use libc::STDIN_FILENO;
@@ -46,7 +47,7 @@ fn main() {
 
 // Record after record, until one is the last. The loop would also end after record 2^64 - 2: that it ends is proved, and the input may not.
 fn print_journal(desk: Desk, pages: &mut [u8], window: &mut [u8], list: &mut [u8])
-    requires { ⌜ Ran desk (now pages) ⌝ }
+    requires { ⌜ Printed desk (now pages) [] ⌝ }
 {
     let mut done = Done {
         desk,
@@ -63,11 +64,11 @@ fn print_journal(desk: Desk, pages: &mut [u8], window: &mut [u8], list: &mut [u8
     }
 }
 
-// Record i is carried, and its answer is printed; or there is none, and nothing is. Desk and pages are always what a list of calls from a fresh store leaves, of which
-// Demands 2 and 3 speak.
+// What is read comes after what is at hand. One call is then handed all of it, its answer is printed as record i's, and the hand goes on by the record; or nothing is at
+// hand, and nothing is printed. So the calls are the records of what was read; Demands 2 and 3 speak of them.
 fn next_record(i: u64, done: Done, pages: &mut [u8], window: &mut [u8], list: &mut [u8]) -> Done
-    requires { ⌜ Ran (done .desk) (now pages) × (done .hand .at ≤ done .hand .end) × (done .hand .end ≤ length (now window)) ⌝ }
-    ensures { λ r. ⌜ Ran (r .desk) (now (pages .exit)) × (r .hand .at ≤ r .hand .end) × (r .hand .end ≤ length (now (window .entry))) ⌝ }
+    requires { ⌜ Printed (done .desk) (now pages) (atHand (now window) (done .hand .at) (done .hand .end)) × (done .hand .at ≤ done .hand .end) × (done .hand .end ≤ length (now window)) ⌝ }
+    ensures { λ r. ⌜ Turns (record { desk = done .desk; pages = now (pages .entry); hand = atHand (now (window .entry)) (done .hand .at) (done .hand .end); list = now (list .entry) }) (r .last) (record { desk = r .desk; pages = now (pages .exit); hand = atHand (now (window .exit)) (r .hand .at) (r .hand .end); list = now (list .exit) }) × (r .hand .at ≤ r .hand .end) × (r .hand .end ≤ length (now (window .entry))) ⌝ }
 {
     let hand = record_at_hand(window, done.hand);
     let at = hand.at;
@@ -81,13 +82,14 @@ fn next_record(i: u64, done: Done, pages: &mut [u8], window: &mut [u8], list: &m
         };
     }
     let bytes = &window[at..end];
-    let c = replay::carry_next(done.desk, pages, bytes, list);
+    let c = carry::carry(done.desk, pages, bytes, list);
     let answer = c.answer;
     print_answer(i, answer, is_range(bytes), list);
     let desk = c.desk;
+    let next = replay::next_record(bytes, 0, answer.number);
     Done {
         desk,
-        hand: passed(hand, record_length(bytes)),
+        hand: Hand { at: at + next, end },
         last: answer.number == NOT_AT_HAND,
     }
 }
@@ -109,27 +111,10 @@ fn is_range(bytes: &[u8]) -> bool {
     fields::read(bytes, 2) == KIND_RANGE
 }
 
-// What is at hand after so many bytes, none if there are not so many.
-fn passed(hand: Hand, length: usize) -> Hand
-    requires { ⌜ hand .at ≤ hand .end ⌝ }
-    ensures { λ r. ⌜ (r .at ≤ r .end) × (r .end ≡ hand .end) ⌝ }
-{
-    if hand.end - hand.at < length {
-        return Hand {
-            at: hand.end,
-            end: hand.end,
-        };
-    }
-    Hand {
-        at: hand.at + length,
-        end: hand.end,
-    }
-}
-
-// The window's next record is at hand, or all that is left of the input is.
+// The window's next record is at hand, or all that is left of the input is; what was at hand is kept.
 fn record_at_hand(window: &mut [u8], hand: Hand) -> Hand
     requires { ⌜ (hand .at ≤ hand .end) × (hand .end ≤ length (now window)) ⌝ }
-    ensures { λ r. ⌜ (r .at ≤ r .end) × (r .end ≤ length (now (window .entry))) ⌝ }
+    ensures { λ r. ⌜ Grows (atHand (now (window .entry)) (hand .at) (hand .end)) (atHand (now (window .exit)) (r .at) (r .end)) × (r .at ≤ r .end) × (r .end ≤ length (now (window .entry))) ⌝ }
 {
     let first = filled(window, hand, LEAST_BYTES);
     let at = first.at;
@@ -138,10 +123,10 @@ fn record_at_hand(window: &mut [u8], hand: Hand) -> Hand
     filled(window, first, length)
 }
 
-// So many bytes are at hand, or all that is left of the input is.
+// So many bytes are at hand, or all that is left of the input is; what was at hand is kept.
 fn filled(window: &mut [u8], hand: Hand, need: usize) -> Hand
     requires { ⌜ (hand .at ≤ hand .end) × (hand .end ≤ length (now window)) ⌝ }
-    ensures { λ r. ⌜ (r .at ≤ r .end) × (r .end ≤ length (now (window .entry))) ⌝ }
+    ensures { λ r. ⌜ Grows (atHand (now (window .entry)) (hand .at) (hand .end)) (atHand (now (window .exit)) (r .at) (r .end)) × (r .at ≤ r .end) × (r .end ≤ length (now (window .entry))) ⌝ }
 {
     let n = hand.end - hand.at;
     if need <= n {
@@ -157,6 +142,7 @@ fn filled(window: &mut [u8], hand: Hand, need: usize) -> Hand
 // The n bytes from `at` on go to the window's front.
 fn shift(window: &mut [u8], at: usize, n: usize)
     requires { ⌜ at + n ≤ length (now window) ⌝ }
+    ensures { λ _. ⌜ take n (now (window .exit)) ≡ take n (drop at (now (window .entry))) ⌝ }
 {
     let mut i: usize = 0;
     while i < n {
@@ -165,10 +151,10 @@ fn shift(window: &mut [u8], at: usize, n: usize)
     }
 }
 
-// Reads on from `from` until there are `need` bytes, or the input or the window ends.
+// Reads on from `from` until there are `need` bytes, or the input or the window ends: where the bytes then end.
 fn read_up_to(window: &mut [u8], from: usize, need: usize) -> usize
     requires { ⌜ from ≤ length (now window) ⌝ }
-    ensures { λ r. ⌜ r ≤ length (now (window .entry)) ⌝ }
+    ensures { λ r. ⌜ (take from (now (window .exit)) ≡ take from (now (window .entry))) × (from ≤ r) × (r ≤ length (now (window .entry))) ⌝ }
 {
     let mut end = from;
     while end < need {
@@ -184,7 +170,7 @@ fn read_up_to(window: &mut [u8], from: usize, need: usize) -> usize
 // One read into the window from `end` on: where the bytes then end.
 fn read_more(window: &mut [u8], end: usize) -> usize
     requires { ⌜ end ≤ length (now window) ⌝ }
-    ensures { λ r. ⌜ (end ≤ r) × (r ≤ length (now (window .entry))) ⌝ }
+    ensures { λ r. ⌜ (take end (now (window .exit)) ≡ take end (now (window .entry))) × (end ≤ r) × (r ≤ length (now (window .entry))) ⌝ }
 {
     let got = libc::read(STDIN_FILENO, &mut window[end..]);
     end + io::count(got, &window[end..])

@@ -25,18 +25,13 @@ use Rattle.rules.specs.Store.{fresh}
 use Rattle.rules.specs.Told.{toldList, toldDone, told}
 use Rattle.desk.specs.declared.Desk.{Desk}
 use Rattle.desk.specs.Layout.{deskOf, pagesOf}
-use Rattle.desk.specs.Call.{Before, After, Answers}
+use Rattle.desk.specs.Call.{After, Answers}
 use Rattle.desk.proofs.FreshLaws.{fresh-pages}
 use Rattle.fresh.specs.Begin.{Found as Begin·Found, Made, Begins}
 use Rattle.demands.specs.Trace.{deskCuts, Trace, begun, called, EveryCall}
 use Rattle.demands.specs.Demands.{AsTold, WholeList}
 use Rattle.demands.proofs.Demands.{demand2, demand3}
-use Rattle.replay.specs.Replay.{Ran, Goes, leftBy, answerBytes, listedBytes, reply, replies, Running, Found, Held, Replays}
-
--- ---- one call more
-
-pub goes : {x : Before} {y : After} → Bytes (x .bytes) → Answers x y → Goes x y
-goes {x} {y} small a = record { answers = a; ran = λ t. record { plain = plainStep (deskCuts (x .desk)) (x .bytes) (t .plain); calls = called (t .calls) (x .bytes) (x .buffer) y small a } }
+use Rattle.replay.specs.Replay.{leftBy, answerBytes, listedBytes, reply, replies, Running, Found, Held, Replays}
 
 -- ---- what the plain rule tells
 
@@ -44,6 +39,12 @@ goes {x} {y} small a = record { answers = a; ran = λ t. record { plain = plainS
 told-at-hand : (x : Plain) (bytes buffer : List ℕ) → (told x bytes buffer .number ≡ 3 → ⊥) → notAtHand bytes ≡ false
 unfolding told plainRefusal refusal
 told-at-hand x bytes buffer = by-cases (notAtHand bytes) (λ t. rw t (λ n. absurd (n refl))) (λ t n. t)
+
+-- what a call is handed after a list of calls is at hand, or it answers 3
+pub called-at-hand : {d : Desk} {b : List ℕ} {x : Plain} (calls : Trace d b x) {bytes buffer : List ℕ} {y : After} → Bytes bytes
+    → Answers (record { desk = d; pages = b; bytes = bytes; buffer = buffer }) y → (y .number ≡ 3 → ⊥) → notAtHand bytes ≡ false
+called-at-hand {x = x} calls {bytes} {buffer} {y} small a n =
+    told-at-hand x bytes buffer (λ e. n (demand2 _ _ _ (called calls bytes buffer y small a) .1 .number ∙ e))
 
 length-bytesOf : (l : Rows Place) → length (bytesOf l) ≡ listBytes * length l
 unfolding bytesOf
@@ -125,14 +126,14 @@ at-hand bytes e =
     (ltb-false (lengthField bytes) 4 (g .0), ltb-false (length bytes) (lengthField bytes) (g .1), ltb-false (length bytes) 4 (f .0))
 
 -- where the next record stands
-next-left : (journal : List ℕ) (at number : ℕ) {next : ℕ} → next ≡ cond (eqb number 3) (length journal) (at + lengthField (drop at journal)) → drop next journal ≡ leftBy (drop at journal) number
+pub next-left : (journal : List ℕ) (at number : ℕ) {next : ℕ} → next ≡ cond (eqb number 3) (length journal) (at + lengthField (drop at journal)) → drop next journal ≡ leftBy (drop at journal) number
 unfolding leftBy
 next-left journal at number {next} e =
     by-cases (eqb number 3)
     (λ t. let f : next ≡ length journal = e ∙ rw t in rw (t, f) (drop-length journal))
     (λ t. let f : next ≡ at + lengthField (drop at journal) = e ∙ rw t in rw (t, f) (sym (drop-drop (lengthField (drop at journal)) at journal)))
 
-next-within : (journal : List ℕ) (at number : ℕ) {next : ℕ} → at < length journal → ((number ≡ 3 → ⊥) → notAtHand (drop at journal) ≡ false)
+pub next-within : (journal : List ℕ) (at number : ℕ) {next : ℕ} → at < length journal → ((number ≡ 3 → ⊥) → notAtHand (drop at journal) ≡ false)
     → next ≡ cond (eqb number 3) (length journal) (at + lengthField (drop at journal)) → (at < next) × (next ≤ length journal)
 next-within journal at number {next} l h e =
     by-cases (eqb number 3)
@@ -157,7 +158,7 @@ module _ {journal : List ℕ} {d : Desk} {b : List ℕ} {read : ℕ} {out : List
   as-told = demand2 _ _ _ longer .1
 
   pub call-at-hand : (y .number ≡ 3 → ⊥) → notAtHand (drop read journal) ≡ false
-  call-at-hand n = told-at-hand (k .plain) (drop read journal) (drop (written + answerBytes) out) (λ e. n (as-told .number ∙ e))
+  call-at-hand = called-at-hand (k .calls) (rest-bytes journal read small) answers-rest
 
   call-lists : Lists (y .number) (y .count) (drop (written + answerBytes) out) (y .buffer)
   call-lists =
@@ -254,9 +255,6 @@ begins-size {x} {y} g e =
 
 pub begins-fresh : {x : Begin·Found} {y : Made} → Begins x y → y .number ≡ 0 → (y .desk ≡ deskOf fresh) × (y .pages ≡ pagesOf fresh)
 begins-fresh g e = let f = g .made (begins-size g e) in (ap (λ (z : Made). z .desk) f, ap (λ (z : Made). z .pages) f)
-
-pub begins-ran : {x : Begin·Found} {y : Made} → Begins x y → length (x .pages) ≡ bufferBytes → Ran (y .desk) (y .pages)
-begins-ran g l = rw (g .made l, fresh-pages) (record { plain = plainFresh; calls = begun })
 
 pub replays-refused : (journal out : List ℕ) {x : Begin·Found} {y : Made} → Begins x y → (y .number ≡ 0 → ⊥)
     → Replays journal (record { desk = x .desk; pages = x .pages; out = out }) (record { number = y .number; desk = y .desk; pages = y .pages; read = 0; written = 0; out = out })

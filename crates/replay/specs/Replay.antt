@@ -12,20 +12,8 @@ use Rattle.rules.specs.Records.{lengthField}
 use Rattle.rules.specs.Carry.{listBytes}
 use Rattle.rules.specs.Plain.{Plain}
 use Rattle.desk.specs.declared.Desk.{Desk}
-use Rattle.desk.specs.Call.{Before, After, Answers}
+use Rattle.desk.specs.Call.{After}
 use Rattle.demands.specs.Trace.{Trace, begun, called}
-
--- ---- one call more
-
--- desk and pages are what a list of calls from a fresh store leaves: Demands 2 and 3 speak of it
-pub record Ran (desk : Desk) (pages : List ℕ) : Type 0 where
-  pub plain : Plain
-  pub calls : Trace desk pages plain
-
--- a call is answered, and what a list of calls left it leaves as the list with that call
-pub record Goes (x : Before) (y : After) : Type 0 where
-  pub answers : Answers x y
-  pub ran : Ran (x .desk) (x .pages) → Ran (y .desk) (y .pages)
 
 -- ---- the records
 

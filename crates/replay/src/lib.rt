@@ -1,4 +1,4 @@
-// Records carried one after the other from a fresh store: one more, or a whole journal with all its answers.
+// A whole journal carried from a fresh store, with all its answers.
 ghost use mathlib.Core.Bool.{cond, false};
 ghost use mathlib.Core.List.{_++_};
 ghost use mathlib.Core.Path.{_≡_};
@@ -11,8 +11,7 @@ ghost use Rattle.lists.specs.Words.{le};
 ghost use Rattle.rules.specs.Records.{lengthField, notAtHand};
 ghost use Rattle.rules.specs.Store.{fresh};
 ghost use Rattle.desk.specs.Layout.{deskOf, pagesOf};
-ghost use Rattle.replay.specs.Replay.{answerBytes, listedBytes, Goes, Running, Replays};
-use carry::Carried;
+ghost use Rattle.replay.specs.Replay.{answerBytes, listedBytes, Running, Replays};
 use desk::Desk;
 use fresh::Answer;
 
@@ -34,13 +33,6 @@ pub struct Replayed {
     pub run: Run,
 }
 
-// One record more, on what the records before it left.
-pub fn carry_next(desk: Desk, pages: &mut [u8], bytes: &[u8], buffer: &mut [u8]) -> Carried
-    ensures { λ r. ⌜ Goes (record { desk = desk; pages = now (pages .entry); bytes = now (bytes .entry); buffer = now (buffer .entry) }) (record { number = r .answer .number; count = r .answer .count; desk = r .desk; pages = now (pages .exit); buffer = now (buffer .exit) }) ⌝ }
-{
-    carry::carry(desk, pages, bytes, buffer)
-}
-
 // Number and count at `at`, and every other byte is kept.
 fn write_answer(out: &mut [u8], at: usize, answer: Answer)
     requires { ⌜ at + answerBytes ≤ length (now out) ⌝ }
@@ -60,7 +52,7 @@ fn listed_bytes(answer: Answer) -> usize
 }
 
 // Where the next record stands, or the journal's end after number 3.
-fn next_record(journal: &[u8], at: usize, number: u16) -> usize
+pub fn next_record(journal: &[u8], at: usize, number: u16) -> usize
     requires { ⌜ (at ≤ length (now journal)) × ((number ≡ 3 → ⊥) → notAtHand (drop at (now journal)) ≡ false) ⌝ }
     ensures { λ r. ⌜ r ≡ cond (eqb number 3) (length (now (journal .entry))) (at + lengthField (drop at (now (journal .entry)))) ⌝ }
 {
@@ -78,7 +70,7 @@ fn step(run: Run, pages: &mut [u8], journal: &[u8], out: &mut [u8]) -> Run
     let at = run.read;
     let from = run.written;
     let room = from + ANSWER_BYTES;
-    let c = carry_next(run.desk, pages, &journal[at..], &mut out[room..]);
+    let c = carry::carry(run.desk, pages, &journal[at..], &mut out[room..]);
     let answer = c.answer;
     write_answer(out, from, answer);
     let desk = c.desk;

@@ -1,4 +1,5 @@
 use native.Mathlib.Omega.{arith}
+use Rattle.journal.proofs.JournalLaws.{hand-none, turns-stop, turn-at-hand, turn-within, turn-carried}
 use borrow.Author.Needs.{needs}
 use Rattle.journal.proofs.next_record.Statement.{statement}
 use Rattle.journal.proofs.next_record.Tie as tie
@@ -10,7 +11,9 @@ same-length : tie.Need-same-length
 same-length c = search needs
 
 returns : tie.Need-returns
-returns c = search needs
+returns c =
+    let h = c .before .before .before .before in
+    (turns-stop (h .record-at-hand .ensures .0) (hand-none _ _ _ (c .before .if1 .taken)), search needs, search needs)
 
 sub-bytes : tie.Need-sub-bytes
 sub-bytes c = search needs
@@ -21,8 +24,8 @@ part-bytes-start c = search needs
 part-bytes-end : tie.Need-part-bytes-end
 part-bytes-end c = search needs
 
-carry-next-requires : tie.Need-carry-next-requires
-carry-next-requires c κs = search needs
+carry-requires : tie.Need-carry-requires
+carry-requires c κs = search needs
 
 is-range-requires : tie.Need-is-range-requires
 is-range-requires c κs = search needs
@@ -30,11 +33,24 @@ is-range-requires c κs = search needs
 print-answer-requires : tie.Need-print-answer-requires
 print-answer-requires c κs = search needs
 
-record-length-requires : tie.Need-record-length-requires
-record-length-requires c κs = search needs
+next-record-requires : tie.Need-next-record-requires
+next-record-requires c κs =
+    let k = c .before .before .before .before .before .before .before .before .before in
+    let i = k .before .before .before .before .before in
+    let h = i .before .before .before in
+    let o = h .record-at-hand in
+    let s = h .before .before .before .before .before in
+    (search needs, turn-at-hand (s .pre .0) (o .last .0) (o .result .at) (o .result .end) (o .ensures .1) (search needs) (i .if1 .left) (λ n. i .before .slice-known4 .given n .fits) (k .carry .ensures))
 
-passed-requires : tie.Need-passed-requires
-passed-requires c κs = search needs
+add-t19 : tie.Need-add-t19
+add-t19 c =
+    let k = c .before .before .before .before .before .before .before .before .before .before in
+    let i = k .before .before .before .before .before in
+    let h = i .before .before .before in
+    let o = h .record-at-hand in
+    let s = h .before .before .before .before .before in
+    let w = turn-within (s .pre .0) (o .last .0) (o .result .at) (o .result .end) (o .ensures .1) (search needs) (i .if1 .left) (λ n. i .before .slice-known4 .given n .fits) (k .carry .ensures) (c .next-record .ensures) in
+    omega (arith, o .ensures, h .before)
 
 same-length-2 : tie.Need-same-length-2
 same-length-2 c = search needs
@@ -47,11 +63,12 @@ same-length-4 c = search needs
 
 returns-2 : tie.Need-returns-2
 returns-2 c =
-    let k = c .before .before .before .before .before .before .before .before .before .before .before .before in
-    let h = k .before .before .before .before .before .before .before .before in
+    let k = c .before .before .before .before .before .before .before .before .before .before .before in
+    let i = k .before .before .before .before .before in
+    let h = i .before .before .before in
+    let o = h .record-at-hand in
     let s = h .before .before .before .before .before in
-    let p = c .before .passed .ensures in
-    (k .carry-next .ensures .ran (s .pre .0), p .0, omega (arith, h .record-at-hand .ensures, p))
+    turn-carried (s .pre .0) (o .last .0) (o .result .at) (o .result .end) (o .ensures .1) (search needs) (i .if1 .left) (λ n. i .before .slice-known4 .given n .fits) (k .carry .ensures) (c .before .next-record .ensures) (o .ensures)
 
 pub next-record-spec : {M : Type 1} → statement M
 next-record-spec =
@@ -63,11 +80,11 @@ next-record-spec =
     sub-bytes
     part-bytes-start
     part-bytes-end
-    carry-next-requires
+    carry-requires
     is-range-requires
     print-answer-requires
-    record-length-requires
-    passed-requires
+    next-record-requires
+    add-t19
     same-length-2
     same-length-3
     same-length-4

@@ -2,13 +2,14 @@ use mathlib.Core.Path.{_≡_}
 use Prim.Native.Nat.{_-_, _≤_}
 use lib.ListN.{length}
 use borrow.Author.Needs.{needs}
-use Rattle.replay.specs.Replay.{Ran}
+use Rattle.journal.specs.Journal.{atHand, Printed}
+use Rattle.journal.proofs.JournalLaws.{printed-on}
 use Rattle.journal.proofs.print_journal.Statement.{statement}
 use Rattle.journal.proofs.print_journal.Tie as tie
 
 abbrev Inv-loop : tie.InvT-loop
 Inv-loop pages₀ window₀ list₀ done₀ i₀ pages window list done i =
-    Ran (done .desk) pages × (length pages ≡ length pages₀) × (length window ≡ length window₀) × (length list ≡ length list₀)
+    Printed (done .desk) pages (atHand window (done .hand .at) (done .hand .end)) × (length pages ≡ length pages₀) × (length window ≡ length window₀) × (length list ≡ length list₀)
     × (done .hand .at ≤ done .hand .end) × (done .hand .end ≤ length window₀)
 
 abbrev μ-loop : tie.MeasureT-loop
@@ -39,7 +40,10 @@ loop-less : tie.Need-loop-less Inv-loop μ-loop
 loop-less c = search needs
 
 loop-again : tie.Need-loop-again Inv-loop μ-loop
-loop-again c = search needs
+loop-again c =
+    let l = c .before .before .before .before .before .before .before .before .before .before .before .before in
+    let t = c .before .before .before .before .before .before .before .next-record .ensures in
+    (printed-on (l .loop .inv .0) (t .0), search needs, search needs, search needs, search needs, search needs)
 
 same-length-4 : tie.Need-same-length-4 Inv-loop μ-loop
 same-length-4 c = search needs

@@ -1,12 +1,13 @@
 use mathlib.Core.Path.{_≡_}
 use Prim.Native.Nat.{_-_, _≤_}
-use lib.ListN.{length}
+use lib.ListN.{length, take}
+use Rattle.journal.proofs.JournalLaws.{kept-shorter}
 use borrow.Author.Needs.{needs}
 use Rattle.journal.proofs.read_up_to.Statement.{statement}
 use Rattle.journal.proofs.read_up_to.Tie as tie
 
 abbrev Inv-loop : tie.InvT-loop
-Inv-loop window₀ from need end₀ window end = (end ≤ length window₀) × (length window ≡ length window₀)
+Inv-loop window₀ from need end₀ window end = (take from window ≡ take from window₀) × (from ≤ end) × (end ≤ length window₀) × (length window ≡ length window₀)
 
 abbrev μ-loop : tie.MeasureT-loop
 μ-loop window₀ from need end₀ window end = need - end
@@ -21,13 +22,13 @@ same-length : tie.Need-same-length Inv-loop μ-loop
 same-length c = search needs
 
 returns : tie.Need-returns Inv-loop μ-loop
-returns c = search needs
+returns c = (search kept-shorter, search needs, search needs)
 
 loop-less : tie.Need-loop-less Inv-loop μ-loop
 loop-less c = search needs
 
 loop-again : tie.Need-loop-again Inv-loop μ-loop
-loop-again c = search needs
+loop-again c = (search kept-shorter, search needs, search needs, search needs)
 
 same-length-2 : tie.Need-same-length-2 Inv-loop μ-loop
 same-length-2 c = search needs
