@@ -25,8 +25,8 @@ use Rattle.rules.proofs.TilingLaws.{stripe-between, stripe-most, stripe-low}
 use Rattle.desk.specs.declared.CutList.{CutList}
 use Rattle.desk.specs.Layout.{slotted, cutListOf}
 use Rattle.desk.specs.Views.{cutsIn, cutsBy}
-use Rattle.waiting.specs.declared.BoxAt.{BoxAt}
-use Rattle.waiting.specs.Boxes.{boxIn}
+use Rattle.boxes.specs.declared.BoxAt.{BoxAt}
+use Rattle.boxes.specs.Boxes.{boxIn}
 use Rattle.waiting.proofs.SlotsLaws.{length-insertAt, open-slotted}
 use Rattle.directory.specs.Cuts.{WholeCuts}
 

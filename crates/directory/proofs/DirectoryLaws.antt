@@ -32,7 +32,7 @@ use Rattle.desk.specs.declared.Directory.{Directory}
 use Rattle.desk.specs.Layout.{slotted, noSlot, slotOf, directoryOf, cutListOf}
 use Rattle.desk.specs.Views.{slotsIn, directoryWith, edgesOf}
 use Rattle.desk.proofs.UniqueLaws.{take-slots}
-use Rattle.waiting.proofs.BoxLaws.{cuts-laid}
+use Rattle.boxes.proofs.BoxLaws.{cuts-laid}
 use Rattle.waiting.proofs.SlotsLaws.{getD-mapped}
 use Rattle.directory.specs.declared.FoundCell.{FoundCell}
 use Rattle.directory.specs.declared.FoundCell.the-variants.{At, Nowhere}

@@ -8,14 +8,14 @@ ghost use Rattle.rules.specs.Grid.{within, inside, stripeLow, cornerOf};
 ghost use Rattle.rules.specs.Flush.{addCut};
 ghost use Rattle.desk.specs.Layout.{cutListOf};
 ghost use Rattle.desk.specs.Views.{cutsIn, cutsBy, slotsIn, directoryWith, edgesOf};
-ghost use Rattle.waiting.specs.Boxes.{boxIn};
+ghost use Rattle.boxes.specs.Boxes.{boxIn};
 ghost use Rattle.directory.specs.Directory.{WholeDirectory, slotAt, foundAt, Numbered, usedNumbers, unusedOf};
 ghost use Rattle.directory.specs.Cuts.{WholeCuts, CutReady, placeOf};
+use boxes::BoxAt;
 use desk::CutList;
 use desk::Desk;
 use desk::Directory;
 use desk::Slot;
-use waiting::BoxAt;
 
 // Where the cell of a place stands in the directory.
 pub enum FoundCell {
@@ -199,7 +199,7 @@ pub fn with_cut(cuts: CutList, at: u16) -> CutList
     requires { ⌜ CutReady cuts at ⌝ }
     ensures { λ r. ⌜ r ≡ cutListOf (addCut at (cutsIn cuts)) ⌝ }
 {
-    let stripe = waiting::stripe_of(cuts, at);
+    let stripe = boxes::stripe_of(cuts, at);
     if stripe_low(cuts, stripe) == at {
         return cuts;
     }

@@ -33,8 +33,7 @@ use Rattle.desk.specs.Layout.{lineSlots, memoOf, noReport}
 use Rattle.memo.specs.Memo.{linesOf}
 use Rattle.memo.proofs.MemoLaws.{lines-are, whole-is, count-is}
 use Rattle.waiting.specs.Waiting.{waits, rowOf, reportsOf}
-use Rattle.waiting.proofs.BoxLaws.{length-reports, reports-get}
-use Rattle.waiting.proofs.WaitingLaws.{noRow as noReportRow}
+use Rattle.waiting.proofs.WaitingLaws.{noRow as noReportRow, length-reports, reports-get}
 use Rattle.sweep.specs.declared.Swept.{Swept}
 use Rattle.enter.specs.Enter.{workOf, Room, Enterable, Entered}
 

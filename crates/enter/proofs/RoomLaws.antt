@@ -33,10 +33,10 @@ use Rattle.desk.specs.Layout.{lineSlots, cutListOf, waitingOf, memoOf}
 use Rattle.desk.specs.Views.{cutsBy}
 use Rattle.memo.specs.Memo.{mostMissed}
 use Rattle.memo.proofs.MemoLaws.{lines-are, whole-is}
-use Rattle.waiting.specs.declared.BoxAt.{BoxAt}
-use Rattle.waiting.specs.Boxes.{boxIn}
+use Rattle.boxes.specs.declared.BoxAt.{BoxAt}
+use Rattle.boxes.specs.Boxes.{boxIn}
 use Rattle.waiting.specs.Waiting.{reportsOf}
-use Rattle.waiting.proofs.BoxLaws.{cuts-laid}
+use Rattle.boxes.proofs.BoxLaws.{cuts-laid}
 use Rattle.waiting.proofs.WaitingLaws.{reports-laid, count-laid}
 use Rattle.sweep.specs.declared.Swept.{Swept}
 use Rattle.enter.specs.Enter.{workOf, Room, Enterable, Entered}

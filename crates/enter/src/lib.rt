@@ -12,9 +12,10 @@ ghost use Rattle.rules.proofs.Parts.{missedOf};
 ghost use Rattle.desk.specs.Layout.{lineSlots, memoOf};
 ghost use Rattle.desk.specs.Views.{cutsBy};
 ghost use Rattle.memo.specs.Memo.{linesOf, Whole, mostMissed};
-ghost use Rattle.waiting.specs.Boxes.{boxIn};
+ghost use Rattle.boxes.specs.Boxes.{boxIn};
 ghost use Rattle.waiting.specs.Waiting.{waits, rowOf, reportsOf};
 ghost use Rattle.enter.specs.Enter.{Enterable, Entered};
+use boxes::BoxAt;
 use desk::CutList;
 use desk::Memo;
 use desk::Report;
@@ -22,7 +23,6 @@ use desk::Waiting;
 use entries::Entry;
 use entries::Lookup;
 use sweep::Swept;
-use waiting::BoxAt;
 
 // A report as an entry.
 fn entry_of(report: Report) -> Entry
@@ -89,7 +89,7 @@ fn enter_if(easts: CutList, norths: CutList, m: BoxAt, swept: Swept, report: Rep
     requires { ⌜ (easts .n ≤ maxCuts) × (norths .n ≤ maxCuts) × Enterable swept (filter (inBox (cutsBy easts norths) (boxIn m)) (rowOf report ∷ [])) ⌝ }
     ensures { λ r. ⌜ Entered swept (filter (inBox (cutsBy easts norths) (boxIn m)) (rowOf report ∷ [])) r ⌝ }
 {
-    if waiting::in_box(easts, norths, m, report) {
+    if boxes::in_box(easts, norths, m, report) {
         return enter_report(swept, report);
     }
     swept

@@ -19,10 +19,10 @@ use Rattle.desk.specs.declared.Grid.{Grid}
 use Rattle.desk.specs.declared.Waiting.{Waiting}
 use Rattle.desk.specs.declared.Memo.{Memo}
 use Rattle.desk.specs.Views.{cutsBy}
-use Rattle.waiting.specs.declared.BoxAt.{BoxAt}
-use Rattle.waiting.specs.declared.BoxDue.{BoxDue}
-use Rattle.waiting.specs.declared.BoxDue.the-variants.{Flush, Nothing}
-use Rattle.waiting.specs.Boxes.{boxIn, dueOf}
+use Rattle.boxes.specs.declared.BoxAt.{BoxAt}
+use Rattle.boxes.specs.declared.BoxDue.{BoxDue}
+use Rattle.boxes.specs.declared.BoxDue.the-variants.{Flush, Nothing}
+use Rattle.boxes.specs.Boxes.{boxIn, dueOf}
 use Rattle.waiting.specs.Waiting.{reportsOf}
 use Rattle.waiting.proofs.WaitingLaws.{reports-laid}
 use Rattle.directory.proofs.DirectoryLaws.{Boxed, boxed-due, boxed-counts}

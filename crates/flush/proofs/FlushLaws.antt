@@ -26,10 +26,10 @@ use Rattle.desk.specs.declared.Waiting.{Waiting}
 use Rattle.desk.specs.declared.Memo.{Memo}
 use Rattle.desk.specs.Layout.{cutListOf, gridOf, waitingOf}
 use Rattle.desk.specs.Views.{cutsBy, slotsIn}
-use Rattle.waiting.specs.declared.BoxAt.{BoxAt}
-use Rattle.waiting.specs.Boxes.{boxIn}
+use Rattle.boxes.specs.declared.BoxAt.{BoxAt}
+use Rattle.boxes.specs.Boxes.{boxIn}
 use Rattle.waiting.specs.Waiting.{reportsOf, WholeWaiting}
-use Rattle.waiting.proofs.BoxLaws.{cuts-laid}
+use Rattle.boxes.proofs.BoxLaws.{cuts-laid}
 use Rattle.waiting.proofs.WaitingLaws.{reports-laid, whole-laid, count-laid}
 use Rattle.directory.specs.declared.FoundCell.{FoundCell}
 use Rattle.directory.specs.declared.FoundCell.the-variants.{At, Nowhere}

@@ -8,10 +8,12 @@ ghost use Rattle.rules.specs.Sweep.{swept, sweptMemo, sweepFront};
 ghost use Rattle.rules.specs.Flush.{flushedInto};
 ghost use Rattle.rules.specs.Carry.{waitingIn, boxToFlush};
 ghost use Rattle.desk.specs.Views.{cutsBy, slotsIn};
-ghost use Rattle.waiting.specs.Boxes.{boxIn};
+ghost use Rattle.boxes.specs.Boxes.{boxIn};
 ghost use Rattle.waiting.specs.Waiting.{reportsOf};
 ghost use Rattle.directory.specs.Directory.{slotAt, foundAt};
 ghost use Rattle.flush.specs.Flush.{Holds, AtPlace, InHand, Tallied, Sixteenth, Ticks, Reported, Homed, Flushes, After, quiet};
+use boxes::BoxAt;
+use boxes::BoxDue;
 use desk::CutList;
 use desk::Desk;
 use desk::Grid;
@@ -21,8 +23,6 @@ use directory::FoundCell;
 use entries::Entries;
 use page::Chain;
 use sweep::Swept;
-use waiting::BoxAt;
-use waiting::BoxDue;
 
 // A cell's old pages, its entries as they now are, and the memo then.
 struct Hand {
@@ -153,7 +153,7 @@ pub fn flush(buffer: &mut [u8], grid: Grid, waiting: Waiting, memo: Memo, m: Box
     let done = reshape::reshape(buffer, grid, at, chain, table, lines);
     let easts = grid.easts;
     let norths = grid.norths;
-    let left = waiting::cleared(easts, norths, waiting, m);
+    let left = boxes::cleared(easts, norths, waiting, m);
     let shape = done.grid;
     let notes = done.memo;
     Emptied {
@@ -177,7 +177,7 @@ pub fn after_report(
 {
     let easts = grid.easts;
     let norths = grid.norths;
-    let BoxDue::Flush(m) = waiting::box_due(easts, norths, waiting, east, north) else {
+    let BoxDue::Flush(m) = boxes::box_due(easts, norths, waiting, east, north) else {
         return Emptied {
             grid,
             waiting,
@@ -199,7 +199,7 @@ pub fn is_quiet(
     requires { ⌜ (waiting .n ≤ fullMemory) × (easts .n ≤ maxCuts) × (norths .n ≤ maxCuts) × (tally < sweepEvery) ⌝ }
     ensures { λ r. ⌜ r ≡ quiet (boxToFlush (cutsBy easts norths) (waitingIn (cutsBy easts norths) (reportsOf waiting)) (length (reportsOf waiting)) (record { east = east; north = north })) (tally + 1) ⌝ }
 {
-    match waiting::box_due(easts, norths, waiting, east, north) {
+    match boxes::box_due(easts, norths, waiting, east, north) {
         BoxDue::Flush(_) => false,
         BoxDue::Nothing => tally + 1 < Desk::SWEEP_EVERY,
     }

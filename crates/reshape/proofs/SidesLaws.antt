@@ -30,7 +30,7 @@ use Rattle.desk.specs.declared.Directory.{Directory}
 use Rattle.desk.specs.declared.Grid.{Grid}
 use Rattle.desk.specs.Layout.{noSlot, cutListOf, slotOf, directoryOf, gridOf}
 use Rattle.desk.specs.Views.{slotsIn, directoryWith}
-use Rattle.waiting.proofs.BoxLaws.{cuts-laid}
+use Rattle.boxes.proofs.BoxLaws.{cuts-laid}
 use Rattle.cut.specs.Choice.{axisOf, cutAt}
 use Rattle.directory.specs.Cuts.{CutReady}
 use Rattle.directory.specs.Directory.{WholeDirectory, Numbered, unusedOf}

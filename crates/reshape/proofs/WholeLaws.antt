@@ -26,7 +26,7 @@ use Rattle.desk.specs.declared.Grid.{Grid}
 use Rattle.desk.specs.declared.Memo.{Memo}
 use Rattle.desk.specs.Layout.{noSlot, cutListOf, slotOf, directoryOf, gridOf}
 use Rattle.desk.specs.Views.{cutsBy, slotsIn, directoryWith, edgesOf}
-use Rattle.waiting.proofs.BoxLaws.{cuts-laid}
+use Rattle.boxes.proofs.BoxLaws.{cuts-laid}
 use Rattle.cut.specs.Choice.{cutAt, choiceOf}
 use Rattle.cut.specs.declared.CutChoice.{CutChoice}
 use Rattle.cut.specs.declared.CutChoice.the-variants.{At, NoCut}

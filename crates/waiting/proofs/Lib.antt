@@ -1,5 +1,3 @@
 pub mod SlotsLaws
 pub mod WaitingLaws
 pub mod OnLaws
-pub mod BoxLaws
-pub mod DueLaws

@@ -1,11 +1,10 @@
 -- Rows in an array whose unused slots hold one value: what loops and stores there do to the rows, and where a search of them ends.
-use mathlib.Core.Bool.{Bool, true, false, cond}
-use mathlib.Core.List.{List, [], _∷_, _++_, map, map-append, append-nil}
+use mathlib.Core.List.{List, [], _∷_, _++_, map, map-append}
 use mathlib.Core.Logic.{_≢_}
 use mathlib.Core.Option.{Option, none, some}
 use mathlib.Core.Path.{_≡_, refl, sym, ap, ap₂, _∙_}
 use Prim.Native.Nat.{ℕ, zero, suc, _+_, _-_, _≤_, _<_}
-use native.Mathlib.Nat.{le-of-suc-le-suc, not-suc-le-zero, add-zero}
+use native.Mathlib.Nat.{le-of-suc-le-suc, not-suc-le-zero}
 use native.Mathlib.Numerals.{add-one}
 use native.Mathlib.Omega.{arith}
 use lib.Dec.{eqb, ltb}
@@ -20,8 +19,6 @@ use Rattle.lists.proofs.PartsLaws.{length-part, drop-put}
 use Rattle.lists.proofs.RowsLaws.{find-below}
 use Rattle.lists.proofs.SearchLaws.{find-rank, find-rank-none, rank-le, alter-insertAt, alter-set, alter-removeAt}
 use Rattle.lists.proofs.ShiftLaws.{Opened, open-end, Closed, close-end}
-use Rattle.lists.specs.Sums.{keep}
-use Rattle.lists.specs.Tests.{one-if}
 use Rattle.desk.specs.Layout.{slotted}
 use Rattle.desk.proofs.UniqueLaws.{take-slotted}
 use Rattle.waiting.specs.declared.Standing.{Standing}
@@ -223,11 +220,6 @@ module _ {A Val : Type 0} {size : ℕ} {z : A} {g : Row Val → A} {l : Rows Val
   slots-skip h =
       let m : length (map g l) ≡ n = length-map l g ∙ sym (s .count) in
       record { count = s .count; list = rw (s .list) (rw m at (skip-slotted size z (map g l) (rw m h))) }
-
-  -- one row more, or none
-  pub slots-keep : (b : Bool) (x : Row Val) → n < size → Slots size z g (l ++ keep b x []) (n + one-if b) (set xs n (cond b (g x) z))
-  slots-keep true x h = slots-push x h
-  slots-keep false x h = rw (append-nil, add-zero) (slots-skip h)
 
 -- ---- a radio's place
 

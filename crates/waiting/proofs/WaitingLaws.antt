@@ -7,7 +7,8 @@ use mathlib.Core.Path.{_≡_, refl, sym, ap, _∙_}
 use Prim.Native.Nat.{ℕ, zero, suc, _+_, _-_, _/_, _≤_, _<_}
 use native.Mathlib.Omega.{arith}
 use lib.Dec.{eqb}
-use lib.ListN.{length, getD, set}
+use lib.ListN.{length, getD, set, take, length-map, length-take}
+use lib.Seq.{getD-take}
 use Rattle.lists.specs.Parts.{insertAt, removeAt}
 use Rattle.lists.specs.Rows.{Row, Rows, Rising, find, rank, alter, insert}
 use Rattle.lists.specs.Tests.{one-if}
@@ -27,7 +28,7 @@ use Rattle.waiting.specs.declared.Waited.{Waited}
 use Rattle.waiting.specs.declared.Waited.the-variants.{Found, Missing}
 use Rattle.waiting.specs.Standing.{standing}
 use Rattle.waiting.specs.Waiting.{waits, rowOf, reportsOf, WholeWaiting, waitedOf}
-use Rattle.waiting.proofs.SlotsLaws.{Slots, slots-get, slots-set, slots-open, slots-close, standing-at, standing-other, standing-past, at-inside, at-find, at-key, before-inside, before-find, alter-found, alter-at, alter-at-none, alter-before, alter-before-none}
+use Rattle.waiting.proofs.SlotsLaws.{getD-mapped, Slots, slots-get, slots-set, slots-open, slots-close, standing-at, standing-other, standing-past, at-inside, at-find, at-key, before-inside, before-find, alter-found, alter-at, alter-at-none, alter-before, alter-before-none}
 
 -- ---- the same rows, as the desk's array and as a list
 
@@ -68,6 +69,15 @@ whole-laid w l e = e ∙ ap waitingOf (sym (reports-laid e))
 pub count-laid : (w : Waiting) (l : Rows StoreReport) → w ≡ waitingOf l → w .n ≡ length l
 unfolding waitingOf
 count-laid w l e = ap (λ (x : Waiting). x .n) e
+
+module _ (w : Waiting) (size : length (w .rows) ≡ fullMemory) (fits : w .n ≤ fullMemory) where
+  pub length-reports : length (reportsOf w) ≡ w .n
+  unfolding reportsOf
+  length-reports = simp (length-map, length-take) (omega arith)
+
+  pub reports-get : (i : ℕ) → i < w .n → getD (reportsOf w) i noRow ≡ rowOf (getD (w .rows) i noReport)
+  unfolding reportsOf
+  reports-get i h = getD-mapped rowOf (take (w .n) (w .rows)) i noReport noRow (rw length-take (omega arith)) ∙ ap rowOf (getD-take (w .n) (w .rows) i noReport h)
 
 abbrev pub InSlots : Rows StoreReport → ℕ → List Report → Type 0
 InSlots = Slots fullMemory noReport reportOf

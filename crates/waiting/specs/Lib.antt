@@ -1,4 +1,3 @@
 pub mod Standing
 pub mod Waiting
 pub mod On
-pub mod Boxes

@@ -3,7 +3,7 @@ use Prim.Native.Nat.{_-_, _≤_}
 use borrow.Author.Needs.{needs}
 use Rattle.lists.proofs.ShiftLaws.{length-mapped}
 use Rattle.desk.specs.Views.{cutsBy}
-use Rattle.waiting.specs.Boxes.{boxIn}
+use Rattle.boxes.specs.Boxes.{boxIn}
 use Rattle.enter.proofs.EnterLaws.{Entering, entering-start, entering-ready, entering-turn, entering-end}
 use Rattle.enter.proofs.enter_all.Statement.{statement}
 use Rattle.enter.proofs.enter_all.Tie as tie
