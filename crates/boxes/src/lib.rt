@@ -2,19 +2,20 @@
 ghost use mathlib.Core.Bool.{not, cond};
 ghost use mathlib.Core.Option.{some};
 ghost use mathlib.Core.Path.{_≡_};
-ghost use Prim.Native.Nat.{_≤_};
+ghost use Prim.Native.Nat.{_<_, _≤_};
+ghost use lib.Dec.{ltb};
 ghost use lib.ListN.{length};
 ghost use Rattle.lists.specs.Parts.{tab};
 ghost use Rattle.lists.specs.Sums.{filter, concat};
 ghost use Rattle.lists.specs.Tests.{one-if, best};
 ghost use Rattle.rules.specs.Limits.{fullMemory, maxCuts};
-ghost use Rattle.rules.specs.Grid.{stripe, sameBox, boxOf, boxes};
+ghost use Rattle.rules.specs.Grid.{stripe, boxOf, boxes};
 ghost use Rattle.rules.specs.Flush.{inBox};
 ghost use Rattle.rules.specs.Carry.{waitingIn, mostOf, boxToFlush};
 ghost use Rattle.desk.specs.Layout.{noReport, waitingOf};
 ghost use Rattle.desk.specs.Views.{cutsIn, cutsBy};
 ghost use Rattle.waiting.specs.Waiting.{rowOf, reportsOf, WholeWaiting};
-ghost use Rattle.boxes.specs.Boxes.{boxIn, boxesOf, homes, heldIn, fullerOf, boxRow, dueOf};
+ghost use Rattle.boxes.specs.Boxes.{boxIn, maxStripes, tableSize, boxAt, Crowd, Leads, fullerOf, boxRow, dueOf};
 use desk::CutList;
 use desk::Desk;
 use desk::Report;
@@ -67,16 +68,6 @@ pub fn box_of(easts: CutList, norths: CutList, east: u16, north: u16) -> BoxAt
         east: stripe_of(easts, east),
         north: stripe_of(norths, north),
     }
-}
-
-// Whether two memory cells are the same.
-fn same_box(a: BoxAt, b: BoxAt) -> bool
-    ensures { λ r. ⌜ r ≡ sameBox (boxIn a) (boxIn b) ⌝ }
-{
-    if a.east == b.east {
-        return a.north == b.north;
-    }
-    false
 }
 
 // Whether a report waits in m. Of most the stripe of east tells that they do not.
@@ -147,13 +138,41 @@ pub fn cleared(easts: CutList, norths: CutList, waiting: Waiting, m: BoxAt) -> W
     Waiting { n: k, rows }
 }
 
-// ---- the memory cell to flush
+// ---- tables with a number for each memory cell
 
-// The memory cell of each waiting report.
-pub struct Boxed {
-    pub n: usize,
-    pub at: [BoxAt; FULL_MEMORY],
+// The stripes of a direction are at most so many.
+pub const STRIPES: usize = Desk::MAX_CUTS + 1;
+
+// A table has a number for each memory cell.
+pub const BOXES: usize = STRIPES * STRIPES;
+
+// The place of a place's memory cell in a table.
+pub fn box_index(easts: CutList, norths: CutList, east: u16, north: u16) -> usize
+    requires { ⌜ (easts .n ≤ maxCuts) × (norths .n ≤ maxCuts) ⌝ }
+    ensures { λ r. ⌜ (r ≡ boxAt (boxOf (cutsBy easts norths) (record { east = east; north = north }))) × (r < tableSize) ⌝ }
+{
+    STRIPES * stripe_of(norths, north) + stripe_of(easts, east)
 }
+
+// How many wait in each memory cell: each report counts in its own.
+fn crowd_of(easts: CutList, norths: CutList, waiting: Waiting) -> [u8; BOXES]
+    requires { ⌜ (waiting .n ≤ fullMemory) × (easts .n ≤ maxCuts) × (norths .n ≤ maxCuts) ⌝ }
+    ensures { λ r. ⌜ Crowd (cutsBy easts norths) (reportsOf waiting) r ⌝ }
+{
+    let n = waiting.n;
+    let mut crowd = [0u8; BOXES];
+    let mut i: usize = 0;
+    while i < n {
+        let x = waiting.rows[i];
+        let k = box_index(easts, norths, x.east, x.north);
+        let others = crowd[k];
+        crowd[k] = others + 1;
+        i = i + 1;
+    }
+    crowd
+}
+
+// ---- the memory cell to flush
 
 // The memory cell to flush, if one is.
 pub enum BoxDue {
@@ -161,76 +180,57 @@ pub enum BoxDue {
     Nothing,
 }
 
-// The memory cell of each waiting report.
-fn homes_of(easts: CutList, norths: CutList, waiting: Waiting) -> Boxed
-    requires { ⌜ (waiting .n ≤ fullMemory) × (easts .n ≤ maxCuts) × (norths .n ≤ maxCuts) ⌝ }
-    ensures { λ r. ⌜ (boxesOf r ≡ homes (cutsBy easts norths) (reportsOf waiting)) × (r .n ≤ fullMemory) ⌝ }
-{
-    let n = waiting.n;
-    let mut at = [BoxAt { east: 0, north: 0 }; FULL_MEMORY];
-    let mut i: usize = 0;
-    while i < n {
-        let x = waiting.rows[i];
-        at[i] = box_of(easts, norths, x.east, x.north);
-        i = i + 1;
-    }
-    Boxed { n, at }
+// The fullest memory cell so far, and how many wait in it.
+struct Leader {
+    at: BoxAt,
+    has: u8,
 }
 
-// How many of them are m.
-fn boxed_in(boxed: Boxed, m: BoxAt) -> usize
-    requires { ⌜ boxed .n ≤ fullMemory ⌝ }
-    ensures { λ r. ⌜ r ≡ heldIn (boxesOf boxed) (boxIn m) ⌝ }
+// Of the leader and a memory cell the one with more waiting, the leader where as many wait.
+fn fuller(leader: Leader, m: BoxAt, has: u8) -> Leader
+    ensures { λ r. ⌜ r ≡ cond (ltb (leader .has) has) (record { at = m; has = has }) leader ⌝ }
 {
-    let n = boxed.n;
-    let mut found: usize = 0;
-    let mut i: usize = 0;
-    while i < n {
-        let b = boxed.at[i];
-        let step = one_if(same_box(b, m));
-        found = found + step;
-        i = i + 1;
-    }
-    found
-}
-
-// Of two memory cells the one with more waiting, the first where as many wait.
-fn fuller(boxed: Boxed, leader: BoxAt, m: BoxAt) -> BoxAt
-    requires { ⌜ boxed .n ≤ fullMemory ⌝ }
-    ensures { λ r. ⌜ boxIn r ≡ cond (fullerOf (boxesOf boxed) (boxIn m) (boxIn leader)) (boxIn m) (boxIn leader) ⌝ }
-{
-    if boxed_in(boxed, leader) < boxed_in(boxed, m) {
-        return m;
+    if leader.has < has {
+        return Leader { at: m, has };
     }
     leader
 }
 
 // The fullest of the leader and a row of memory cells.
-fn fullest_in_row(boxed: Boxed, columns: usize, north: usize, leader: BoxAt) -> BoxAt
-    requires { ⌜ boxed .n ≤ fullMemory ⌝ }
-    ensures { λ r. ⌜ boxIn r ≡ best (fullerOf (boxesOf boxed)) (boxIn leader) (boxRow columns north) ⌝ }
+fn fullest_in_row<'a>(
+    crowd: &'a [u8; BOXES],
+    columns: usize,
+    north: usize,
+    leader: Leader,
+) -> Leader
+    requires { ⌜ (length (now crowd) ≡ tableSize) × (columns ≤ maxStripes) × (north < maxStripes) × Leads (now crowd) leader ⌝ }
+    ensures { λ r. ⌜ Leads (now (crowd .entry)) r × (boxIn (r .at) ≡ best (fullerOf (now (crowd .entry))) (boxIn (leader .at)) (boxRow columns north)) ⌝ }
 {
     let mut most = leader;
     let mut east: usize = 0;
     while east < columns {
-        most = fuller(boxed, most, BoxAt { east, north });
+        let k = STRIPES * north + east;
+        most = fuller(most, BoxAt { east, north }, crowd[k]);
         east = east + 1;
     }
     most
 }
 
 // The fullest of so many rows, from the south on.
-fn fullest_in_rows(boxed: Boxed, columns: usize, rows: usize) -> BoxAt
-    requires { ⌜ boxed .n ≤ fullMemory ⌝ }
-    ensures { λ r. ⌜ boxIn r ≡ best (fullerOf (boxesOf boxed)) (record { east = 0; north = 0 }) (concat (tab rows (boxRow columns))) ⌝ }
+fn fullest_in_rows<'a>(crowd: &'a [u8; BOXES], columns: usize, rows: usize) -> BoxAt
+    requires { ⌜ (length (now crowd) ≡ tableSize) × (columns ≤ maxStripes) × (rows ≤ maxStripes) ⌝ }
+    ensures { λ r. ⌜ boxIn r ≡ best (fullerOf (now (crowd .entry))) (record { east = 0; north = 0 }) (concat (tab rows (boxRow columns))) ⌝ }
 {
-    let mut most = BoxAt { east: 0, north: 0 };
+    let mut most = Leader {
+        at: BoxAt { east: 0, north: 0 },
+        has: crowd[0],
+    };
     let mut north: usize = 0;
     while north < rows {
-        most = fullest_in_row(boxed, columns, north, most);
+        most = fullest_in_row(crowd, columns, north, most);
         north = north + 1;
     }
-    most
+    most.at
 }
 
 // "the memory cell with most waiting; ties go to the southern, then the western"
@@ -238,10 +238,10 @@ fn fullest(easts: CutList, norths: CutList, waiting: Waiting) -> BoxAt
     requires { ⌜ (waiting .n ≤ fullMemory) × (easts .n ≤ maxCuts) × (norths .n ≤ maxCuts) ⌝ }
     ensures { λ r. ⌜ some (boxIn r) ≡ mostOf (waitingIn (cutsBy easts norths) (reportsOf waiting)) (boxes (cutsBy easts norths)) ⌝ }
 {
-    let boxed = homes_of(easts, norths, waiting);
+    let crowd = crowd_of(easts, norths, waiting);
     let columns = easts.n + 1;
     let rows = norths.n + 1;
-    fullest_in_rows(boxed, columns, rows)
+    fullest_in_rows(&crowd, columns, rows)
 }
 
 // "if the memory cell of that place has 8 waiting, flush it. If 128 still wait in all, flush the memory cell with most waiting"

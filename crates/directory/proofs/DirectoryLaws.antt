@@ -11,20 +11,20 @@ use lib.ListN.{length, getD, take, drop, length-map, length-take}
 use lib.Seq.{getD-at, length-take-le}
 use borrow.Author.Tests.{ltb-true}
 use Rattle.terms.specs.Terms.{Place}
-use Rattle.lists.specs.Parts.{removeAt, tab}
-use Rattle.lists.specs.Sums.{concat, count}
+use Rattle.lists.specs.Parts.{removeAt}
+use Rattle.lists.specs.Sums.{count}
 use Rattle.lists.specs.Tests.{Each, firstAt, best}
 use Rattle.lists.proofs.Cases.{by-cases, option-cases, none-some}
 use Rattle.lists.proofs.MapLaws.{map-removeAt}
-use Rattle.lists.proofs.TestsLaws.{both-left, each-map, each-over-map, each-append, firstAt-some, best-holds}
+use Rattle.lists.proofs.TestsLaws.{both-left, each-map, each-over-map, firstAt-some, best-holds}
 use Rattle.rules.specs.Limits.{maxCells}
-use Rattle.rules.specs.Grid.{Rect, Cuts, cutsOf, spanOf, inside, Box, boxOf, boxes}
+use Rattle.rules.specs.Grid.{Rect, Cuts, cutsOf, spanOf, inside, Box, boxes}
 use Rattle.rules.specs.Store.{Cell, cellAt, others}
 use Rattle.rules.specs.Cut.{Cut}
 use Rattle.rules.specs.Flush.{unusedNumber}
 use Rattle.rules.specs.Carry.{mostOf, boxToFlush}
 use Rattle.rules.proofs.Parts.{Edged, Tiling}
-use Rattle.rules.proofs.TilingLaws.{stripe-most, others-among, GoodCut}
+use Rattle.rules.proofs.TilingLaws.{others-among, GoodCut}
 use Rattle.rules.proofs.CutLaws.{due-some}
 use Rattle.desk.specs.declared.CutList.{CutList}
 use Rattle.desk.specs.declared.Slot.{Slot}
@@ -33,6 +33,7 @@ use Rattle.desk.specs.Layout.{slotted, noSlot, slotOf, directoryOf, cutListOf}
 use Rattle.desk.specs.Views.{slotsIn, directoryWith, edgesOf}
 use Rattle.desk.proofs.UniqueLaws.{take-slots}
 use Rattle.boxes.proofs.BoxLaws.{cuts-laid}
+use Rattle.boxes.proofs.DueLaws.{Boxed, boxed-place, each-boxed}
 use Rattle.waiting.proofs.SlotsLaws.{getD-mapped}
 use Rattle.directory.specs.declared.FoundCell.{FoundCell}
 use Rattle.directory.specs.declared.FoundCell.the-variants.{At, Nowhere}
@@ -46,16 +47,6 @@ split-index : {A : Type 0} (l : List A) (k : ℕ) → k < length l → (x : A) �
 split-index [] k h = absurd (not-suc-le-zero h)
 split-index (y ∷ l) zero h = (y, refl)
 split-index (y ∷ l) (suc k) h = let r = split-index l k (le-of-suc-le-suc h) in (r .0, ap (_∷_ y) (r .1))
-
-tab-each : {A : Type 0} (P : A → Type 0) (n : ℕ) (f : ℕ → A) → ((i : ℕ) → i < n → P (f i)) → Each P (tab n f)
-unfolding tab
-tab-each P zero f h = tt
-tab-each P (suc n) f h = (h 0 (omega arith), tab-each P n (λ k. f (suc k)) (λ i b. h (suc i) (omega arith)))
-
-each-concat : {A : Type 0} (P : A → Type 0) (ls : List (List A)) → Each (Each P) ls → Each P (concat ls)
-unfolding concat
-each-concat P [] e = tt
-each-concat P (l ∷ ls) e = each-append P l (concat ls) (e .0) (each-concat P ls (e .1))
 
 -- ---- the directory of these cells
 
@@ -180,22 +171,6 @@ cut-ready {cuts = cuts} {edges = edges} {cut = cut} laid t good =
     }
 
 -- ---- a memory cell's corner
-
--- one of the memory cells: its stripes are there
-pub record Boxed (cuts : Cuts) (m : Box) : Type 0 where
-  pub east : m .east ≤ length (cuts .easts)
-  pub north : m .north ≤ length (cuts .norths)
-
-pub boxed-place : (cuts : Cuts) (p : Place) → Boxed cuts (boxOf cuts p)
-unfolding boxOf
-boxed-place cuts p = record { east = stripe-most (cuts .easts) (p .east); north = stripe-most (cuts .norths) (p .north) }
-
-each-boxed : (cuts : Cuts) → Each (Boxed cuts) (boxes cuts)
-unfolding boxes
-each-boxed cuts =
-    let row : ℕ → List Box = λ j. tab (suc (length (cuts .easts))) (λ i. record { east = i; north = j }) in
-    each-concat (Boxed cuts) (tab (suc (length (cuts .norths))) row) (tab-each (Each (Boxed cuts)) (suc (length (cuts .norths))) row (λ j b.
-    tab-each (Boxed cuts) (suc (length (cuts .easts))) (λ i. record { east = i; north = j }) (λ i a. record { east = omega arith; north = omega arith })))
 
 most-boxed : (cuts : Cuts) (howMany : Box → ℕ) (m : Box) (l : List Box) → Each (Boxed cuts) l → mostOf howMany l ≡ some m → Boxed cuts m
 most-boxed cuts howMany m [] e f = none-some f

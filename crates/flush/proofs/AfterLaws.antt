@@ -25,7 +25,8 @@ use Rattle.boxes.specs.declared.BoxDue.the-variants.{Flush, Nothing}
 use Rattle.boxes.specs.Boxes.{boxIn, dueOf}
 use Rattle.waiting.specs.Waiting.{reportsOf}
 use Rattle.waiting.proofs.WaitingLaws.{reports-laid}
-use Rattle.directory.proofs.DirectoryLaws.{Boxed, boxed-due, boxed-counts}
+use Rattle.boxes.proofs.DueLaws.{Boxed}
+use Rattle.directory.proofs.DirectoryLaws.{boxed-due, boxed-counts}
 use Rattle.flush.specs.Flush.{Tallied, Reported, Flushes, After, quiet}
 use Rattle.flush.proofs.FlushLaws.{holds-easts, holds-norths, holds-cuts, few-easts, few-norths, few-wait}
 

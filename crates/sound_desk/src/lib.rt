@@ -8,11 +8,11 @@ ghost use Rattle.terms.specs.Terms.{maxRadio, maxOn};
 ghost use Rattle.lists.specs.Rows.{UpTo};
 ghost use Rattle.lists.specs.Tests.{either};
 ghost use Rattle.rules.specs.Limits.{maxCuts, fullMemory};
-ghost use Rattle.rules.specs.Grid.{stripe};
-ghost use Rattle.desk.specs.Views.{cutsIn, radioRow, radiosOf};
-ghost use Rattle.sound_grid.specs.Sound.{mostField, maxStripes};
+ghost use Rattle.desk.specs.Views.{radioRow, radiosOf};
+ghost use Rattle.sound_grid.specs.Sound.{mostField};
 ghost use Rattle.sound_desk.specs.Views.{reportsOf};
 ghost use Rattle.sound_desk.specs.Sound.{onSound, reportWeight, reportTest, waitingSound, lineWeight, lineTest, memoSound, fewSound, markSlots, marked, unmarkedSound, radiosSound, deskSound};
+use boxes::BOXES;
 use desk::CutList;
 use desk::Desk;
 use desk::Line;
@@ -20,13 +20,10 @@ use desk::Memo;
 use desk::On;
 use desk::Report;
 use desk::Waiting;
-use sound_grid::BOXES;
-use sound_grid::STRIPES;
 use sound_grid::goes_on;
 use sound_grid::grid_sound;
 use sound_grid::rest;
 use sound_grid::rises;
-use sound_grid::stripe_of;
 use sound_grid::wide;
 
 const WAITING_SLOTS: usize = Desk::MAX_WAITING + 1;
@@ -166,14 +163,6 @@ pub fn memo_sound(m: Memo) -> bool
 
 // ---- fewer than 8 a memory cell
 
-// The place of a memory cell in a table of 16 by 16.
-fn box_of(easts: CutList, norths: CutList, east: u16, north: u16) -> usize
-    requires { ⌜ (easts .n ≤ maxCuts) × (norths .n ≤ maxCuts) ⌝ }
-    ensures { λ r. ⌜ (r ≡ maxStripes * stripe (cutsIn norths) north + stripe (cutsIn easts) east) × (r < maxStripes * maxStripes) ⌝ }
-{
-    STRIPES * stripe_of(&norths.at, norths.n, north) + stripe_of(&easts.at, easts.n, east)
-}
-
 // Whether fewer than 8 wait in each memory cell: each report counts in its own.
 fn few_sound(easts: CutList, norths: CutList, w: Waiting) -> bool
     requires { ⌜ (easts .n ≤ maxCuts) × (norths .n ≤ maxCuts) × (w .n ≤ fullMemory) ⌝ }
@@ -183,7 +172,7 @@ fn few_sound(easts: CutList, norths: CutList, w: Waiting) -> bool
     let mut i: usize = 0;
     while i < w.n {
         let x = w.rows[i];
-        let k = box_of(easts, norths, x.east, x.north);
+        let k = boxes::box_index(easts, norths, x.east, x.north);
         let others = crowd[k];
         if MOST_IN_BOX <= others {
             return false;

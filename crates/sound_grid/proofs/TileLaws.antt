@@ -30,7 +30,8 @@ use Rattle.mirror.specs.Grid.{cutsTest, edgesTest, holdsBox, holdingBox, tileBo
 use Rattle.mirror.proofs.LoopsLaws.{allTo-zero, allTo-suc, allTo-false, allTo-ext, all-allTo}
 use Rattle.mirror.proofs.GridLaws.{WholeBoxes, by-axis, cuts-true, edges-true, tile-boxes}
 use Rattle.sound_grid.specs.Views.{rectsIn}
-use Rattle.sound_grid.specs.Sound.{slotsTest, number, cutsSound, edgesSound, maxStripes, tableSize, boxAt, several, Raised, inRow, inStripes, holders, rowOnce, rowsOnce, tileSound}
+use Rattle.boxes.specs.Boxes.{maxStripes, tableSize, boxAt}
+use Rattle.sound_grid.specs.Sound.{slotsTest, number, cutsSound, edgesSound, several, Raised, inRow, inStripes, holders, rowOnce, rowsOnce, tileSound}
 use Rattle.sound_grid.proofs.LoopLaws.{same-at}
 
 -- ---- lists

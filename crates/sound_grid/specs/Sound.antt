@@ -17,6 +17,7 @@ use Rattle.desk.specs.Views.{cutsIn, cutsBy}
 use Rattle.mirror.specs.Loops.{allTo}
 use Rattle.mirror.specs.Grid.{cutsTest, edgesTest, holdingBox, tileTest}
 use Rattle.mirror.specs.Cells.{numbersTest, roundTest}
+use Rattle.boxes.specs.Boxes.{maxStripes, tableSize, boxAt}
 use Rattle.sound_grid.specs.Views.{numbersIn, rectsIn}
 
 module _ {A : Type 0} where
@@ -56,18 +57,6 @@ directorySound d = both (slotsTest slotWeight maxCells (d .n) (d .slots)) (names
 
 unfoldable pub edgesSound : CutList → CutList → Directory → Bool
 edgesSound easts norths d = all (edgesTest (cutsBy easts norths)) (rectsIn d)
-
--- the stripes of a direction are at most so many
-abbrev pub maxStripes : ℕ
-maxStripes = 16
-
--- a table has a number for each memory cell
-abbrev pub tableSize : ℕ
-tableSize = maxStripes * maxStripes
-
--- the place of a memory cell in it
-abbrev pub boxAt : Box → ℕ
-boxAt m = maxStripes * m .north + m .east
 
 -- what stands for any number above 1
 abbrev pub several : ℕ

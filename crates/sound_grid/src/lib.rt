@@ -13,18 +13,15 @@ ghost use Rattle.rules.specs.Grid.{stripe};
 ghost use Rattle.desk.specs.Views.{cutsIn, cutsBy, edgesOf as rectOf};
 ghost use Rattle.mirror.specs.Loops.{risesTo};
 ghost use Rattle.mirror.specs.Grid.{lowTest, highTest, spanTest, edgesTest};
-ghost use Rattle.sound_grid.specs.Sound.{weighs, mostField, number, cutsSound, slotWeight, namesSound, directorySound, edgesSound, maxStripes, tableSize, several, Raised, inRow, inStripes, holders, rowOnce, rowsOnce, tileSound, gridSound};
+ghost use Rattle.boxes.specs.Boxes.{maxStripes, tableSize};
+ghost use Rattle.sound_grid.specs.Sound.{weighs, mostField, number, cutsSound, slotWeight, namesSound, directorySound, edgesSound, several, Raised, inRow, inStripes, holders, rowOnce, rowsOnce, tileSound, gridSound};
 ghost use Rattle.sound_grid.specs.Views.{rectsIn};
+use boxes::BOXES;
+use boxes::STRIPES;
 use desk::CutList;
 use desk::Desk;
 use desk::Directory;
 use desk::Slot;
-
-// The stripes of a direction are at most so many.
-pub const STRIPES: usize = Desk::MAX_CUTS + 1;
-
-// A table has a number for each memory cell.
-pub const BOXES: usize = STRIPES * STRIPES;
 
 const ONCE: u8 = 1;
 
@@ -243,7 +240,7 @@ fn past(cut: u16, x: u16) -> usize
 }
 
 // The stripe of a coordinate.
-pub fn stripe_of(slots: &[u16], n: usize, x: u16) -> usize
+fn stripe_of(slots: &[u16], n: usize, x: u16) -> usize
     requires { ⌜ n ≤ length (now slots) ⌝ }
     ensures { λ r. ⌜ (r ≡ stripe (take n (now (slots .entry))) x) × (r ≤ n) ⌝ }
 {

@@ -1,19 +1,19 @@
--- Each report so far is counted at its memory cell, and none has 8 (`Crowd`).
+-- Each report so far is counted at its memory cell, and none has 8 (`Few`).
 use Prim.Native.Nat.{_≤_, _-_}
 use Rattle.lists.proofs.ShiftLaws.{length-mapped}
-use Rattle.sound_desk.proofs.FewLaws.{Crowd, crowd-start, crowd-full, crowd-turn, crowd-end}
+use Rattle.sound_desk.proofs.FewLaws.{Few, few-start, few-full, few-turn, few-end}
 use borrow.Author.Needs.{needs}
 use Rattle.sound_desk.proofs.few_sound.Statement.{statement}
 use Rattle.sound_desk.proofs.few_sound.Tie as tie
 
 abbrev Inv-loop : tie.InvT-loop
-Inv-loop easts norths w crowd₀ i₀ crowd i = (i ≤ w .n) × Crowd easts norths w i crowd
+Inv-loop easts norths w crowd₀ i₀ crowd i = (i ≤ w .n) × Few easts norths w i crowd
 
 abbrev μ-loop : tie.MeasureT-loop
 μ-loop easts norths w crowd₀ i₀ crowd i = w .n - i
 
 loop-holds : tie.Need-loop-holds Inv-loop μ-loop
-loop-holds c = (search needs, search (crowd-start, length-mapped))
+loop-holds c = (search needs, search (few-start, length-mapped))
 
 mul-x : tie.Need-mul-x Inv-loop μ-loop
 mul-x c = search needs
@@ -21,8 +21,8 @@ mul-x c = search needs
 element-copy-out-x : tie.Need-element-copy-out-x Inv-loop μ-loop
 element-copy-out-x c = search needs
 
-box-of-requires : tie.Need-box-of-requires Inv-loop μ-loop
-box-of-requires c κs = search needs
+box-index-requires : tie.Need-box-index-requires Inv-loop μ-loop
+box-index-requires c κs = search needs
 
 mul-others : tie.Need-mul-others Inv-loop μ-loop
 mul-others c = search needs
@@ -31,7 +31,7 @@ array-read-others : tie.Need-array-read-others Inv-loop μ-loop
 array-read-others c = search needs
 
 returns : tie.Need-returns Inv-loop μ-loop
-returns c = search crowd-full
+returns c = search few-full
 
 add-crowd : tie.Need-add-crowd Inv-loop μ-loop
 add-crowd c = search needs
@@ -49,10 +49,10 @@ loop-less : tie.Need-loop-less Inv-loop μ-loop
 loop-less c = search needs
 
 loop-again : tie.Need-loop-again Inv-loop μ-loop
-loop-again c = (search needs, search crowd-turn)
+loop-again c = (search needs, search few-turn)
 
 returns-2 : tie.Need-returns-2 Inv-loop μ-loop
-returns-2 c = search crowd-end
+returns-2 c = search few-end
 
 pub few-sound-spec : {M : Type 1} → statement M
 few-sound-spec =
@@ -63,7 +63,7 @@ few-sound-spec =
     loop-holds
     mul-x
     element-copy-out-x
-    box-of-requires
+    box-index-requires
     mul-others
     array-read-others
     returns

@@ -2,7 +2,7 @@
 use mathlib.Core.Path.{_≡_}
 use Prim.Native.Nat.{_+_, _-_, _≤_, max}
 use lib.ListN.{length}
-use Rattle.sound_grid.specs.Sound.{tableSize}
+use Rattle.boxes.specs.Boxes.{tableSize}
 use Rattle.sound_grid.proofs.TileLaws.{CellMarked, cell-start, cell-turn, cell-end}
 use borrow.Author.Needs.{needs}
 use Rattle.sound_grid.proofs.mark_cell.Statement.{statement}

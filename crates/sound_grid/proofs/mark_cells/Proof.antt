@@ -3,7 +3,7 @@ use mathlib.Core.Path.{_≡_}
 use Prim.Native.Nat.{_-_, _≤_}
 use lib.ListN.{length}
 use Rattle.lists.proofs.ShiftLaws.{length-mapped}
-use Rattle.sound_grid.specs.Sound.{tableSize}
+use Rattle.boxes.specs.Boxes.{tableSize}
 use Rattle.sound_grid.proofs.TileLaws.{Marked, marked-start, marked-turn, marked-end}
 use borrow.Author.Needs.{needs}
 use Rattle.sound_grid.proofs.mark_cells.Statement.{statement}

@@ -1,0 +1,153 @@
+-- A table of how many wait in each memory cell, filled report by report.
+use mathlib.Core.Bool.{true}
+use mathlib.Core.List.{List, [], _∷_, _++_}
+use mathlib.Core.Logic.{_≢_}
+use mathlib.Core.Path.{_≡_, sym, ap, ap₂, _∙_}
+use Prim.Native.Nat.{ℕ, _+_, _*_, _≤_, _<_}
+use native.Mathlib.Numerals.{add-one}
+use native.Mathlib.Omega.{arith}
+use lib.Dec.{eqb}
+use lib.ListN.{length, getD, set, take, replicate, length-set, length-take, length-replicate, getD-replicate}
+use lib.Seq.{take-suc, take-all, getD-set-same, getD-set-other}
+use borrow.Author.Tests.{eqb-true, eq-eqb}
+use Rattle.lists.specs.Rows.{Row, Rows}
+use Rattle.lists.specs.Tests.{one-if}
+use Rattle.lists.proofs.Cases.{by-cases}
+use Rattle.lists.proofs.SumsLaws.{sum-nil, sum-last, sum-le, sum-const}
+use Rattle.lists.proofs.TestsLaws.{both-left, both-right, both-intro, one-if-le}
+use Rattle.rules.specs.Limits.{fullMemory, maxCuts}
+use Rattle.rules.specs.Grid.{Box, Cuts, stripe, boxOf}
+use Rattle.rules.specs.Flush.{inBox}
+use Rattle.rules.specs.Carry.{waitingIn}
+use Rattle.rules.specs.Store.{Report as StoreReport}
+use Rattle.rules.proofs.TilingLaws.{stripe-most}
+use Rattle.desk.specs.declared.CutList.{CutList}
+use Rattle.desk.specs.declared.Waiting.{Waiting}
+use Rattle.desk.specs.Layout.{noReport}
+use Rattle.desk.specs.Views.{cutsIn, cutsBy}
+use Rattle.boxes.specs.Boxes.{maxStripes, tableSize, boxAt, Crowd}
+use Rattle.waiting.specs.Waiting.{reportsOf}
+use Rattle.waiting.proofs.WaitingLaws.{noRow, length-reports, reports-get}
+
+-- ---- the memory cell of a place
+
+pub few-cuts : (c : CutList) → c .n ≤ maxCuts → length (cutsIn c) ≤ maxCuts
+unfolding cutsIn
+few-cuts c h = rw length-take (omega arith)
+
+pub stripe-few : (c : CutList) (x : ℕ) {a : ℕ} → c .n ≤ maxCuts → a ≡ stripe (cutsIn c) x → a < maxStripes
+stripe-few c x h e = omega (arith, stripe-most (cutsIn c) x, few-cuts c h)
+
+pub box-at : (easts norths : CutList) (east north : ℕ) {a b : ℕ} → a ≡ stripe (cutsIn norths) north → b ≡ stripe (cutsIn easts) east
+    → maxStripes * a + b ≡ boxAt (boxOf (cutsBy easts norths) (record { east = east; north = north }))
+unfolding boxOf
+box-at easts norths east north e f = ap₂ (λ (a b : ℕ). maxStripes * a + b) e f
+
+-- a memory cell is a report's exactly if its stripes are
+module _ (cuts : Cuts) (m : Box) (x : Row StoreReport) where
+  abbrev home : Box
+  home = boxOf cuts (x .val .place)
+
+  pub box-in : inBox cuts m x ≡ true → (home .east ≡ m .east) × (home .north ≡ m .north)
+  unfolding inBox
+  box-in t =
+      let a = eqb (home .east) (m .east) in
+      let b = eqb (home .north) (m .north) in
+      (eqb-true (home .east) (m .east) (both-left a b t), eqb-true (home .north) (m .north) (both-right a b t))
+
+  pub in-box : home .east ≡ m .east → home .north ≡ m .north → inBox cuts m x ≡ true
+  unfolding inBox
+  in-box e f = both-intro (eq-eqb (home .east) (m .east) e) (eq-eqb (home .north) (m .north) f)
+
+-- ---- how many wait
+
+pub none-wait : (cuts : Cuts) (m : Box) → waitingIn cuts [] m ≡ 0
+unfolding waitingIn
+none-wait cuts m = sum-nil (λ w. one-if (inBox cuts m w))
+
+pub wait-last : (cuts : Cuts) (ws : Rows StoreReport) (x : Row StoreReport) (m : Box) → waitingIn cuts (ws ++ (x ∷ [])) m ≡ waitingIn cuts ws m + one-if (inBox cuts m x)
+unfolding waitingIn
+wait-last cuts ws x m = sum-last (λ w. one-if (inBox cuts m w)) ws x
+
+wait-most : (cuts : Cuts) (ws : Rows StoreReport) (m : Box) → waitingIn cuts ws m ≤ length ws
+unfolding waitingIn
+wait-most cuts ws m = omega (arith, sum-le (λ w. one-if (inBox cuts m w)) (λ _. 1) ws (λ w. one-if-le (inBox cuts m w)), sum-const 1 ws)
+
+-- ---- the table
+
+pub crowd-start : (cuts : Cuts) → Crowd cuts [] (replicate tableSize 0)
+crowd-start cuts = record {
+  size = length-replicate {A = ℕ} tableSize 0;
+  counts = λ m a b. getD-replicate {A = ℕ} tableSize (boxAt m) 0 0 (omega arith) ∙ sym (none-wait cuts m);
+}
+
+module _ {cuts : Cuts} {ws : Rows StoreReport} {crowd : List ℕ} (c : Crowd cuts ws crowd) (east-cuts : length (cuts .easts) ≤ maxCuts) (north-cuts : length (cuts .norths) ≤ maxCuts) (x : Row StoreReport) {k : ℕ}
+    (said : k ≡ boxAt (boxOf cuts (x .val .place))) where
+  abbrev its : Box
+  its = boxOf cuts (x .val .place)
+
+  its-east : its .east < maxStripes
+  unfolding boxOf
+  its-east = omega (arith, stripe-most (cuts .easts) (x .val .place .east))
+
+  its-north : its .north < maxStripes
+  unfolding boxOf
+  its-north = omega (arith, stripe-most (cuts .norths) (x .val .place .north))
+
+  -- the number at the report's memory cell
+  pub crowd-here : getD crowd k 0 ≡ waitingIn cuts ws its
+  crowd-here = ap (λ (j : ℕ). getD crowd j 0) said ∙ c .counts its its-east its-north
+
+  pub crowd-most : getD crowd k 0 ≤ length ws
+  crowd-most = omega (arith, crowd-here, wait-most cuts ws its)
+
+  abbrev more : List ℕ
+  more = set crowd k (getD crowd k 0 + 1)
+
+  counts-next : (m : Box) → m .east < maxStripes → m .north < maxStripes → getD more (boxAt m) 0 ≡ waitingIn cuts (ws ++ (x ∷ [])) m
+  counts-next m a b =
+      by-cases (inBox cuts m x)
+      (λ t. let q = box-in cuts m x t in
+      let e : boxAt m ≡ k = omega (arith, q .0, q .1, said) in
+      omega (
+        arith,
+        ap (λ (j : ℕ). getD more j 0) e ∙ getD-set-same crowd k (getD crowd k 0 + 1) 0 (omega (arith, c .size)),
+        ap (λ (j : ℕ). getD crowd j 0) e,
+        c .counts m a b,
+        wait-last cuts ws x m,
+        ap one-if t,
+      ))
+      (λ t. let e : boxAt m ≢ k = λ z.
+      let u : its .east ≡ m .east = omega (arith, said, its-east) in
+      let v : its .north ≡ m .north = omega (arith, said, its-east) in
+      omega (arith, ap one-if (in-box cuts m x u v), ap one-if t) in
+      omega (arith, getD-set-other crowd k (boxAt m) (getD crowd k 0 + 1) 0 e, c .counts m a b, wait-last cuts ws x m, ap one-if t))
+
+  pub crowd-turn : Crowd cuts (ws ++ (x ∷ [])) more
+  crowd-turn = record { size = length-set crowd k (getD crowd k 0 + 1) ∙ c .size; counts = counts-next }
+
+-- ---- the waiting reports of the desk, one after the other
+
+-- the first i of them are counted
+pub record Crowding (easts norths : CutList) (w : Waiting) (i : ℕ) (crowd : List ℕ) : Type 0 where
+  pub so : Crowd (cutsBy easts norths) (take i (reportsOf w)) crowd
+
+pub crowding-start : (easts norths : CutList) (w : Waiting) → Crowding easts norths w 0 (replicate tableSize 0)
+crowding-start easts norths w = record { so = crowd-start (cutsBy easts norths) }
+
+module _ {easts norths : CutList} (w : Waiting) {i : ℕ} {crowd : List ℕ} (c : Crowding easts norths w i crowd) (size : length (w .rows) ≡ fullMemory) (fits : w .n ≤ fullMemory) where
+  module _ (east-cuts : easts .n ≤ maxCuts) (north-cuts : norths .n ≤ maxCuts) (more : i < w .n) {k : ℕ}
+      (said : k ≡ boxAt (boxOf (cutsBy easts norths) (record { east = getD (w .rows) i noReport .east; north = getD (w .rows) i noReport .north }))) where
+    next : k ≡ boxAt (boxOf (cutsBy easts norths) (getD (reportsOf w) i noRow .val .place))
+    next = said ∙ ap (λ (x : Row StoreReport). boxAt (boxOf (cutsBy easts norths) (x .val .place))) (sym (reports-get w size fits i more))
+
+    pub crowding-room : getD crowd k 0 < fullMemory
+    crowding-room = omega (arith, crowd-most (c .so) (few-cuts easts east-cuts) (few-cuts norths north-cuts) (getD (reportsOf w) i noRow) next, length-take i (reportsOf w))
+
+    pub crowding-turn : Crowding easts norths w (i + 1) (set crowd k (getD crowd k 0 + 1))
+    crowding-turn = record {
+      so = rw (add-one i, take-suc (reportsOf w) i noRow (rw (length-reports w size fits) more)) (crowd-turn (c .so) (few-cuts easts east-cuts) (few-cuts norths north-cuts) (getD (reportsOf w) i noRow) next);
+    }
+
+  pub crowding-end : w .n ≤ i → Crowd (cutsBy easts norths) (reportsOf w) crowd
+  crowding-end h = rw (take-all i (reportsOf w) (rw (length-reports w size fits) h)) at (c .so)
