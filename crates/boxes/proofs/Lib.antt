@@ -1,3 +1,4 @@
 pub mod BoxLaws
+pub mod ReachLaws
 pub mod CrowdLaws
 pub mod DueLaws

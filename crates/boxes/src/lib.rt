@@ -2,20 +2,21 @@
 ghost use mathlib.Core.Bool.{not, cond};
 ghost use mathlib.Core.Option.{some};
 ghost use mathlib.Core.Path.{_≡_};
-ghost use Prim.Native.Nat.{_<_, _≤_};
+ghost use Prim.Native.Nat.{_<_, _≤_, min, max};
 ghost use lib.Dec.{ltb};
 ghost use lib.ListN.{length};
 ghost use Rattle.lists.specs.Parts.{tab};
 ghost use Rattle.lists.specs.Sums.{filter, concat};
 ghost use Rattle.lists.specs.Tests.{one-if, best};
 ghost use Rattle.rules.specs.Limits.{fullMemory, maxCuts};
-ghost use Rattle.rules.specs.Grid.{stripe, boxOf, boxes};
+ghost use Rattle.rules.specs.Grid.{within, inside, stripe, boxOf, boxes};
 ghost use Rattle.rules.specs.Flush.{inBox};
+ghost use Rattle.rules.specs.WellFormed.{InSquare};
 ghost use Rattle.rules.specs.Carry.{waitingIn, mostOf, boxToFlush};
 ghost use Rattle.desk.specs.Layout.{noReport, waitingOf};
 ghost use Rattle.desk.specs.Views.{cutsIn, cutsBy};
-ghost use Rattle.waiting.specs.Waiting.{rowOf, reportsOf, WholeWaiting};
-ghost use Rattle.boxes.specs.Boxes.{boxIn, maxStripes, tableSize, boxAt, Crowd, Leads, fullerOf, boxRow, dueOf};
+ghost use Rattle.waiting.specs.Waiting.{waits, rowOf, reportsOf, WholeWaiting};
+ghost use Rattle.boxes.specs.Boxes.{boxIn, spanIn, boundedBy, Reaches, maxStripes, tableSize, boxAt, Crowd, Leads, fullerOf, boxRow, dueOf};
 use desk::CutList;
 use desk::Desk;
 use desk::Report;
@@ -81,23 +82,6 @@ pub fn in_box(easts: CutList, norths: CutList, m: BoxAt, report: Report) -> bool
     stripe_of(norths, report.north) == m.north
 }
 
-// How many wait in m.
-pub fn waiting_in(easts: CutList, norths: CutList, waiting: Waiting, m: BoxAt) -> usize
-    requires { ⌜ (waiting .n ≤ fullMemory) × (easts .n ≤ maxCuts) × (norths .n ≤ maxCuts) ⌝ }
-    ensures { λ r. ⌜ r ≡ waitingIn (cutsBy easts norths) (reportsOf waiting) (boxIn m) ⌝ }
-{
-    let n = waiting.n;
-    let mut found: usize = 0;
-    let mut i: usize = 0;
-    while i < n {
-        let x = waiting.rows[i];
-        let step = one_if(in_box(easts, norths, m, x));
-        found = found + step;
-        i = i + 1;
-    }
-    found
-}
-
 // The report where it stays, else an unused slot's.
 fn kept(stays: bool, report: Report) -> Report
     ensures { λ r. ⌜ r ≡ cond stays report noReport ⌝ }
@@ -136,6 +120,96 @@ pub fn cleared(easts: CutList, norths: CutList, waiting: Waiting, m: BoxAt) -> W
         i = i + 1;
     }
     Waiting { n: k, rows }
+}
+
+// ---- how far a stripe reaches
+
+// A stripe from its least to its greatest coordinate.
+struct Reach {
+    low: u16,
+    high: u16,
+}
+
+// The greater of two.
+fn greater(a: u16, b: u16) -> u16
+    ensures { λ r. ⌜ r ≡ max a b ⌝ }
+{
+    if a < b { b } else { a }
+}
+
+// The lesser of two.
+fn lesser(a: u16, b: u16) -> u16
+    ensures { λ r. ⌜ r ≡ min a b ⌝ }
+{
+    if a < b { a } else { b }
+}
+
+// A cut more bounds the stripe of x: one up to x from below, one past x from above, at the metre before it.
+fn bounded(reach: Reach, cut: u16, x: u16) -> Reach
+    ensures { λ r. ⌜ spanIn r ≡ boundedBy cut x (spanIn reach) ⌝ }
+{
+    if x < cut {
+        return Reach {
+            low: reach.low,
+            high: lesser(reach.high, cut - 1),
+        };
+    }
+    Reach {
+        low: greater(reach.low, cut),
+        high: reach.high,
+    }
+}
+
+// How far the stripe of a coordinate reaches.
+fn reach_of(cuts: CutList, x: u16) -> Reach
+    requires { ⌜ cuts .n ≤ maxCuts ⌝ }
+    ensures { λ r. ⌜ Reaches (cutsIn cuts) x (spanIn r) ⌝ }
+{
+    let n = cuts.n;
+    let mut reach = Reach {
+        low: 0,
+        high: Desk::LAST_METRE,
+    };
+    let mut i: usize = 0;
+    while i < n {
+        let cut = cuts.at[i];
+        reach = bounded(reach, cut, x);
+        i = i + 1;
+    }
+    reach
+}
+
+// Whether it reaches to y. No branch, so that several reports are tried at once.
+fn reaches_to(reach: Reach, y: u16) -> bool
+    ensures { λ r. ⌜ r ≡ within (spanIn reach) y ⌝ }
+{
+    (reach.low <= y) & (y <= reach.high)
+}
+
+// Whether a report's place lies within the reach of both stripes. It lies in the square, for its fields have 16 bits.
+fn lies_within(easts: Reach, norths: Reach, report: Report) -> bool
+    ensures { λ r. ⌜ (r ≡ inside (record { easts = spanIn easts; norths = spanIn norths }) (waits report .place)) × InSquare (waits report .place) ⌝ }
+{
+    reaches_to(easts, report.east) & reaches_to(norths, report.north)
+}
+
+// How many wait in the memory cell of a place.
+fn waiting_at(easts: CutList, norths: CutList, waiting: Waiting, east: u16, north: u16) -> usize
+    requires { ⌜ (waiting .n ≤ fullMemory) × (easts .n ≤ maxCuts) × (norths .n ≤ maxCuts) ⌝ }
+    ensures { λ r. ⌜ r ≡ waitingIn (cutsBy easts norths) (reportsOf waiting) (boxOf (cutsBy easts norths) (record { east = east; north = north })) ⌝ }
+{
+    let east_reach = reach_of(easts, east);
+    let north_reach = reach_of(norths, north);
+    let n = waiting.n;
+    let mut found: usize = 0;
+    let mut i: usize = 0;
+    while i < n {
+        let x = waiting.rows[i];
+        let step = one_if(lies_within(east_reach, north_reach, x));
+        found = found + step;
+        i = i + 1;
+    }
+    found
 }
 
 // ---- tables with a number for each memory cell
@@ -249,8 +323,8 @@ pub fn box_due(easts: CutList, norths: CutList, waiting: Waiting, east: u16, nor
     requires { ⌜ (waiting .n ≤ fullMemory) × (easts .n ≤ maxCuts) × (norths .n ≤ maxCuts) ⌝ }
     ensures { λ r. ⌜ r ≡ dueOf (boxToFlush (cutsBy easts norths) (waitingIn (cutsBy easts norths) (reportsOf waiting)) (length (reportsOf waiting)) (record { east = east; north = north })) ⌝ }
 {
-    let here = box_of(easts, norths, east, north);
-    if Desk::FULL_BOX <= waiting_in(easts, norths, waiting, here) {
+    if Desk::FULL_BOX <= waiting_at(easts, norths, waiting, east, north) {
+        let here = box_of(easts, norths, east, north);
         return BoxDue::Flush(here);
     }
     if waiting.n < FULL_MEMORY {

@@ -1,6 +1,6 @@
 -- The table by radio: tests of edges, what a store in it does, and what the loops that lay rows over it keep.
 use mathlib.Core.Path.{_≡_, refl, sym, ap, _∙_, fun-ext, subst}
-use mathlib.Core.Bool.{Bool, true, false, not, cond, _&&_}
+use mathlib.Core.Bool.{Bool, true, false, not, cond}
 use mathlib.Core.List.{List, [], _∷_, _++_, map, map-append}
 use mathlib.Core.Logic.{_≢_}
 use mathlib.Core.Option.{Option, none, some}
@@ -15,7 +15,7 @@ use Rattle.terms.specs.Terms.{Place, maxRadio, pages, noPage}
 use Rattle.lists.specs.Parts.{tab}
 use Rattle.lists.specs.Rows.{Row, Rows, UpTo}
 use Rattle.lists.specs.Sums.{concat}
-use Rattle.lists.specs.Tests.{both, Each}
+use Rattle.lists.specs.Tests.{Each}
 use Rattle.lists.proofs.Cases.{by-cases}
 use Rattle.lists.proofs.MapLaws.{map-take}
 use Rattle.lists.proofs.PartsLaws.{tab-suc}
@@ -40,13 +40,6 @@ use Rattle.memo.specs.Memo.{linesOf, rowOf as lineRow}
 use Rattle.waiting.specs.Waiting.{reportsOf, rowOf as reportRow}
 use Rattle.sweep.specs.Sweep.{entriesOn}
 use Rattle.range.specs.Range.{Places, noPlaces, placesIn, radioSlots, Columns, Holds, over, rowOver, entriesOver, linesOver, reportsOver, touches, entriesFrom, slotOver, placesOf}
-
--- ---- tests of edges
-
--- "and" of the code and of the definitions
-pub both-tell : {p q : Bool} (a b : Bool) → p ≡ a → q ≡ b → (p && q) ≡ both a b
-unfolding both
-both-tell a b e f = rw (e, f) (by-cases a (λ t. rw t) (λ t. rw t))
 
 -- ---- the front of a table of structs
 

@@ -1,4 +1,4 @@
-use Rattle.range.proofs.TableLaws.{both-tell}
+use Rattle.boxes.proofs.ReachLaws.{both-tell}
 use borrow.Author.Needs.{needs}
 use Rattle.range.proofs.is_inside.Statement.{statement}
 use Rattle.range.proofs.is_inside.Tie as tie

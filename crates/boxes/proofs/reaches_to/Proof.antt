@@ -1,0 +1,10 @@
+use mathlib.Core.Path.{refl}
+use Rattle.boxes.proofs.ReachLaws.{both-tell}
+use Rattle.boxes.proofs.reaches_to.Statement.{statement}
+use Rattle.boxes.proofs.reaches_to.Tie as tie
+
+returns : tie.Need-returns
+returns c = both-tell _ _ refl refl
+
+pub reaches-to-spec : {M : Type 1} → statement M
+reaches-to-spec = tie.close (tie.spec returns)
