@@ -177,9 +177,18 @@ fn listed(desk: Desk, pages: &[u8], area: Rectangle, buffer: &mut [u8]) -> Carri
     let grid = desk.grid;
     let cells = grid.cells;
     let waiting = desk.waiting;
-    let memo = desk.memo;
     let on = desk.on;
-    let told = range::list(pages, area, cells, waiting, memo, on, buffer);
+    let lines = desk.memo.n;
+    let told = range::list(
+        pages,
+        area,
+        cells,
+        waiting,
+        &desk.memo.words,
+        lines,
+        on,
+        buffer,
+    );
     answered(desk, told.number, told.count)
 }
 

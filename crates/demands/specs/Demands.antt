@@ -20,6 +20,7 @@ use Rattle.rules.specs.Told.{told}
 use Rattle.desk.specs.declared.Desk.{Desk}
 use Rattle.desk.specs.declared.Line.{Line}
 use Rattle.desk.specs.declared.Report.{Report}
+use Rattle.desk.specs.Views.{linesIn}
 use Rattle.desk.specs.Call.{After}
 use Rattle.demands.specs.Trace.{Trace, EveryState, EveryCall}
 
@@ -61,7 +62,7 @@ missedIn [] r = 0
 missedIn (l ∷ ls) r = cond (eqb r (l .radio)) (l .missed) (missedIn ls r)
 
 unfoldable pub missedCount : Desk → ℕ → ℕ
-missedCount d r = missedIn (take (d .memo .n) (d .memo .rows)) r
+missedCount d r = missedIn (take (d .memo .n) (linesIn (d .memo .words))) r
 
 -- the place of the report of a radio that waits in the desk
 unfoldable pub waitingPlace : List Report → ℕ → Option Place

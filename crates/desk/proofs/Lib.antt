@@ -1,4 +1,5 @@
 pub mod FreshLaws
+pub mod LinesLaws
 pub mod PagesLaws
 pub mod ReadLaws
 pub mod UniqueLaws

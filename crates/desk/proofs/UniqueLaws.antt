@@ -19,7 +19,9 @@ use Rattle.rules.specs.Store.{Report as StoreReport, Line as StoreLine, Cell, S
 use Rattle.rules.specs.WellFormed.{WellFormed}
 use Rattle.desk.specs.declared.Desk.{Desk}
 use Rattle.desk.specs.Layout.{slotted, cutListOf, slotOf, directoryOf, gridOf, reportOf, waitingOf, lineWith, lineOf, memoOf, onOf, deskOf, Laid}
+use Rattle.desk.specs.Views.{linesIn}
 use Rattle.desk.specs.Sound.{Sound}
+use Rattle.desk.proofs.LinesLaws.{lines-laid}
 use Rattle.desk.proofs.PagesLaws.{PagesOnce}
 use Rattle.desk.proofs.ReadLaws.{CellRead, cells-read, free-read, Paged, pages-enough}
 
@@ -41,9 +43,8 @@ pub take-waiting : (l : Rows StoreReport) → take (waitingOf l .n) (waitingOf l
 unfolding waitingOf
 take-waiting l = rw (← length-map l reportOf) (take-slotted _ _ (map reportOf l))
 
-pub take-memo : (l : Rows StoreLine) → take (memoOf l .n) (memoOf l .rows) ≡ map lineOf l
-unfolding memoOf
-take-memo l = rw (← length-map l lineOf) (take-slotted _ _ (map lineOf l))
+pub take-memo : (l : Rows StoreLine) → take (memoOf l .n) (linesIn (memoOf l .words)) ≡ map lineOf l
+take-memo l = rw lines-laid (unfold memoOf in rw (← length-map l lineOf) (take-slotted _ _ (map lineOf l)))
 
 pub take-on : (l : Rows (Unit {0})) → take (onOf l .n) (onOf l .radios) ≡ map (λ x. x .key) l
 unfolding onOf
@@ -101,7 +102,7 @@ module _ (s t : Store) (e : deskOf s ≡ deskOf t) where
 
   pub same-memo : s .memo ≡ t .memo
   unfolding deskOf
-  same-memo = map-injective lineOf line-injective (s .memo) (t .memo) (sym (take-memo (s .memo)) ∙ ap (λ d. take (d .memo .n) (d .memo .rows)) e ∙ take-memo (t .memo))
+  same-memo = map-injective lineOf line-injective (s .memo) (t .memo) (sym (take-memo (s .memo)) ∙ ap (λ d. take (d .memo .n) (linesIn (d .memo .words))) e ∙ take-memo (t .memo))
 
   pub same-on : s .on ≡ t .on
   unfolding deskOf

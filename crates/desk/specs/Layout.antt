@@ -3,7 +3,7 @@ use mathlib.Core.Bool.{cond}
 use mathlib.Core.List.{List, [], _∷_, _++_, map}
 use mathlib.Core.Option.{Option, none, some}
 use mathlib.Core.Path.{_≡_}
-use Prim.Native.Nat.{ℕ, _+_, _-_}
+use Prim.Native.Nat.{ℕ, _+_, _*_}
 use lib.Dec.{eqb}
 use lib.ListN.{length, take, drop, replicate}
 use Rattle.terms.specs.Terms.{Place, pages, pageEntries, noPage, maxOn}
@@ -84,8 +84,15 @@ lineOf l = lineWith (l .key) (l .val .missed) (l .val .last)
 abbrev pub noLine : Line
 noLine = record { radio = 0; missed = 0; placed = 0; east = 0; north = 0 }
 
+abbrev pub lineFields : ℕ
+lineFields = 5
+
+-- a line's fields, as the memo has them one after the other
+abbrev pub fieldsOf : Line → List ℕ
+fieldsOf l = l .radio ∷ l .missed ∷ l .placed ∷ l .east ∷ l .north ∷ []
+
 unfoldable pub memoOf : Rows StoreLine → Memo
-memoOf l = record { n = length l; rows = slotted lineSlots noLine (map lineOf l) }
+memoOf l = record { n = length l; words = slotted (lineFields * lineSlots) 0 (concat (map fieldsOf (map lineOf l))) }
 
 unfoldable pub onOf : Rows (Unit {0}) → On
 onOf l = record { n = length l; radios = slotted maxOn 0 (map (λ x. x .key) l) }

@@ -1,15 +1,16 @@
 -- The parts of a desk in any condition, each as far as its count says: what a store would have there.
-use mathlib.Core.List.{List, map}
-use Prim.Native.Nat.{ℕ}
-use lib.ListN.{length, take}
+use mathlib.Core.List.{List, [], _∷_, map}
+use Prim.Native.Nat.{ℕ, _+_, _*_}
+use lib.ListN.{length, getD, take}
 use Rattle.lists.specs.Rows.{Row, Rows}
 use Rattle.rules.specs.Limits.{maxCells}
 use Rattle.rules.specs.Grid.{Rect, Cuts}
 use Rattle.desk.specs.declared.CutList.{CutList}
 use Rattle.desk.specs.declared.Slot.{Slot}
 use Rattle.desk.specs.declared.Directory.{Directory}
+use Rattle.desk.specs.declared.Line.{Line}
 use Rattle.desk.specs.declared.On.{On}
-use Rattle.desk.specs.Layout.{slotted, noSlot}
+use Rattle.desk.specs.Layout.{slotted, noSlot, lineFields}
 
 -- the cuts of one direction, and of both
 unfoldable pub cutsIn : CutList → List ℕ
@@ -28,6 +29,25 @@ directoryWith l = record { n = length l; slots = slotted maxCells noSlot l }
 -- a slot's edges as a rectangle
 abbrev pub edgesOf : Slot → Rect
 edgesOf s = record { easts = record { low = s .west; high = s .east }; norths = record { low = s .south; high = s .north } }
+
+-- the line at its place in the memo's array
+abbrev pub lineIn : List ℕ → ℕ → Line
+lineIn ws i = record {
+  radio = getD ws (lineFields * i) 0;
+  missed = getD ws (lineFields * i + 1) 0;
+  placed = getD ws (lineFields * i + 2) 0;
+  east = getD ws (lineFields * i + 3) 0;
+  north = getD ws (lineFields * i + 4) 0;
+}
+
+-- the lines whose fields the array has one after the other
+unfoldable pub linesIn : List ℕ → List Line
+linesIn [] = []
+linesIn (r ∷ []) = []
+linesIn (r ∷ m ∷ []) = []
+linesIn (r ∷ m ∷ p ∷ []) = []
+linesIn (r ∷ m ∷ p ∷ e ∷ []) = []
+linesIn (r ∷ m ∷ p ∷ e ∷ n ∷ rest) = record { radio = r; missed = m; placed = p; east = e; north = n } ∷ linesIn rest
 
 -- the radios on
 abbrev pub radioRow : ℕ → Row (Unit {0})

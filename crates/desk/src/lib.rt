@@ -1,7 +1,10 @@
 // The desk as the serving program holds it, and a fresh one. Counts come first in each part; slots past the count are zero.
 ghost use mathlib.Core.Path.{_≡_};
+ghost use Prim.Native.Nat.{_*_, _<_};
+ghost use lib.ListN.{length, getD, set};
 ghost use Rattle.rules.specs.Store.{fresh};
-ghost use Rattle.desk.specs.Layout.{deskOf};
+ghost use Rattle.desk.specs.Layout.{deskOf, lineSlots, lineFields, noLine};
+ghost use Rattle.desk.specs.Views.{linesIn};
 
 // The cuts of one direction, rising.
 #[repr(C)]
@@ -55,7 +58,6 @@ pub struct Waiting {
 }
 
 // A memo line; `placed` is 1 where it has a place, and 0, with the place zero, where it has none.
-#[repr(C)]
 pub struct Line {
     pub radio: u16,
     pub missed: u16,
@@ -64,11 +66,11 @@ pub struct Line {
     pub north: u16,
 }
 
-// The memo, by rising radio: one line more than there may be between two calls.
+// The memo, by rising radio: the fields of its lines one after the other, for an array of numbers can be lent and one of lines cannot. One line more than there may be between two calls.
 #[repr(C)]
 pub struct Memo {
     pub n: usize,
-    pub rows: [Line; 1151],
+    pub words: [u16; 5755],
 }
 
 // The radios on, rising.
@@ -97,6 +99,11 @@ impl Desk {
     pub const MAX_WAITING: usize = 127;
 
     pub const MAX_LINES: usize = 1150;
+
+    pub const LINE_FIELDS: usize = 5;
+
+    // The fields of one line more than that.
+    pub const MEMO_WORDS: usize = 5755;
 
     pub const FULL_BOX: usize = 8;
 
@@ -145,13 +152,7 @@ impl Desk {
             },
             memo: Memo {
                 n: 0,
-                rows: [Line {
-                    radio: 0,
-                    missed: 0,
-                    placed: 0,
-                    east: 0,
-                    north: 0,
-                }; 1151],
+                words: [0; 5755],
             },
             on: On {
                 n: 0,
@@ -160,4 +161,33 @@ impl Desk {
             tally: 0,
         }
     }
+}
+
+// ---- a line in the memo's array
+
+pub fn line_at<'a>(words: &'a [u16; Desk::MEMO_WORDS], i: usize) -> Line
+    requires { ⌜ (i < lineSlots) × (length (now words) ≡ lineFields * lineSlots) ⌝ }
+    ensures { λ r. ⌜ r ≡ getD (linesIn (now (words .entry))) i noLine ⌝ }
+{
+    let at = Desk::LINE_FIELDS * i;
+    Line {
+        radio: words[at],
+        missed: words[at + 1],
+        placed: words[at + 2],
+        east: words[at + 3],
+        north: words[at + 4],
+    }
+}
+
+// Every other line is kept.
+pub fn put_line<'a>(words: &'a mut [u16; Desk::MEMO_WORDS], i: usize, line: Line)
+    requires { ⌜ (i < lineSlots) × (length (now words) ≡ lineFields * lineSlots) ⌝ }
+    ensures { λ _. ⌜ (linesIn (now (words .exit)) ≡ set (linesIn (now (words .entry))) i line) × (length (now (words .exit)) ≡ lineFields * lineSlots) ⌝ }
+{
+    let at = Desk::LINE_FIELDS * i;
+    words[at] = line.radio;
+    words[at + 1] = line.missed;
+    words[at + 2] = line.placed;
+    words[at + 3] = line.east;
+    words[at + 4] = line.north;
 }

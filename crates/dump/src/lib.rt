@@ -135,7 +135,7 @@ fn print_memo(memo: Memo, n: usize)
 {
     let mut i: usize = 0;
     while i < n {
-        print_line(memo.rows[i]);
+        print_line(desk::line_at(&memo.words, i));
         i += 1;
     }
 }

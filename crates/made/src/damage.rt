@@ -110,13 +110,14 @@ pub fn try_line_7(name: &[u8], desk: Desk, buffer: &[u8], missed: u16, north: u1
 
 // With a line more, before the two.
 pub fn try_line(name: &[u8], desk: Desk, buffer: &[u8], line: Line) {
-    let old = desk.memo;
-    let mut memo = old;
-    memo.rows[2] = old.rows[1];
-    memo.rows[1] = old.rows[0];
-    memo.rows[0] = line;
-    memo.n = 3;
-    try_memo(name, desk, buffer, memo);
+    let one = small::with_line(small::blank_memo(3), 0, line);
+    let two = small::with_line(one, 1, small::line_7());
+    try_memo(
+        name,
+        desk,
+        buffer,
+        small::with_line(two, 2, small::line_10()),
+    );
 }
 
 // ---- the pages

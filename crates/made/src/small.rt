@@ -5,6 +5,7 @@ ghost use Prim.Native.Nat.{_<_, _≤_};
 ghost use lib.ListN.{length};
 ghost use Rattle.terms.specs.Terms.{pages};
 ghost use Rattle.page.specs.Buffer.{bufferBytes};
+ghost use Rattle.desk.specs.Layout.{lineSlots};
 use desk::CutList;
 use desk::Desk;
 use desk::Directory;
@@ -109,11 +110,25 @@ pub fn line(radio: u16, missed: u16, placed: u16, east: u16, north: u16) -> Line
     }
 }
 
+// A memo with so many lines, all of them zero yet.
+pub fn blank_memo(n: usize) -> Memo {
+    Memo {
+        n,
+        words: [0; Desk::MEMO_WORDS],
+    }
+}
+
+// With a line in the slot at `i`.
+pub fn with_line(memo: Memo, i: usize, line: Line) -> Memo
+    requires { ⌜ i < lineSlots ⌝ }
+{
+    let mut m = memo;
+    desk::put_line(&mut m.words, i, line);
+    m
+}
+
 pub fn two_lines(a: Line, b: Line) -> Memo {
-    let mut rows = [line(0, 0, 0, 0, 0); 1151];
-    rows[0] = a;
-    rows[1] = b;
-    Memo { n: 2, rows }
+    with_line(with_line(blank_memo(2), 0, a), 1, b)
 }
 
 pub fn line_7() -> Line {

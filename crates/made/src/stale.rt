@@ -29,13 +29,13 @@ fn stale_line(i: usize) -> Line
 fn stale_memo(n: usize) -> Memo
     requires { ⌜ n ≤ 1151 ⌝ }
 {
-    let mut rows = [small::line(0, 0, 0, 0, 0); 1151];
+    let mut memo = small::blank_memo(n);
     let mut i: usize = 0;
     while i < n {
-        rows[i] = stale_line(i);
+        memo = small::with_line(memo, i, stale_line(i));
         i += 1;
     }
-    Memo { n, rows }
+    memo
 }
 
 // The entries of the radios from `first` on.

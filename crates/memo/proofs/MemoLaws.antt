@@ -3,7 +3,7 @@ use mathlib.Core.Path.{_≡_, refl, sym, ap, ap₂, _∙_}
 use mathlib.Core.List.{List, [], _∷_, _++_, map}
 use mathlib.Core.Logic.{_≢_}
 use mathlib.Core.Option.{Option, none, some}
-use Prim.Native.Nat.{ℕ, suc, _+_, _-_, _/_, _≤_, _<_}
+use Prim.Native.Nat.{ℕ, suc, _+_, _*_, _/_, _≤_, _<_}
 use native.Mathlib.Omega.{arith}
 use lib.Dec.{eqb, ltb}
 use lib.ListN.{length, getD, set, take, drop, replicate, length-map, length-take, length-set, length-append, length-drop, length-replicate, take-append-drop, List·getD-map}
@@ -15,14 +15,16 @@ use Rattle.lists.specs.Rows.{Row, Rows, Rising, find, alter, rank}
 use Rattle.lists.proofs.Cases.{by-cases, option-cases}
 use Rattle.lists.proofs.MapLaws.{map-set, map-insertAt}
 use Rattle.lists.proofs.PartsLaws.{length-part, drop-put}
-use Rattle.lists.proofs.ShiftLaws.{Opened, open-end}
+use Rattle.lists.proofs.ShiftLaws.{Opened, open-turn, open-end}
 use Rattle.lists.proofs.SearchLaws.{Between, between-start, between-up, between-down, find-rank, find-rank-none, rank-le, alter-insertAt, alter-set}
 use Rattle.rules.specs.Store.{Line as StoreLine}
 use Rattle.rules.specs.Flush.{placed, raised}
 use Rattle.rules.proofs.Parts.{missedOf}
 use Rattle.desk.specs.declared.Line.{Line}
 use Rattle.desk.specs.declared.Memo.{Memo}
-use Rattle.desk.specs.Layout.{lineSlots, slotted, lineWith, lineOf, noLine, memoOf}
+use Rattle.desk.specs.Layout.{lineSlots, lineFields, slotted, lineWith, lineOf, noLine, memoOf}
+use Rattle.desk.specs.Views.{linesIn}
+use Rattle.desk.proofs.LinesLaws.{lines-laid, words-laid, length-lines-in}
 use Rattle.desk.proofs.UniqueLaws.{take-memo}
 use Rattle.memo.specs.declared.Spot.{Spot}
 use Rattle.memo.specs.declared.Spot.the-variants.{Held, Open}
@@ -46,6 +48,10 @@ open-rest {A} {xs} {ys} {n} a v o =
     ∙ ap (λ (k : ℕ). drop k (put xs (a + 1) (part xs a (n - a)))) e
     ∙ drop-put xs (a + 1) (part xs a (n - a)) (omega arith)
     ∙ ap (λ (k : ℕ). drop k xs) (sym e)
+
+-- a line goes one place up
+pub open-line : {xs ys zs : List Line} {n i : ℕ} {x : Line} → Opened xs n i ys → 0 < i → x ≡ getD ys (i - 1) noLine → zs ≡ set ys i x → Opened xs n (i - 1) zs
+open-line o h e f = rw (f, e) (open-turn noLine o h)
 
 -- nothing stands at the key, and nothing is made
 alter-none : {Val : Type 0} (f : Option Val → Option Val) (r : ℕ) (l : Rows Val) → find l r ≡ none → f none ≡ none → alter f r l ≡ l
@@ -95,21 +101,22 @@ pub lines-memo : (l : Rows StoreLine) → linesOf (memoOf l) ≡ l
 unfolding linesOf
 lines-memo l = ap (map rowOf) (take-memo l) ∙ rows-lines l
 
-count-memo : (l : Rows StoreLine) → memoOf l .n ≡ length l
+pub count-memo : (l : Rows StoreLine) → memoOf l .n ≡ length l
 unfolding memoOf
 count-memo l = refl
 
-drop-memo : (l : Rows StoreLine) → drop (memoOf l .n) (memoOf l .rows) ≡ replicate (lineSlots - memoOf l .n) noLine
-unfolding memoOf slotted
-drop-memo l = rw (← length-map l lineOf) (drop-at (map lineOf l) _ (length (map lineOf l)) refl)
+drop-memo : (l : Rows StoreLine) → drop (memoOf l .n) (linesIn (memoOf l .words)) ≡ replicate (lineSlots - memoOf l .n) noLine
+drop-memo l = rw lines-laid (unfold memoOf slotted in rw (← length-map l lineOf) (drop-at (map lineOf l) _ (length (map lineOf l)) refl))
 
 -- what a memo's parts say of the whole
-memo-is : (m : Memo) (l : Rows StoreLine) → m .n ≡ length l → take (m .n) (m .rows) ≡ map lineOf l → drop (m .n) (m .rows) ≡ replicate (lineSlots - m .n) noLine → m ≡ memoOf l
-unfolding memoOf slotted
-memo-is m l e t d =
-    let q : m .rows ≡ map lineOf l ++ replicate (lineSlots - length (map lineOf l)) noLine =
-    sym (take-append-drop (m .n) (m .rows)) ∙ ap₂ (λ (x y : List Line). x ++ y) t (d ∙ ap (λ (k : ℕ). replicate (lineSlots - k) noLine) (e ∙ sym (length-map l lineOf))) in
-    λ i. record { n = e i; rows = q i }
+memo-is : (m : Memo) (l : Rows StoreLine) → length (m .words) ≡ lineFields * lineSlots → m .n ≡ length l → take (m .n) (linesIn (m .words)) ≡ map lineOf l → drop (m .n) (linesIn (m .words)) ≡ replicate (lineSlots - m .n) noLine → m ≡ memoOf l
+unfolding slotted
+memo-is m l size e t d =
+    let q : linesIn (m .words) ≡ map lineOf l ++ replicate (lineSlots - length (map lineOf l)) noLine =
+    sym (take-append-drop (m .n) (linesIn (m .words))) ∙ ap₂ (λ (x y : List Line). x ++ y) t (d ∙ ap (λ (k : ℕ). replicate (lineSlots - k) noLine) (e ∙ sym (length-map l lineOf))) in
+    let w : m .words ≡ memoOf l .words = words-laid (m .words) l size q in
+    let c : m .n ≡ memoOf l .n = e ∙ sym (count-memo l) in
+    λ i. record { n = c i; words = w i }
 
 -- ---- a whole memo
 
@@ -117,55 +124,55 @@ module _ (m : Memo) (w : Whole m) where
   whole-count : m .n ≡ length (linesOf m)
   whole-count = ap (λ (x : Memo). x .n) w ∙ count-memo (linesOf m)
 
-  whole-take : take (m .n) (m .rows) ≡ map lineOf (linesOf m)
-  whole-take = ap (λ (x : Memo). take (x .n) (x .rows)) w ∙ take-memo (linesOf m)
+  whole-take : take (m .n) (linesIn (m .words)) ≡ map lineOf (linesOf m)
+  whole-take = ap (λ (x : Memo). take (x .n) (linesIn (x .words))) w ∙ take-memo (linesOf m)
 
-  whole-drop : drop (m .n) (m .rows) ≡ replicate (lineSlots - m .n) noLine
-  whole-drop = ap (λ (x : Memo). drop (x .n) (x .rows)) w ∙ drop-memo (linesOf m) ∙ ap (λ (x : Memo). replicate (lineSlots - x .n) noLine) (sym w)
+  whole-drop : drop (m .n) (linesIn (m .words)) ≡ replicate (lineSlots - m .n) noLine
+  whole-drop = ap (λ (x : Memo). drop (x .n) (linesIn (x .words))) w ∙ drop-memo (linesOf m) ∙ ap (λ (x : Memo). replicate (lineSlots - x .n) noLine) (sym w)
 
-  whole-line : (i : ℕ) → i < m .n → getD (m .rows) i noLine ≡ lineOf (getD (linesOf m) i noRow)
-  whole-line i h = sym (getD-take (m .n) (m .rows) i noLine h) ∙ ap (λ (l : List Line). getD l i noLine) whole-take ∙ List·getD-map lineOf (linesOf m) i noRow
+  whole-line : (i : ℕ) → i < m .n → getD (linesIn (m .words)) i noLine ≡ lineOf (getD (linesOf m) i noRow)
+  whole-line i h = sym (getD-take (m .n) (linesIn (m .words)) i noLine h) ∙ ap (λ (l : List Line). getD l i noLine) whole-take ∙ List·getD-map lineOf (linesOf m) i noRow
 
 -- ---- the binary search
 
-length-lines : (m : Memo) → m .n ≤ length (m .rows) → length (linesOf m) ≡ m .n
+length-lines : (m : Memo) → m .n ≤ length (linesIn (m .words)) → length (linesOf m) ≡ m .n
 unfolding linesOf
 length-lines m h = simp (length-map, length-take) (omega arith)
 
-lines-radio : (m : Memo) (i : ℕ) → i < m .n → getD (m .rows) i noLine .radio ≡ getD (linesOf m) i noRow .key
+lines-radio : (m : Memo) (i : ℕ) → i < m .n → getD (linesIn (m .words)) i noLine .radio ≡ getD (linesOf m) i noRow .key
 unfolding linesOf
-lines-radio m i h = ap (λ (x : Row StoreLine). x .key) (sym (List·getD-map rowOf (take (m .n) (m .rows)) i noLine ∙ ap rowOf (getD-take (m .n) (m .rows) i noLine h)))
+lines-radio m i h = ap (λ (x : Row StoreLine). x .key) (sym (List·getD-map rowOf (take (m .n) (linesIn (m .words))) i noLine ∙ ap rowOf (getD-take (m .n) (linesIn (m .words)) i noLine h)))
 
-pub search-start : (m : Memo) (r : ℕ) → length (m .rows) ≡ lineSlots → m .n ≤ lineSlots → Rising 0 (linesOf m) → Between (linesOf m) r noRow 0 (m .n)
-search-start m r l h a = between-start r noRow (m .n) a (length-lines m (omega arith))
+pub search-start : (m : Memo) (r : ℕ) → length (m .words) ≡ lineFields * lineSlots → m .n ≤ lineSlots → Rising 0 (linesOf m) → Between (linesOf m) r noRow 0 (m .n)
+search-start m r l h a = between-start r noRow (m .n) a (length-lines m (omega (arith, length-lines-in lineSlots (m .words) l)))
 
 abbrev mid : ℕ → ℕ → ℕ
 mid lo hi = lo + (hi - lo) / 2
 
 module _ (m : Memo) {r lo hi : ℕ} (s : Between (linesOf m) r noRow lo hi) (inside : hi ≤ m .n) (more : lo < hi) where
-  pub search-up : getD (m .rows) (mid lo hi) noLine .radio < r → Between (linesOf m) r noRow (mid lo hi + 1) hi
-  search-up k = between-up s (mid lo hi) (omega arith) (omega arith) (omega (arith, lines-radio m (mid lo hi) (omega arith)))
+  pub search-up : {x : Line} → x ≡ getD (linesIn (m .words)) (mid lo hi) noLine → x .radio < r → Between (linesOf m) r noRow (mid lo hi + 1) hi
+  search-up e k = between-up s (mid lo hi) (omega arith) (omega arith) (omega (arith, ap (λ (y : Line). y .radio) e, lines-radio m (mid lo hi) (omega arith)))
 
-  pub search-down : r ≤ getD (m .rows) (mid lo hi) noLine .radio → Between (linesOf m) r noRow lo (mid lo hi)
-  search-down k = between-down s (mid lo hi) (omega arith) (omega arith) (omega (arith, lines-radio m (mid lo hi) (omega arith)))
+  pub search-down : {x : Line} → x ≡ getD (linesIn (m .words)) (mid lo hi) noLine → r ≤ x .radio → Between (linesOf m) r noRow lo (mid lo hi)
+  search-down e k = between-down s (mid lo hi) (omega arith) (omega arith) (omega (arith, ap (λ (y : Line). y .radio) e, lines-radio m (mid lo hi) (omega arith)))
 
 -- ---- where a radio stands
 
-module _ (m : Memo) (r : ℕ) {k : ℕ} (size : length (m .rows) ≡ lineSlots) (fits : m .n ≤ lineSlots) (rising : Rising 0 (linesOf m)) (at : k ≡ rank r (linesOf m)) where
-  pub spot-held : k < m .n → getD (m .rows) k noLine .radio ≡ r → Held k ≡ spotOf r (linesOf m)
+module _ (m : Memo) (r : ℕ) {k : ℕ} (size : length (m .words) ≡ lineFields * lineSlots) (fits : m .n ≤ lineSlots) (rising : Rising 0 (linesOf m)) (at : k ≡ rank r (linesOf m)) where
+  pub spot-held : {x : Line} → x ≡ getD (linesIn (m .words)) k noLine → k < m .n → x .radio ≡ r → Held k ≡ spotOf r (linesOf m)
   unfolding spotOf
-  spot-held h e =
-      let l = length-lines m (omega arith) in
-      rw (find-rank 0 r (linesOf m) noRow rising (rw (← at) (omega arith)) (rw (← at) (sym (lines-radio m k h) ∙ e))) (ap Held at)
+  spot-held f h e =
+      let l = length-lines m (omega (arith, length-lines-in lineSlots (m .words) size)) in
+      rw (find-rank 0 r (linesOf m) noRow rising (rw (← at) (omega arith)) (rw (← at) (sym (lines-radio m k h) ∙ sym (ap (λ (y : Line). y .radio) f) ∙ e))) (ap Held at)
 
-  pub spot-other : k < m .n → getD (m .rows) k noLine .radio ≢ r → Open k ≡ spotOf r (linesOf m)
+  pub spot-other : {x : Line} → x ≡ getD (linesIn (m .words)) k noLine → k < m .n → x .radio ≢ r → Open k ≡ spotOf r (linesOf m)
   unfolding spotOf
-  spot-other h n = rw (find-rank-none 0 r (linesOf m) noRow rising (rw (← at) (λ _ e. n (lines-radio m k h ∙ e)))) (ap Open at)
+  spot-other f h n = rw (find-rank-none 0 r (linesOf m) noRow rising (rw (← at) (λ _ e. n (ap (λ (y : Line). y .radio) f ∙ lines-radio m k h ∙ e)))) (ap Open at)
 
   pub spot-past : m .n ≤ k → Open k ≡ spotOf r (linesOf m)
   unfolding spotOf
   spot-past h =
-      let l = length-lines m (omega arith) in
+      let l = length-lines m (omega (arith, length-lines-in lineSlots (m .words) size)) in
       rw (find-rank-none 0 r (linesOf m) noRow rising (rw (← at) (λ g _. absurd (omega arith)))) (ap Open at)
 
 -- a radio that has no line, and the place for it
@@ -180,7 +187,7 @@ pub record Lies (m : Memo) (r k : ℕ) : Type 0 where
   pub found : find (linesOf m) r ≡ some val
   pub place : k ≡ rank r (linesOf m)
   pub inside : k < m .n
-  pub line : getD (m .rows) k noLine ≡ lineWith r (val .missed) (val .last)
+  pub line : getD (linesIn (m .words)) k noLine ≡ lineWith r (val .missed) (val .last)
 
 spot-some : (r : ℕ) (l : Rows StoreLine) (v : StoreLine) → find l r ≡ some v → spotOf r l ≡ Held (rank r l)
 unfolding spotOf
@@ -214,25 +221,25 @@ module _ (m : Memo) (r : ℕ) {k : ℕ} {o : Spot} (whole : Whole m) (rising : R
 -- ---- stores
 
 module _ (m : Memo) (w : Whole m) where
-  pub memo-set : (k : ℕ) (x : Line) → k < m .n → Plain x → record { n = m .n; rows = set (m .rows) k x } ≡ memoOf (set (linesOf m) k (rowOf x))
-  memo-set k x h p =
-      memo-is (record { n = m .n; rows = set (m .rows) k x }) (set (linesOf m) k (rowOf x))
+  pub memo-set : (ws : List ℕ) (k : ℕ) (x : Line) → linesIn ws ≡ set (linesIn (m .words)) k x → length ws ≡ lineFields * lineSlots → k < m .n → Plain x → record { n = m .n; words = ws } ≡ memoOf (set (linesOf m) k (rowOf x))
+  memo-set ws k x e size h p =
+      memo-is (record { n = m .n; words = ws }) (set (linesOf m) k (rowOf x)) size
       (whole-count m w ∙ sym (length-set (linesOf m) k (rowOf x)))
-      (take-set-lt (m .n) (m .rows) k x h ∙ ap₂ (λ (l : List Line) (y : Line). set l k y) (whole-take m w) p ∙ sym (map-set lineOf (linesOf m) k (rowOf x)))
-      (drop-set-lt (m .n) (m .rows) k x h ∙ whole-drop m w)
+      (ap (take (m .n)) e ∙ take-set-lt (m .n) (linesIn (m .words)) k x h ∙ ap₂ (λ (l : List Line) (y : Line). set l k y) (whole-take m w) p ∙ sym (map-set lineOf (linesOf m) k (rowOf x)))
+      (ap (drop (m .n)) e ∙ drop-set-lt (m .n) (linesIn (m .words)) k x h ∙ whole-drop m w)
 
-  pub memo-open : (k : ℕ) (x : Line) {i : ℕ} {ys : List Line} → Opened (m .rows) (m .n) i ys → k ≤ i → i ≤ k → Plain x → record { n = m .n + 1; rows = set ys k x } ≡ memoOf (insertAt (linesOf m) k (rowOf x))
-  memo-open k x {i} {ys} o g h p =
+  pub memo-open : (ws : List ℕ) (k : ℕ) (x : Line) {i : ℕ} {ys : List Line} → linesIn ws ≡ set ys k x → length ws ≡ lineFields * lineSlots → Opened (linesIn (m .words)) (m .n) i ys → k ≤ i → i ≤ k → Plain x → record { n = m .n + 1; words = ws } ≡ memoOf (insertAt (linesOf m) k (rowOf x))
+  memo-open ws k x {i} {ys} e size o g h p =
       let z : i ≡ k = omega arith in
       let q = rw z at o in
       let n = whole-count m w in
       let f = o .fits in
-      let s : length (m .rows) - m .n ≡ lineSlots - m .n = sym (length-drop (m .n) (m .rows)) ∙ ap length (whole-drop m w) ∙ length-replicate (lineSlots - m .n) noLine in
+      let s : length (linesIn (m .words)) - m .n ≡ lineSlots - m .n = sym (length-drop (m .n) (linesIn (m .words))) ∙ ap length (whole-drop m w) ∙ length-replicate (lineSlots - m .n) noLine in
       let u : lineSlots - m .n ≡ suc (lineSlots - (m .n + 1)) = omega arith in
-      memo-is (record { n = m .n + 1; rows = set ys k x }) (insertAt (linesOf m) k (rowOf x))
+      memo-is (record { n = m .n + 1; words = ws }) (insertAt (linesOf m) k (rowOf x)) size
       (omega (arith, length-insertAt (linesOf m) k (rowOf x) (omega (arith, o .low))))
-      (open-end k x q ∙ ap₂ (λ (l : List Line) (y : Line). insertAt l k y) (whole-take m w) p ∙ sym (map-insertAt lineOf (linesOf m) k (rowOf x)))
-      (open-rest k x q ∙ sym (drop-drop 1 (m .n) (m .rows)) ∙ ap (drop 1) (whole-drop m w) ∙ ap (λ (j : ℕ). drop 1 (replicate j noLine)) u)
+      (ap (take (m .n + 1)) e ∙ open-end k x q ∙ ap₂ (λ (l : List Line) (y : Line). insertAt l k y) (whole-take m w) p ∙ sym (map-insertAt lineOf (linesOf m) k (rowOf x)))
+      (ap (drop (m .n + 1)) e ∙ open-rest k x q ∙ sym (drop-drop 1 (m .n) (linesIn (m .words))) ∙ ap (drop 1) (whole-drop m w) ∙ ap (λ (j : ℕ). drop 1 (replicate j noLine)) u)
 
 -- ---- lines
 
@@ -275,25 +282,27 @@ module _ (m : Memo) (r : ℕ) {k : ℕ} {o : Spot} (whole : Whole m) (rising : R
     pub held-slot : m .n ≤ lineSlots → k < lineSlots
     held-slot h = omega (arith, held-inside)
 
-    held-missed : getD (m .rows) k noLine .missed ≡ at .val .missed
-    held-missed = ap (λ (x : Line). x .missed) (at .line) ∙ missed-with r (at .val .missed) (at .val .last)
+    module _ {held : Line} (read : held ≡ getD (linesIn (m .words)) k noLine) where
+      held-missed : held .missed ≡ at .val .missed
+      held-missed = ap (λ (x : Line). x .missed) (read ∙ at .line) ∙ missed-with r (at .val .missed) (at .val .last)
 
-    pub held-room : missedOf (find (linesOf m) r) < mostMissed → getD (m .rows) k noLine .missed < mostMissed
-    held-room h = omega (arith, held-missed, ap missedOf (at .found))
+      pub held-room : missedOf (find (linesOf m) r) < mostMissed → held .missed < mostMissed
+      held-room h = omega (arith, held-missed, ap missedOf (at .found))
 
     -- the line with another value
     held-set : (f : Option StoreLine → Option StoreLine) (v : StoreLine) {x : Memo} → f (some (at .val)) ≡ some v → x ≡ memoOf (set (linesOf m) k (record { key = r; val = v })) → x ≡ memoOf (alter f r (linesOf m))
     held-set f v e s = s ∙ ap memoOf (ap (λ (j : ℕ). set (linesOf m) j (record { key = r; val = v })) (at .place) ∙ sym (alter-set f r 0 (linesOf m) (at .val) v rising (at .found) e))
 
-    pub place-set : (east north : ℕ) {x : Memo} → x ≡ memoOf (set (linesOf m) k (rowOf (record { radio = r; missed = getD (m .rows) k noLine .missed; placed = 1; east = east; north = north }))) → x ≡ memoOf (alter (placed (some (record { east = east; north = north }))) r (linesOf m))
-    place-set east north s =
-        let p : Option Place = some (record { east = east; north = north }) in
-        held-set (placed p) (record { missed = at .val .missed; last = p }) refl (s ∙ ap (λ (j : ℕ). memoOf (set (linesOf m) k (record { key = r; val = record { missed = j; last = p } }))) held-missed)
+    module _ {held : Line} (read : held ≡ getD (linesIn (m .words)) k noLine) where
+      pub place-set : (east north : ℕ) {x : Memo} → x ≡ memoOf (set (linesOf m) k (rowOf (record { radio = r; missed = held .missed; placed = 1; east = east; north = north }))) → x ≡ memoOf (alter (placed (some (record { east = east; north = north }))) r (linesOf m))
+      place-set east north s =
+          let p : Option Place = some (record { east = east; north = north }) in
+          held-set (placed p) (record { missed = at .val .missed; last = p }) refl (s ∙ ap (λ (j : ℕ). memoOf (set (linesOf m) k (record { key = r; val = record { missed = j; last = p } }))) (held-missed read))
 
-    -- the same of a count raised by one
-    pub raise-set : (p : Option Place) {x : Memo} → x ≡ memoOf (set (linesOf m) k (record { key = r; val = record { missed = getD (m .rows) k noLine .missed + 1; last = p } })) → x ≡ memoOf (alter (raised p) r (linesOf m))
-    raise-set p s =
-        held-set (raised p) (record { missed = at .val .missed + 1; last = p }) refl (s ∙ ap (λ (j : ℕ). memoOf (set (linesOf m) k (record { key = r; val = record { missed = j + 1; last = p } }))) held-missed)
+      -- the same of a count raised by one
+      pub raise-set : (p : Option Place) {x : Memo} → x ≡ memoOf (set (linesOf m) k (record { key = r; val = record { missed = held .missed + 1; last = p } })) → x ≡ memoOf (alter (raised p) r (linesOf m))
+      raise-set p s =
+          held-set (raised p) (record { missed = at .val .missed + 1; last = p }) refl (s ∙ ap (λ (j : ℕ). memoOf (set (linesOf m) k (record { key = r; val = record { missed = j + 1; last = p } }))) (held-missed read))
 
 -- a plain line with another count
 pub plain-recounted : (x : Line) (c : ℕ) → Plain x → Plain (recounted (x .radio) c x)

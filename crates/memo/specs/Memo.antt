@@ -12,6 +12,7 @@ use Rattle.rules.specs.Store.{Line as StoreLine}
 use Rattle.desk.specs.declared.Line.{Line}
 use Rattle.desk.specs.declared.Memo.{Memo}
 use Rattle.desk.specs.Layout.{lineOf, memoOf}
+use Rattle.desk.specs.Views.{linesIn}
 use Rattle.memo.specs.declared.Spot.{Spot}
 use Rattle.memo.specs.declared.Spot.the-variants.{Held, Open}
 
@@ -31,7 +32,7 @@ noRow = record { key = 0; val = record { missed = 0; last = none } }
 
 -- the rows that the memo holds
 unfoldable pub linesOf : Memo → Rows StoreLine
-linesOf m = map rowOf (take (m .n) (m .rows))
+linesOf m = map rowOf (take (m .n) (linesIn (m .words)))
 
 -- a line as the desk lays it out: marked 0 or 1, with the place zero where it has none
 abbrev pub Plain : Line → Type 0

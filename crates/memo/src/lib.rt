@@ -1,14 +1,15 @@
 // The memo in the desk's array: lines by rising radio, unused slots zero. By value; the inner loops work in place.
 ghost use mathlib.Core.Option.{none, some};
 ghost use mathlib.Core.Path.{_≡_};
-ghost use Prim.Native.Nat.{_<_, _≤_};
-ghost use lib.ListN.{set};
+ghost use Prim.Native.Nat.{_*_, _<_, _≤_};
+ghost use lib.ListN.{length, set};
 ghost use Rattle.lists.specs.Parts.{insertAt};
 ghost use Rattle.lists.specs.Rows.{Rising, find, rank, alter};
 ghost use Rattle.rules.specs.Flush.{placed, raised};
 ghost use Rattle.rules.proofs.Parts.{missedOf};
-ghost use Rattle.desk.specs.Layout.{lineSlots, memoOf};
+ghost use Rattle.desk.specs.Layout.{lineSlots, lineFields, memoOf};
 ghost use Rattle.memo.specs.Memo.{lastOf, rowOf, linesOf, Plain, Whole, mostMissed, spotOf};
+use desk::Desk;
 use desk::Line;
 use desk::Memo;
 
@@ -25,15 +26,15 @@ enum Spot {
 // ---- a place in the array
 
 // How many radios lie below `radio`, by binary search.
-fn rank(memo: Memo, radio: u16) -> usize
-    requires { ⌜ (memo .n ≤ lineSlots) × Rising 0 (linesOf memo) ⌝ }
-    ensures { λ r. ⌜ (r ≡ rank radio (linesOf memo)) × (r ≤ memo .n) ⌝ }
+fn rank<'a>(words: &'a [u16; Desk::MEMO_WORDS], n: usize, radio: u16) -> usize
+    requires { ⌜ (length (now words) ≡ lineFields * lineSlots) × (n ≤ lineSlots) × Rising 0 (linesOf (record { n = n; words = now words })) ⌝ }
+    ensures { λ r. ⌜ (r ≡ rank radio (linesOf (record { n = n; words = now (words .entry) }))) × (r ≤ n) ⌝ }
 {
-    let mut low = 0;
-    let mut high = memo.n;
+    let mut low: usize = 0;
+    let mut high = n;
     while low < high {
         let mid = low + (high - low) / 2;
-        let x = memo.rows[mid];
+        let x = desk::line_at(words, mid);
         if x.radio < radio {
             low = mid + 1;
         } else {
@@ -44,13 +45,13 @@ fn rank(memo: Memo, radio: u16) -> usize
 }
 
 // Where the line of `radio` stands, or would.
-fn lookup(memo: Memo, radio: u16) -> Spot
-    requires { ⌜ (memo .n ≤ lineSlots) × Rising 0 (linesOf memo) ⌝ }
-    ensures { λ r. ⌜ r ≡ spotOf radio (linesOf memo) ⌝ }
+fn lookup<'a>(words: &'a [u16; Desk::MEMO_WORDS], n: usize, radio: u16) -> Spot
+    requires { ⌜ (length (now words) ≡ lineFields * lineSlots) × (n ≤ lineSlots) × Rising 0 (linesOf (record { n = n; words = now words })) ⌝ }
+    ensures { λ r. ⌜ r ≡ spotOf radio (linesOf (record { n = n; words = now (words .entry) })) ⌝ }
 {
-    let at = rank(memo, radio);
-    if at < memo.n {
-        let x = memo.rows[at];
+    let at = rank(words, n, radio);
+    if at < n {
+        let x = desk::line_at(words, at);
         if x.radio == radio {
             return Spot::Held(at);
         }
@@ -64,7 +65,7 @@ fn replaced(memo: Memo, at: usize, line: Line) -> Memo
     ensures { λ r. ⌜ r ≡ memoOf (set (linesOf memo) at (rowOf line)) ⌝ }
 {
     let mut m = memo;
-    m.rows[at] = line;
+    desk::put_line(&mut m.words, at, line);
     m
 }
 
@@ -78,11 +79,11 @@ fn opened(memo: Memo, at: usize, line: Line) -> Memo
     let mut i = n;
     while at < i {
         let j = i - 1;
-        let x = m.rows[j];
-        m.rows[i] = x;
+        let x = desk::line_at(&m.words, j);
+        desk::put_line(&mut m.words, i, x);
         i = j;
     }
-    m.rows[at] = line;
+    desk::put_line(&mut m.words, at, line);
     m.n = n + 1;
     m
 }
@@ -94,10 +95,10 @@ pub fn placed(memo: Memo, radio: u16, east: u16, north: u16) -> Memo
     requires { ⌜ Whole memo × (memo .n ≤ lineSlots) × Rising 0 (linesOf memo) ⌝ }
     ensures { λ r. ⌜ r ≡ memoOf (alter (placed (some (record { east = east; north = north }))) radio (linesOf memo)) ⌝ }
 {
-    let Spot::Held(at) = lookup(memo, radio) else {
+    let Spot::Held(at) = lookup(&memo.words, memo.n, radio) else {
         return memo;
     };
-    let held = memo.rows[at];
+    let held = desk::line_at(&memo.words, at);
     let line = Line {
         radio,
         missed: held.missed,
@@ -113,11 +114,11 @@ fn counted(memo: Memo, first: Line) -> Memo
     requires { ⌜ Whole memo × (memo .n < lineSlots) × Rising 0 (linesOf memo) × (missedOf (find (linesOf memo) (first .radio)) < mostMissed) × Plain first × (first .missed ≡ 1) ⌝ }
     ensures { λ r. ⌜ r ≡ memoOf (alter (raised (lastOf first)) (first .radio) (linesOf memo)) ⌝ }
 {
-    let spot = lookup(memo, first.radio);
+    let spot = lookup(&memo.words, memo.n, first.radio);
     match spot {
         Spot::Open(at) => opened(memo, at, first),
         Spot::Held(at) => {
-            let held = memo.rows[at];
+            let held = desk::line_at(&memo.words, at);
             let line = Line {
                 radio: first.radio,
                 missed: held.missed + 1,

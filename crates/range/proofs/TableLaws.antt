@@ -4,7 +4,7 @@ use mathlib.Core.Bool.{Bool, true, false, not, cond}
 use mathlib.Core.List.{List, [], _∷_, _++_, map, map-append}
 use mathlib.Core.Logic.{_≢_}
 use mathlib.Core.Option.{Option, none, some}
-use Prim.Native.Nat.{ℕ, zero, suc, _+_, _-_, _≤_, _<_}
+use Prim.Native.Nat.{ℕ, zero, suc, _+_, _*_, _≤_, _<_}
 use native.Mathlib.Omega.{arith}
 use native.Mathlib.Numerals.{add-one}
 use lib.Dec.{eqb}
@@ -34,8 +34,9 @@ use Rattle.desk.specs.declared.Line.{Line}
 use Rattle.desk.specs.declared.Memo.{Memo}
 use Rattle.desk.specs.declared.Report.{Report}
 use Rattle.desk.specs.declared.Waiting.{Waiting}
-use Rattle.desk.specs.Layout.{lineSlots, noSlot, noLine, noReport}
-use Rattle.desk.specs.Views.{slotsIn, edgesOf}
+use Rattle.desk.specs.Layout.{lineSlots, lineFields, noSlot, noLine, noReport}
+use Rattle.desk.specs.Views.{slotsIn, edgesOf, linesIn}
+use Rattle.desk.proofs.LinesLaws.{length-lines-in}
 use Rattle.memo.specs.Memo.{linesOf, rowOf as lineRow}
 use Rattle.waiting.specs.Waiting.{reportsOf, rowOf as reportRow}
 use Rattle.sweep.specs.Sweep.{entriesOn}
@@ -268,25 +269,25 @@ module _ (m : Memo) where
   unfolding linesOver
   lines-start c = over-start _ c
 
-  module _ (size : length (m .rows) ≡ lineSlots) (few : m .n ≤ lineSlots) (i : ℕ) (more : i < m .n) where
-    abbrev line : Line
-    line = getD (m .rows) i noLine
+  module _ (size : length (m .words) ≡ lineFields * lineSlots) (few : m .n ≤ lineSlots) (i : ℕ) (more : i < m .n) {line : Line} (read : line ≡ getD (linesIn (m .words)) i noLine) where
+    inside : m .n ≤ length (linesIn (m .words))
+    inside = let l = length-lines-in lineSlots (m .words) size in omega arith
 
     pub lines-radios : UpTo maxRadio (linesOf m) → line .radio ≤ maxRadio
     unfolding linesOf
-    lines-radios e = each-mapped (m .rows) (m .n) i noLine (omega arith) more (λ x. x .key ≤ maxRadio) lineRow e
+    lines-radios e = rw read (each-mapped (linesIn (m .words)) (m .n) i noLine inside more (λ x. x .key ≤ maxRadio) lineRow e)
 
     pub lines-turn : (f : Places) {easts norths easts′ norths′ : List ℕ} {marks marks′ : List Bool} → Holds easts norths marks (linesOver (take i (linesOf m)) f)
         → Holds easts′ norths′ marks′ (putAt (line .radio) (cond (not (eqb (line .placed) 0)) (some (record { east = line .east; north = line .north })) none) (placesIn easts norths marks))
         → Holds easts′ norths′ marks′ (linesOver (take (i + 1) (linesOf m)) f)
     unfolding linesOf linesOver
     lines-turn f {easts} {norths} {easts′} {norths′} {marks} {marks′} h k =
-        over-turn _ f _ _ (lineRow line) (mapped-turn (m .rows) (m .n) i noLine (omega arith) more lineRow) h
+        over-turn _ f _ _ (lineRow line) (rw read (mapped-turn (linesIn (m .words)) (m .n) i noLine inside more lineRow)) h
         (subst (λ (o : Option Place). Holds easts′ norths′ marks′ (putAt (line .radio) o (placesIn easts norths marks))) (cond-not (eqb (line .placed) 0) _ none) k)
 
   pub lines-end : (i : ℕ) (f : Places) {easts norths : List ℕ} {marks : List Bool} → m .n ≤ i → Holds easts norths marks (linesOver (take i (linesOf m)) f) → Holds easts norths marks (linesOver (linesOf m) f)
   unfolding linesOf linesOver
-  lines-end i f k h = over-end _ f _ _ (mapped-end (m .rows) (m .n) i k lineRow) h
+  lines-end i f k h = over-end _ f _ _ (mapped-end (linesIn (m .words)) (m .n) i k lineRow) h
 
 -- ---- the waiting reports
 

@@ -17,13 +17,13 @@ ghost use Rattle.rules.specs.Grid.{within, inside};
 ghost use Rattle.rules.specs.Carry.{inRange, listBytes, bytesOf};
 ghost use Rattle.rules.specs.Plain.{putAt};
 ghost use Rattle.rules.specs.Told.{toldList};
-ghost use Rattle.desk.specs.Layout.{lineSlots};
+ghost use Rattle.desk.specs.Layout.{lineSlots, lineFields};
 ghost use Rattle.desk.specs.Views.{slotsIn, edgesOf, radiosOf};
 ghost use Rattle.memo.specs.Memo.{linesOf};
 ghost use Rattle.waiting.specs.Waiting.{reportsOf};
 ghost use Rattle.range.specs.Range.{rectOf, noPlaces, placesIn, radioSlots, Columns, Holds, over, entriesOver, linesOver, reportsOver, meets, touches, entriesFrom, slotOver, placesOf, isFound, rowAt, rowsAt, foundIn, Readable};
+use desk::Desk;
 use desk::Directory;
-use desk::Memo;
 use desk::On;
 use desk::Slot;
 use desk::Waiting;
@@ -194,18 +194,18 @@ fn hold_cells(
 
 // A line's place is that of the one entry of its radio that isn't stale.
 fn hold_lines(
-    memo: Memo,
+    words: &[u16; Desk::MEMO_WORDS],
+    lines: usize,
     easts: &mut [u16; RADIO_SLOTS],
     norths: &mut [u16; RADIO_SLOTS],
     marks: &mut [bool; RADIO_SLOTS],
 )
-    requires { ⌜ Columns (now easts) (now norths) (now marks) × (memo .n ≤ lineSlots) × UpTo maxRadio (linesOf memo) ⌝ }
-    ensures { λ _. ⌜ Holds (now (easts .exit)) (now (norths .exit)) (now (marks .exit)) (linesOver (linesOf memo) (placesIn (now (easts .entry)) (now (norths .entry)) (now (marks .entry)))) ⌝ }
+    requires { ⌜ Columns (now easts) (now norths) (now marks) × (length (now words) ≡ lineFields * lineSlots) × (lines ≤ lineSlots) × UpTo maxRadio (linesOf (record { n = lines; words = now words })) ⌝ }
+    ensures { λ _. ⌜ Holds (now (easts .exit)) (now (norths .exit)) (now (marks .exit)) (linesOver (linesOf (record { n = lines; words = now (words .entry) })) (placesIn (now (easts .entry)) (now (norths .entry)) (now (marks .entry)))) ⌝ }
 {
-    let n = memo.n;
     let mut i: usize = 0;
-    while i < n {
-        let x = memo.rows[i];
+    while i < lines {
+        let x = desk::line_at(words, i);
         hold(
             easts,
             norths,
@@ -244,16 +244,17 @@ fn hold_all(
     area: Rectangle,
     cells: Directory,
     waiting: Waiting,
-    memo: Memo,
+    words: &[u16; Desk::MEMO_WORDS],
+    lines: usize,
     easts: &mut [u16; RADIO_SLOTS],
     norths: &mut [u16; RADIO_SLOTS],
     marks: &mut [bool; RADIO_SLOTS],
 )
-    requires { ⌜ Holds (now easts) (now norths) (now marks) noPlaces × Readable (now pages) cells waiting memo ⌝ }
-    ensures { λ _. ⌜ Holds (now (easts .exit)) (now (norths .exit)) (now (marks .exit)) (placesOf (now (pages .entry)) (rectOf area) (slotsIn cells) (linesOf memo) (reportsOf waiting)) ⌝ }
+    requires { ⌜ Holds (now easts) (now norths) (now marks) noPlaces × (length (now words) ≡ lineFields * lineSlots) × Readable (now pages) cells waiting (record { n = lines; words = now words }) ⌝ }
+    ensures { λ _. ⌜ Holds (now (easts .exit)) (now (norths .exit)) (now (marks .exit)) (placesOf (now (pages .entry)) (rectOf area) (slotsIn cells) (linesOf (record { n = lines; words = now (words .entry) })) (reportsOf waiting)) ⌝ }
 {
     hold_cells(pages, area, cells, easts, norths, marks);
-    hold_lines(memo, easts, norths, marks);
+    hold_lines(words, lines, easts, norths, marks);
     hold_reports(waiting, easts, norths, marks);
 }
 
@@ -346,12 +347,13 @@ pub fn list(
     area: Rectangle,
     cells: Directory,
     waiting: Waiting,
-    memo: Memo,
+    words: &[u16; Desk::MEMO_WORDS],
+    lines: usize,
     on: On,
     buffer: &mut [u8],
 ) -> Listed
-    requires { ⌜ Readable (now pages) cells waiting memo × (on .n ≤ maxOn) × UpTo maxRadio (radiosOf on) ⌝ }
-    ensures { λ r. ⌜ record { number = r .number; count = r .count; buffer = now (buffer .exit) } ≡ toldList (foundIn (now (pages .entry)) (rectOf area) cells waiting memo on) (now (buffer .entry)) ⌝ }
+    requires { ⌜ (length (now words) ≡ lineFields * lineSlots) × Readable (now pages) cells waiting (record { n = lines; words = now words }) × (on .n ≤ maxOn) × UpTo maxRadio (radiosOf on) ⌝ }
+    ensures { λ r. ⌜ record { number = r .number; count = r .count; buffer = now (buffer .exit) } ≡ toldList (foundIn (now (pages .entry)) (rectOf area) cells waiting (record { n = lines; words = now (words .entry) }) on) (now (buffer .entry)) ⌝ }
 {
     let mut easts = [0u16; RADIO_SLOTS];
     let mut norths = [0u16; RADIO_SLOTS];
@@ -361,7 +363,8 @@ pub fn list(
         area,
         cells,
         waiting,
-        memo,
+        words,
+        lines,
         &mut easts,
         &mut norths,
         &mut marks,

@@ -142,8 +142,8 @@ fn show_unused(desk: Desk, buffer: &[u8]) {
 }
 
 fn show_last(desk: Desk, buffer: &[u8]) {
-    let mut memo = desk.memo;
-    memo.rows[1150] = small::line(0, 0, 0, 0, 1);
+    let old = desk.memo;
+    let memo = small::with_line(old, 1150, small::line(0, 0, 0, 0, 1));
     try_desk(
         b"number past the lines",
         small::with_memo(desk, memo),

@@ -23,8 +23,8 @@ fn show_on(desk: Desk, buffer: &[u8]) {
     waiting.n = 1;
     try_waiting(b"radio on with neither", desk, buffer, waiting);
     try_marks(b"radio on with both", desk, buffer, 1, 1);
-    let mut memo = desk.memo;
-    memo.rows[1] = small::line(0, 0, 0, 0, 0);
+    let old = desk.memo;
+    let mut memo = small::with_line(old, 1, small::line(0, 0, 0, 0, 0));
     memo.n = 1;
     try_memo(b"radio on with two entries", desk, buffer, memo);
 }

@@ -8,14 +8,18 @@ use desk::Desk;
 pub fn sound(desk: Desk, pages: &[u8]) -> bool
     ensures { λ r. ⌜ (r ≡ true → Sound desk (now (pages .entry))) × (Sound desk (now (pages .entry)) → r ≡ true) ⌝ }
 {
-    if !sound_desk::desk_sound(desk) {
+    let grid = desk.grid;
+    let waiting = desk.waiting;
+    let on = desk.on;
+    let tally = desk.tally;
+    let n = desk.memo.n;
+    if !sound_desk::desk_sound(grid, waiting, &desk.memo.words, n, on, tally) {
         return false;
     }
-    let grid = desk.grid;
     let cells = grid.cells;
     let free = grid.free;
     if !sound_pages::pages_sound(pages, cells, free) {
         return false;
     }
-    sound_radios::radios_sound(pages, desk)
+    sound_radios::radios_sound(pages, grid, waiting, &desk.memo.words, n, on, tally)
 }

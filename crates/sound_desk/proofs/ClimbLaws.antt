@@ -66,3 +66,18 @@ module _ {A : Type 0} {radio : A → ℕ} {p : A → Bool} {xs : List A} {n last
 
   pub climb-end : n ≤ i → true ≡ climbs radio p 0 (take n xs)
   climb-end h = sym (climbs-nil radio p last) ∙ ap (climbs radio p last) (sym (used-none xs n i h)) ∙ r .same
+
+-- the same of an element that a function has read
+module _ {A : Type 0} {radio : A → ℕ} {p : A → Bool} {xs : List A} {n last i : ℕ} (r : Climbs radio p xs n last i) (more : i < n) (d : A) {x : A} (read : x ≡ getD xs i d) {a : Bool} (said : a ≡ both (ltb last (radio x)) (leb (radio x) maxRadio)) where
+  said-of : a ≡ both (ltb last (radio (getD xs i d))) (leb (radio (getD xs i d)) maxRadio)
+  said-of = said ∙ ap (λ (y : A). both (ltb last (radio y)) (leb (radio y) maxRadio)) read
+
+  pub read-stops : not a ≡ true → false ≡ climbs radio p 0 (take n xs)
+  read-stops f = climb-stops r more d said-of f
+
+  module _ {b : Bool} (passed : b ≡ p x) where
+    pub read-fails : not b ≡ true → false ≡ climbs radio p 0 (take n xs)
+    read-fails f = climb-fails r more d said-of (passed ∙ ap p read) f
+
+    pub read-turn : {k : ℕ} → not a ≡ false → not b ≡ false → k ≡ radio x → Climbs radio p xs n k (i + 1)
+    read-turn f g e = climb-turn r more d said-of (passed ∙ ap p read) f g (e ∙ ap radio read)

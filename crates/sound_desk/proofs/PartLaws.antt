@@ -5,13 +5,14 @@ use mathlib.Core.Bool.{Bool, true, false, cond}
 use mathlib.Core.List.{List, [], _∷_, map}
 use mathlib.Core.Logic.{_≢_}
 use mathlib.Core.Option.{Option, none, some}
-use Prim.Native.Nat.{ℕ, _-_, _≤_, _<_}
+use Prim.Native.Nat.{ℕ, zero, suc, _*_, _≤_, _<_}
 use native.Mathlib.Omega.{arith}
 use lib.Dec.{eqb, leb, ltb}
 use lib.ListN.{length, take, length-map}
 use borrow.Author.Tests.{lt-ltb, le-ltb, le-leb, ltb-true, leb-true, eqb-true, eqb-false, eq-eqb, ne-eqb}
 use Rattle.terms.specs.Terms.{Place, maxRadio, maxOn}
 use Rattle.lists.specs.Rows.{Row, Rows}
+use Rattle.lists.specs.Sums.{sumBy}
 use Rattle.lists.specs.Tests.{one-if, both, either, all}
 use Rattle.lists.proofs.Cases.{by-cases}
 use Rattle.lists.proofs.TestsLaws.{both-left, both-right, both-intro, both-left-false, both-right-false, either-cases}
@@ -22,11 +23,12 @@ use Rattle.desk.specs.declared.Waiting.{Waiting}
 use Rattle.desk.specs.declared.Line.{Line}
 use Rattle.desk.specs.declared.Memo.{Memo}
 use Rattle.desk.specs.declared.On.{On}
-use Rattle.desk.specs.Layout.{lineSlots, slotted, reportOf, noReport, waitingOf, lineWith, lineOf, noLine, memoOf, onOf}
-use Rattle.desk.specs.Views.{radioRow, radiosOf}
+use Rattle.desk.specs.Layout.{lineSlots, lineFields, slotted, reportOf, noReport, waitingOf, lineWith, lineOf, noLine, memoOf, onOf}
+use Rattle.desk.specs.Views.{linesIn, radioRow, radiosOf}
+use Rattle.desk.proofs.LinesLaws.{lines-laid, words-laid, length-lines-in}
 use Rattle.desk.proofs.UniqueLaws.{take-waiting, take-memo, take-on}
 use Rattle.memo.specs.Memo.{lastOf, rowOf, linesOf}
-use Rattle.memo.proofs.MemoLaws.{lines-memo}
+use Rattle.memo.proofs.MemoLaws.{lines-memo, count-memo}
 use Rattle.mirror.specs.Loops.{risesTo, keys}
 use Rattle.mirror.specs.Grid.{placeTest}
 use Rattle.mirror.specs.Radios.{onTest, memoTest, lastTest, lastsTest}
@@ -256,9 +258,33 @@ line-back x t =
     let o = eqb-true (x .north) 0 (both-right (eqb (x .east) 0) (eqb (x .north) 0) v) in
     rw z (λ i. record { radio = x .radio; missed = x .missed; placed = e i; east = a i; north = o i }))
 
+-- the array's numbers from a line on weigh what its lines from there on weigh
+lines-weigh : (k : ℕ) (ws : List ℕ) → length ws ≡ lineFields * k → sumBy number ws ≡ sumBy lineWeight (linesIn ws)
+unfolding sumBy linesIn
+lines-weigh k [] h = refl
+lines-weigh zero (r ∷ ws) h = absurd (omega arith)
+lines-weigh (suc k) (r ∷ []) h = absurd (omega arith)
+lines-weigh (suc k) (r ∷ m ∷ []) h = absurd (omega arith)
+lines-weigh (suc k) (r ∷ m ∷ p ∷ []) h = absurd (omega arith)
+lines-weigh (suc k) (r ∷ m ∷ p ∷ e ∷ []) h = absurd (omega arith)
+lines-weigh (suc k) (r ∷ m ∷ p ∷ e ∷ n ∷ rest) h = let q = lines-weigh k rest (omega arith) in omega arith
+
+rest-weighs : (i k : ℕ) (ws : List ℕ) → length ws ≡ lineFields * k → weighs number (lineFields * i) ws ≡ weighs lineWeight i (linesIn ws)
+unfolding weighs sumBy linesIn
+rest-weighs zero k ws h = lines-weigh k ws h
+rest-weighs (suc i) k [] h = let z : lineFields * suc i ≡ suc (suc (suc (suc (suc (lineFields * i))))) = omega arith in rw z refl
+rest-weighs (suc i) zero (r ∷ ws) h = absurd (omega arith)
+rest-weighs (suc i) (suc k) (r ∷ []) h = absurd (omega arith)
+rest-weighs (suc i) (suc k) (r ∷ m ∷ []) h = absurd (omega arith)
+rest-weighs (suc i) (suc k) (r ∷ m ∷ p ∷ []) h = absurd (omega arith)
+rest-weighs (suc i) (suc k) (r ∷ m ∷ p ∷ e ∷ []) h = absurd (omega arith)
+rest-weighs (suc i) (suc k) (r ∷ m ∷ p ∷ e ∷ n ∷ rest) h =
+    let z : lineFields * suc i ≡ suc (suc (suc (suc (suc (lineFields * i))))) = omega arith in
+    rw z (rest-weighs i k rest (omega arith))
+
 module _ (m : Memo) where
   abbrev noted : List Line
-  noted = take (m .n) (m .rows)
+  noted = take (m .n) (linesIn (m .words))
 
   abbrev linesRest : Bool
   linesRest = both (all lineMarked noted) (both (missedTest (linesOf m)) (lastsTest (linesOf m)))
@@ -268,11 +294,7 @@ module _ (m : Memo) where
 
   pub memo-long : lineSlots < m .n → false ≡ memoSound m
   unfolding memoSound
-  memo-long h = sym (both-left-false linesOk (slots-long lineWeight lineSlots (m .n) (m .rows) h))
-
-  pub memo-heavy : {k s : ℕ} → Weighed lineWeight (m .rows) lineSlots (m .n) k s → lineSlots ≤ k → s ≢ 0 → false ≡ memoSound m
-  unfolding memoSound
-  memo-heavy r e h = sym (both-left-false linesOk (slots-heavy lineWeight lineSlots (m .n) (m .rows) (weighed-end r e) h))
+  memo-long h = sym (both-left-false linesOk (slots-long lineWeight lineSlots (m .n) (linesIn (m .words)) h))
 
   memo-used : climbs (λ x. x .radio) lineTest 0 noted ≡ linesOk
   unfolding climbs memoTest missedTest lastsTest linesOf
@@ -283,22 +305,32 @@ module _ (m : Memo) where
       ∙ ap (both (all lineMarked noted)) (all-both (λ x. ltb 0 (x .missed)) (λ x. lastTest (lastOf x)) noted
       ∙ ap₂ both (sym (all-map (λ (x : Row StoreLine). ltb 0 (x .val .missed)) rowOf noted)) (sym (all-map (λ (x : Row StoreLine). lastTest (x .val .last)) rowOf noted))))
 
-  pub memo-climb : {k s : ℕ} {r : Bool} → m .n ≤ lineSlots → Weighed lineWeight (m .rows) lineSlots (m .n) k s → lineSlots ≤ k → s ≡ 0 → r ≡ climbs (λ x. x .radio) lineTest 0 (take (m .n) (m .rows)) → r ≡ memoSound m
-  unfolding memoSound
-  memo-climb h r e z q = q ∙ memo-used ∙ sym (true-both linesOk (slots-fit lineWeight lineSlots (m .n) (m .rows) h (weighed-end r e) z))
+  module _ (size : length (m .words) ≡ lineFields * lineSlots) {k s : ℕ} (from : k ≡ lineFields * m .n) (said : s ≡ weighs number k (m .words)) where
+    weight : s ≡ weighs lineWeight (m .n) (linesIn (m .words))
+    weight = said ∙ ap (λ (j : ℕ). weighs number j (m .words)) from ∙ rest-weighs (m .n) lineSlots (m .words) size
 
-  memo-laid : length (m .rows) ≡ lineSlots → slotsTest lineWeight lineSlots (m .n) (m .rows) ≡ true → all lineMarked noted ≡ true → m ≡ memoOf (linesOf m)
-  unfolding memoOf linesOf
-  memo-laid l s t =
-      let n = slots-used lineWeight lineSlots (m .n) (m .rows) s lineSlots l (omega arith) ∙ sym (length-map noted rowOf) in
-      let a = slots-slotted lineWeight lineSlots (m .n) (m .rows) s lineSlots l (omega arith) noLine line-nothing ∙ ap (slotted lineSlots noLine) (map-back lineOf rowOf lineMarked noted line-back t) in
-      λ i. record { n = n i; rows = a i }
+    pub memo-heavy : s ≢ 0 → false ≡ memoSound m
+    unfolding memoSound
+    memo-heavy h = sym (both-left-false linesOk (slots-heavy lineWeight lineSlots (m .n) (linesIn (m .words)) weight h))
 
-  pub memo-whole : length (m .rows) ≡ lineSlots → memoSound m ≡ true → (m ≡ memoOf (linesOf m)) × (memoTest (linesOf m) ≡ true) × (missedTest (linesOf m) ≡ true) × (lastsTest (linesOf m) ≡ true)
+    pub memo-climb : {r : Bool} → m .n ≤ lineSlots → s ≡ 0 → r ≡ climbs (λ x. x .radio) lineTest 0 (take (m .n) (linesIn (m .words))) → r ≡ memoSound m
+    unfolding memoSound
+    memo-climb h z q = q ∙ memo-used ∙ sym (true-both linesOk (slots-fit lineWeight lineSlots (m .n) (linesIn (m .words)) h weight z))
+
+  memo-laid : length (m .words) ≡ lineFields * lineSlots → slotsTest lineWeight lineSlots (m .n) (linesIn (m .words)) ≡ true → all lineMarked noted ≡ true → m ≡ memoOf (linesOf m)
+  unfolding linesOf memoOf
+  memo-laid size s t =
+      let l = length-lines-in lineSlots (m .words) size in
+      let n : m .n ≡ memoOf (linesOf m) .n = slots-used lineWeight lineSlots (m .n) (linesIn (m .words)) s lineSlots l (omega arith) ∙ sym (length-map noted rowOf) in
+      let a = slots-slotted lineWeight lineSlots (m .n) (linesIn (m .words)) s lineSlots l (omega arith) noLine line-nothing ∙ ap (slotted lineSlots noLine) (map-back lineOf rowOf lineMarked noted line-back t) in
+      let w : m .words ≡ memoOf (linesOf m) .words = words-laid (m .words) (linesOf m) size a in
+      λ i. record { n = n i; words = w i }
+
+  pub memo-whole : length (m .words) ≡ lineFields * lineSlots → memoSound m ≡ true → (m ≡ memoOf (linesOf m)) × (memoTest (linesOf m) ≡ true) × (missedTest (linesOf m) ≡ true) × (lastsTest (linesOf m) ≡ true)
   unfolding memoSound
   memo-whole l t =
-      let s = both-left (slotsTest lineWeight lineSlots (m .n) (m .rows)) linesOk t in
-      let o = both-right (slotsTest lineWeight lineSlots (m .n) (m .rows)) linesOk t in
+      let s = both-left (slotsTest lineWeight lineSlots (m .n) (linesIn (m .words))) linesOk t in
+      let o = both-right (slotsTest lineWeight lineSlots (m .n) (linesIn (m .words))) linesOk t in
       let b = both-right (memoTest (linesOf m)) linesRest o in
       let d = both-right (all lineMarked noted) (both (missedTest (linesOf m)) (lastsTest (linesOf m))) b in (
         memo-laid l s (both-left (all lineMarked noted) (both (missedTest (linesOf m)) (lastsTest (linesOf m))) b),
@@ -307,9 +339,10 @@ module _ (m : Memo) where
         both-right (missedTest (linesOf m)) (lastsTest (linesOf m)) d,
       )
 
-memo-slots : (l : Rows StoreLine) → length l ≤ lineSlots → slotsTest lineWeight lineSlots (memoOf l .n) (memoOf l .rows) ≡ true
-unfolding memoOf
-memo-slots l h = rw (← length-map l lineOf) (slotted-slots lineWeight lineSlots lineSlots noLine (map lineOf l) refl (rw (length-map l lineOf) h))
+memo-slots : (l : Rows StoreLine) → length l ≤ lineSlots → slotsTest lineWeight lineSlots (memoOf l .n) (linesIn (memoOf l .words)) ≡ true
+memo-slots l h =
+    ap₂ (slotsTest lineWeight lineSlots) (count-memo l ∙ sym (length-map l lineOf)) (lines-laid l)
+    ∙ slotted-slots lineWeight lineSlots lineSlots noLine (map lineOf l) refl (rw (length-map l lineOf) h)
 
 line-marked : (r m : ℕ) (o : Option Place) → lineMarked (lineWith r m o) ≡ true
 unfolding both either

@@ -3,7 +3,7 @@
 use mathlib.Core.Bool.{Bool, true}
 use mathlib.Core.List.{List, [], _∷_, map}
 use mathlib.Core.Path.{_≡_}
-use Prim.Native.Nat.{ℕ, suc, _+_, _-_}
+use Prim.Native.Nat.{ℕ, suc, _+_, _*_}
 use lib.Dec.{eqb, leb, ltb}
 use lib.ListN.{length, set, take}
 use Rattle.terms.specs.Terms.{maxRadio, maxOn}
@@ -19,8 +19,8 @@ use Rattle.desk.specs.declared.Line.{Line}
 use Rattle.desk.specs.declared.Memo.{Memo}
 use Rattle.desk.specs.declared.On.{On}
 use Rattle.desk.specs.declared.Desk.{Desk}
-use Rattle.desk.specs.Layout.{lineSlots}
-use Rattle.desk.specs.Views.{cutsBy, radiosOf, slotsIn}
+use Rattle.desk.specs.Layout.{lineSlots, lineFields}
+use Rattle.desk.specs.Views.{cutsBy, linesIn, radiosOf, slotsIn}
 use Rattle.memo.specs.Memo.{lastOf, linesOf}
 use Rattle.mirror.specs.Grid.{cutsTest, placeTest, edgesTest, tileTest}
 use Rattle.mirror.specs.Cells.{numbersOf, edgesOf, numbersTest, roundTest}
@@ -70,8 +70,8 @@ lineTest x = both (lineMarked x) (both (ltb 0 (x .missed)) (lastTest (lastOf x))
 
 unfoldable pub memoSound : Memo → Bool
 memoSound m =
-    both (slotsTest lineWeight lineSlots (m .n) (m .rows))
-    (both (memoTest (linesOf m)) (both (all lineMarked (take (m .n) (m .rows))) (both (missedTest (linesOf m)) (lastsTest (linesOf m)))))
+    both (slotsTest lineWeight lineSlots (m .n) (linesIn (m .words)))
+    (both (memoTest (linesOf m)) (both (all lineMarked (take (m .n) (linesIn (m .words)))) (both (missedTest (linesOf m)) (lastsTest (linesOf m)))))
 
 -- ---- waiting reports against cuts and who is on
 
@@ -142,5 +142,5 @@ pub record Shaped (d : Desk) : Type 0 where
   pub norths : length (d .grid .norths .at) ≡ maxCuts
   pub cells : length (d .grid .cells .slots) ≡ maxCells
   pub waiting : length (d .waiting .rows) ≡ fullMemory
-  pub memo : length (d .memo .rows) ≡ lineSlots
+  pub memo : length (d .memo .words) ≡ lineFields * lineSlots
   pub on : length (d .on .radios) ≡ maxOn

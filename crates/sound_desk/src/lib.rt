@@ -8,15 +8,16 @@ ghost use Rattle.terms.specs.Terms.{maxRadio, maxOn};
 ghost use Rattle.lists.specs.Rows.{UpTo};
 ghost use Rattle.lists.specs.Tests.{either};
 ghost use Rattle.rules.specs.Limits.{maxCuts, fullMemory};
+ghost use Rattle.desk.specs.Layout.{lineSlots, lineFields};
 ghost use Rattle.desk.specs.Views.{radioRow, radiosOf};
 ghost use Rattle.sound_grid.specs.Sound.{mostField};
 ghost use Rattle.sound_desk.specs.Views.{reportsOf};
-ghost use Rattle.sound_desk.specs.Sound.{onSound, reportWeight, reportTest, waitingSound, lineWeight, lineTest, memoSound, fewSound, markSlots, marked, unmarkedSound, radiosSound, deskSound};
+ghost use Rattle.sound_desk.specs.Sound.{onSound, reportWeight, reportTest, waitingSound, lineTest, memoSound, fewSound, markSlots, marked, unmarkedSound, radiosSound, deskSound};
 use boxes::BOXES;
 use desk::CutList;
 use desk::Desk;
+use desk::Grid;
 use desk::Line;
-use desk::Memo;
 use desk::On;
 use desk::Report;
 use desk::Waiting;
@@ -104,12 +105,6 @@ pub fn waiting_sound(w: Waiting) -> bool
 
 // ---- the memo
 
-fn line_weight(x: Line) -> u32
-    ensures { λ r. ⌜ (r ≡ lineWeight x) × (r ≤ 5 * mostField) ⌝ }
-{
-    wide(x.radio) + wide(x.missed) + wide(x.placed) + wide(x.east) + wide(x.north)
-}
-
 // Whether a line has missed 1 or more, and is marked 1, or 0 with the place zero; a place is one, for its fields have 16 bits.
 fn line_ok(x: Line) -> bool
     ensures { λ r. ⌜ r ≡ lineTest x ⌝ }
@@ -129,26 +124,21 @@ fn line_ok(x: Line) -> bool
     x.north == 0
 }
 
-// Whether the memo is sound, in the same way.
-pub fn memo_sound(m: Memo) -> bool
-    ensures { λ r. ⌜ r ≡ memoSound m ⌝ }
+// Whether the memo is sound: its unused fields are zero, its lines' radios rise and each line is one.
+pub fn memo_sound<'a>(words: &'a [u16; Desk::MEMO_WORDS], n: usize) -> bool
+    requires { ⌜ length (now words) ≡ lineFields * lineSlots ⌝ }
+    ensures { λ r. ⌜ r ≡ memoSound (record { n = n; words = now (words .entry) }) ⌝ }
 {
-    if LINE_SLOTS < m.n {
+    if LINE_SLOTS < n {
         return false;
     }
-    let mut sum: u32 = 0;
-    let mut k = m.n;
-    while k < LINE_SLOTS {
-        sum = sum + line_weight(m.rows[k]);
-        k += 1;
-    }
-    if sum != 0 {
+    if rest(words, Desk::LINE_FIELDS * n) != 0 {
         return false;
     }
     let mut last: u16 = 0;
     let mut i: usize = 0;
-    while i < m.n {
-        let x = m.rows[i];
+    while i < n {
+        let x = desk::line_at(words, i);
         if !goes_on(last, x.radio, terms::MAX_RADIO) {
             return false;
         }
@@ -253,24 +243,29 @@ fn radios_sound(easts: CutList, norths: CutList, w: Waiting, on: On) -> bool
     unmarked_sound(w, on)
 }
 
-// Whether a desk in any condition is sound, as far as that shows without the pages.
-pub fn desk_sound(desk: Desk) -> bool
-    ensures { λ r. ⌜ r ≡ deskSound desk ⌝ }
+// Whether a desk in any condition is sound, as far as that shows without the pages. It comes in its parts, for the memo is lent.
+pub fn desk_sound<'a>(
+    grid: Grid,
+    waiting: Waiting,
+    words: &'a [u16; Desk::MEMO_WORDS],
+    n: usize,
+    on: On,
+    tally: u16,
+) -> bool
+    requires { ⌜ length (now words) ≡ lineFields * lineSlots ⌝ }
+    ensures { λ r. ⌜ r ≡ deskSound (record { grid = grid; waiting = waiting; memo = record { n = n; words = now (words .entry) }; on = on; tally = tally }) ⌝ }
 {
-    let grid = desk.grid;
     let easts = grid.easts;
     let norths = grid.norths;
     let cells = grid.cells;
     if !grid_sound(easts, norths, cells) {
         return false;
     }
-    let waiting = desk.waiting;
-    let on = desk.on;
     if !radios_sound(easts, norths, waiting, on) {
         return false;
     }
-    if !memo_sound(desk.memo) {
+    if !memo_sound(words, n) {
         return false;
     }
-    desk.tally < Desk::SWEEP_EVERY
+    tally < Desk::SWEEP_EVERY
 }

@@ -5,7 +5,6 @@ ghost use mathlib.Core.List.{[], _∷_};
 ghost use Prim.Native.Nat.{_+_, _*_, _<_, _≤_, min};
 ghost use lib.Dec.{leb, ltb};
 ghost use lib.ListN.{length, take};
-ghost use Rattle.terms.specs.Terms.{maxOn};
 ghost use Rattle.lists.specs.Sums.{count};
 ghost use Rattle.lists.specs.Tests.{one-if, both};
 ghost use Rattle.rules.specs.Limits.{maxCells, maxCuts};
@@ -61,7 +60,7 @@ pub fn rises(slots: &[u16], n: usize, top: u16) -> bool
 
 // What the slots from n on weigh.
 pub fn rest(slots: &[u16], n: usize) -> u32
-    requires { ⌜ (n ≤ length (now slots)) × (length (now slots) ≤ maxOn) ⌝ }
+    requires { ⌜ (n ≤ length (now slots)) × (length (now slots) ≤ mostField) ⌝ }
     ensures { λ r. ⌜ r ≡ weighs number n (now (slots .entry)) ⌝ }
 {
     let mut sum: u32 = 0;

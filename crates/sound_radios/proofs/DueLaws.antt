@@ -1,7 +1,7 @@
 -- Loops over radios on, waiting reports and memo lines: each row is added or written at its radio.
 use mathlib.Core.Path.{_≡_, refl, sym, ap, _∙_, subst}
 use mathlib.Core.List.{List, _∷_}
-use Prim.Native.Nat.{ℕ, _+_, _-_, _*_, _≤_, _<_, min}
+use Prim.Native.Nat.{ℕ, _+_, _*_, _≤_, _<_, min}
 use native.Mathlib.Omega.{arith}
 use lib.Dec.{eqb}
 use lib.ListN.{length, getD, set, drop}
@@ -15,8 +15,9 @@ use Rattle.desk.specs.declared.Waiting.{Waiting}
 use Rattle.desk.specs.declared.Line.{Line}
 use Rattle.desk.specs.declared.Memo.{Memo}
 use Rattle.desk.specs.declared.On.{On}
-use Rattle.desk.specs.Layout.{noReport, lineSlots, noLine}
-use Rattle.desk.specs.Views.{radioRow, radiosOf}
+use Rattle.desk.specs.Layout.{noReport, lineSlots, lineFields, noLine}
+use Rattle.desk.specs.Views.{linesIn, radioRow, radiosOf}
+use Rattle.desk.proofs.LinesLaws.{length-lines-in}
 use Rattle.memo.specs.Memo.{lastOf, rowOf, linesOf}
 use Rattle.sound_desk.specs.Views.{reportRow, reportsOf}
 use Rattle.sound_radios.specs.Tables.{fieldEnd, half, kindOf, codeOf, Spare, added, written, each, markNew, missedDue, lastKind, lastCode}
@@ -78,22 +79,19 @@ lines-start m due kinds codes s = record { missed = refl; kind = refl; code = re
 
 written-last : (v : Row StoreLine → ℕ) (m : Memo) (t₀ : List ℕ) {i : ℕ} {t : List ℕ} → m .n ≤ i → written v t (drop i (linesOf m)) ≡ written v t₀ (linesOf m) → t ≡ written v t₀ (linesOf m)
 unfolding linesOf written
-written-last v m t₀ {i} {t} h e = ap (written v t) (sym (row-none rowOf (m .rows) (m .n) i h)) ∙ e
+written-last v m t₀ {i} {t} h e = ap (written v t) (sym (row-none rowOf (linesIn (m .words)) (m .n) i h)) ∙ e
 
 module _ (m : Memo) {due₀ kinds₀ codes₀ : List ℕ} {i : ℕ} {due kinds codes : List ℕ} where
   pub lines-end : LinesDue m due₀ kinds₀ codes₀ i due kinds codes → m .n ≤ i
       → (due ≡ written missedDue due₀ (linesOf m)) × (kinds ≡ written lastKind kinds₀ (linesOf m)) × (codes ≡ written lastCode codes₀ (linesOf m)) × Spare (half - 1) due
   lines-end l h = (written-last missedDue m due₀ h (l .missed), written-last lastKind m kinds₀ h (l .kind), written-last lastCode m codes₀ h (l .code), l .spare)
 
-module _ (m : Memo) {i : ℕ} (size : length (m .rows) ≡ lineSlots) (few : m .n ≤ lineSlots) (more : i < m .n) where
-  abbrev line : Line
-  line = getD (m .rows) i noLine
-
+module _ (m : Memo) {i : ℕ} (size : length (m .words) ≡ lineFields * lineSlots) (few : m .n ≤ lineSlots) (more : i < m .n) {line : Line} (read : line ≡ getD (linesIn (m .words)) i noLine) where
   line-next : drop i (linesOf m) ≡ rowOf line ∷ drop (i + 1) (linesOf m)
   unfolding linesOf
-  line-next = row-next rowOf (m .rows) (m .n) i noLine (omega arith) more
+  line-next = rw read (row-next rowOf (linesIn (m .words)) (m .n) i noLine (let l = length-lines-in lineSlots (m .words) size in omega arith) more)
 
-  pub line-radio : UpTo maxRadio (linesOf m) → getD (m .rows) i noLine .radio ≤ maxRadio
+  pub line-radio : UpTo maxRadio (linesOf m) → line .radio ≤ maxRadio
   line-radio u = subst (λ (l : Rows StoreLine). UpTo maxRadio l) line-next (each-drop (λ x. x .key ≤ maxRadio) i (linesOf m) u) .0
 
   written-next : (v : Row StoreLine → ℕ) (t₀ t : List ℕ) {k n : ℕ} → k ≡ line .radio → n ≡ v (rowOf line) → written v t (drop i (linesOf m)) ≡ written v t₀ (linesOf m)
@@ -101,8 +99,8 @@ module _ (m : Memo) {i : ℕ} (size : length (m .rows) ≡ lineSlots) (few : m .
   unfolding written
   written-next v t₀ t p q e = rw (p, q) (rw line-next at e)
 
-  pub lines-turn : {due₀ kinds₀ codes₀ due kinds codes : List ℕ} {k a b c : ℕ} → LinesDue m due₀ kinds₀ codes₀ i due kinds codes → k ≡ getD (m .rows) i noLine .radio
-      → a ≡ half * min (getD (m .rows) i noLine .missed) (half - 1) → a + (half - 1) < fieldEnd → b ≡ kindOf (lastOf (getD (m .rows) i noLine)) → c ≡ codeOf (lastOf (getD (m .rows) i noLine))
+  pub lines-turn : {due₀ kinds₀ codes₀ due kinds codes : List ℕ} {k a b c : ℕ} → LinesDue m due₀ kinds₀ codes₀ i due kinds codes → k ≡ line .radio
+      → a ≡ half * min (line .missed) (half - 1) → a + (half - 1) < fieldEnd → b ≡ kindOf (lastOf line) → c ≡ codeOf (lastOf line)
       → LinesDue m due₀ kinds₀ codes₀ (i + 1) (set due k a) (set kinds k b) (set codes k c)
   lines-turn {due₀} {kinds₀} {codes₀} {due} {kinds} {codes} {k} {a} {b} {c} l p q h r s = record {
     missed = written-next missedDue due₀ due p q (l .missed);

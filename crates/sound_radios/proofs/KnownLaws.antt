@@ -16,7 +16,8 @@ use Rattle.rules.specs.Limits.{maxCells, fullMemory}
 use Rattle.rules.specs.WellFormed.{InSquareIf}
 use Rattle.desk.specs.declared.Desk.{Desk}
 use Rattle.desk.specs.Layout.{lineSlots, directoryOf, gridOf, waitingOf, memoOf, onOf, deskOf}
-use Rattle.desk.specs.Views.{radiosOf, slotsIn}
+use Rattle.desk.specs.Views.{linesIn, radiosOf, slotsIn}
+use Rattle.desk.proofs.LinesLaws.{length-lines-in}
 use Rattle.memo.specs.Memo.{linesOf}
 use Rattle.mirror.specs.Radios.{lastTest, lastsTest}
 use Rattle.mirror.proofs.RadiosLaws.{on-true, memo-true, last-true}
@@ -65,7 +66,7 @@ module _ (b : List ℕ) (d : Desk) (shape : Shaped d) (sound : deskSound d ≡ t
       let w = waiting-true (reportsOf (d .waiting)) (t .waiting) in
       record {
         few-cells = within cellOf (d .grid .cells .n) maxCells (d .grid .cells .slots) (shape .cells) (counts .0);
-        few-lines = within _ (d .memo .n) lineSlots (d .memo .rows) (shape .memo) (counts .1);
+        few-lines = within _ (d .memo .n) lineSlots (linesIn (d .memo .words)) (length-lines-in lineSlots (d .memo .words) (shape .memo)) (counts .1);
         few-on = within _ (d .on .n) maxOn (d .on .radios) (shape .on) (counts .2);
         few-waiting = within _ (d .waiting .n) fullMemory (d .waiting .rows) (shape .waiting) (counts .3);
         waits = sym (counts .3);

@@ -3,7 +3,7 @@
 ghost use mathlib.Core.Bool.{true, not};
 ghost use mathlib.Core.List.{map};
 ghost use mathlib.Core.Path.{_≡_};
-ghost use Prim.Native.Nat.{_+_, _-_, _*_, _<_, _≤_, min};
+ghost use Prim.Native.Nat.{_+_, _*_, _<_, _≤_, min};
 ghost use lib.Dec.{eqb};
 ghost use lib.ListN.{length, take};
 ghost use Rattle.terms.specs.Terms.{maxRadio, maxOn, pageEntries};
@@ -13,7 +13,7 @@ ghost use Rattle.lists.specs.Tests.{one-if};
 ghost use Rattle.entries.specs.Entries.{rowOf, placeOf};
 ghost use Rattle.page.specs.Page.{pageBytes, entries};
 ghost use Rattle.rules.specs.Limits.{maxCells, fullMemory, sweepEvery};
-ghost use Rattle.desk.specs.Layout.{lineSlots};
+ghost use Rattle.desk.specs.Layout.{lineSlots, lineFields};
 ghost use Rattle.desk.specs.Views.{radiosOf};
 ghost use Rattle.memo.specs.Memo.{lastOf, linesOf};
 ghost use Rattle.mirror.specs.Round.{boundTest};
@@ -24,8 +24,8 @@ ghost use Rattle.sound_radios.specs.Entries.{entriesFrom, rowsRead, entr
 ghost use Rattle.sound_radios.specs.Tables.{tableSize, fieldEnd, half, Spare, added, written, Fits, sameTables, kindOf, codeOf, lastKind, lastCode, staleCode, judged, weigh, markNew, missedDue, each, staleSum};
 use desk::Desk;
 use desk::Directory;
+use desk::Grid;
 use desk::Line;
-use desk::Memo;
 use desk::On;
 use desk::Waiting;
 use entries::Entry;
@@ -244,18 +244,18 @@ fn code_of(x: Line) -> u32
 
 // Each line writes its missed count, and its place in two numbers.
 fn lines_due<'a>(
-    memo: Memo,
+    words: &'a [u16; Desk::MEMO_WORDS],
+    n: usize,
     due: &'a mut [u16; RADIOS],
     kinds: &'a mut [u8; RADIOS],
     codes: &'a mut [u32; RADIOS],
 )
-    requires { ⌜ (memo .n ≤ lineSlots) × UpTo maxRadio (linesOf memo) × Spare (half - 1) (now due) ⌝ }
-    ensures { λ _. ⌜ (now (due .exit) ≡ written missedDue (now (due .entry)) (linesOf memo)) × (now (kinds .exit) ≡ written lastKind (now (kinds .entry)) (linesOf memo)) × (now (codes .exit) ≡ written lastCode (now (codes .entry)) (linesOf memo)) × Spare (half - 1) (now (due .exit)) ⌝ }
+    requires { ⌜ (length (now words) ≡ lineFields * lineSlots) × (n ≤ lineSlots) × UpTo maxRadio (linesOf (record { n = n; words = now words })) × Spare (half - 1) (now due) ⌝ }
+    ensures { λ _. ⌜ (now (due .exit) ≡ written missedDue (now (due .entry)) (linesOf (record { n = n; words = now (words .entry) }))) × (now (kinds .exit) ≡ written lastKind (now (kinds .entry)) (linesOf (record { n = n; words = now (words .entry) }))) × (now (codes .exit) ≡ written lastCode (now (codes .entry)) (linesOf (record { n = n; words = now (words .entry) }))) × Spare (half - 1) (now (due .exit)) ⌝ }
 {
-    let n = memo.n;
     let mut i: usize = 0;
     while i < n {
-        let x = memo.rows[i];
+        let x = desk::line_at(words, i);
         let k = radio_index(x.radio);
         due[k] = missed_due(x);
         kinds[k] = kind_of(x);
@@ -325,26 +325,30 @@ fn bound_ok(counts: [u16; CELLS], n: usize, waiting: usize, c: u16) -> bool
     true
 }
 
-// Whether the entries are those that memo, marks and who is on call for, and no more stale ones wait for the cleaner than may.
-pub fn radios_sound(pages: &[u8], desk: Desk) -> bool
-    requires { ⌜ (deskSound desk ≡ true) × PagesSound (now pages) (desk .grid .cells) (desk .grid .free) ⌝ }
-    ensures { λ r. ⌜ r ≡ entriesTest (linesOf (desk .memo)) (reportsOf (desk .waiting)) (radiosOf (desk .on)) (desk .tally) (rowsRead (now (pages .entry)) (desk .grid .cells)) ⌝ }
+// Whether the entries are those that memo, marks and who is on call for, and no more stale ones wait for the cleaner than may. The desk comes in its parts, for the memo is lent.
+pub fn radios_sound<'a>(
+    pages: &'a [u8],
+    grid: Grid,
+    waiting: Waiting,
+    words: &'a [u16; Desk::MEMO_WORDS],
+    n: usize,
+    on: On,
+    tally: u16,
+) -> bool
+    requires { ⌜ (length (now words) ≡ lineFields * lineSlots) × (deskSound (record { grid = grid; waiting = waiting; memo = record { n = n; words = now words }; on = on; tally = tally }) ≡ true) × PagesSound (now pages) (grid .cells) (grid .free) ⌝ }
+    ensures { λ r. ⌜ r ≡ entriesTest (linesOf (record { n = n; words = now (words .entry) })) (reportsOf waiting) (radiosOf on) tally (rowsRead (now (pages .entry)) (grid .cells)) ⌝ }
 {
-    let memo = desk.memo;
     let mut due = [0u16; RADIOS];
     let mut kinds = [0u8; RADIOS];
     let mut codes = [0u32; RADIOS];
-    lines_due(memo, &mut due, &mut kinds, &mut codes);
-    let on = desk.on;
+    lines_due(words, n, &mut due, &mut kinds, &mut codes);
     on_due(on, &mut due);
-    let waiting = desk.waiting;
     let mut found = [0u16; RADIOS];
     tally_new(waiting, &mut found);
-    let grid = desk.grid;
     let cells = grid.cells;
     let counts = tally_cells(pages, cells, &kinds, &codes, &mut found);
     if !same(&due, &found) {
         return false;
     }
-    bound_ok(counts, cells.n, waiting.n, desk.tally)
+    bound_ok(counts, cells.n, waiting.n, tally)
 }

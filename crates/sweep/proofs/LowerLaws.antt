@@ -3,7 +3,7 @@ use mathlib.Core.Path.{_≡_, refl, sym, ap, ap₂, _∙_, subst, fun-ext}
 use mathlib.Core.Bool.{Bool, true, false, not, cond}
 use mathlib.Core.List.{List, [], _∷_, _++_, append-nil}
 use mathlib.Core.Option.{Option, none, some, Option·map}
-use Prim.Native.Nat.{ℕ, _+_, _-_, _≤_, _<_}
+use Prim.Native.Nat.{ℕ, _+_, _*_, _≤_, _<_}
 use native.Mathlib.Nat.{add-zero}
 use native.Mathlib.Numerals.{add-one}
 use native.Mathlib.Omega.{arith}
@@ -26,9 +26,11 @@ use Rattle.rules.specs.Sweep.{staleBy, stale, sweptEntries, sweptMemo}
 use Rattle.rules.proofs.BooksLaws.{loweredIf, find-sweptMemo}
 use Rattle.desk.specs.declared.Line.{Line}
 use Rattle.desk.specs.declared.Memo.{Memo}
-use Rattle.desk.specs.Layout.{lineSlots, slotted, noLine, lineOf, memoOf}
+use Rattle.desk.specs.Layout.{lineSlots, lineFields, slotted, noLine, lineOf, memoOf}
+use Rattle.desk.specs.Views.{linesIn}
+use Rattle.desk.proofs.LinesLaws.{lines-none, lines-laid, words-laid}
 use Rattle.memo.specs.Memo.{rowOf, noRow, linesOf, Plain, Whole}
-use Rattle.memo.proofs.MemoLaws.{row-line, plain-recounted}
+use Rattle.memo.proofs.MemoLaws.{row-line, plain-recounted, count-memo}
 use Rattle.waiting.proofs.SlotsLaws.{Slots, slots-push, slots-skip, slots-get}
 use Rattle.sweep.specs.Sweep.{linePlaces, lastsOf, elsewhere, isStale, stay, marked, SweepsAll, lowerIf, lineIf, lowerWhere, markOf}
 use Rattle.sweep.proofs.TableLaws.{rank-map}
@@ -245,47 +247,50 @@ slots-put s r none h = rw (append-nil, add-zero) (slots-skip s h)
 slots-put s r (some v) h = slots-push s (record { key = r; val = v }) h
 
 -- those of the first i lines that stay are in the slots
-pub record Lowering (marks : List Bool) (m : Memo) (i k : ℕ) (rows : List Line) : Type 0 where
-  pub so : Slots lineSlots noLine lineOf (lowerWhere (markOf marks (linesOf m)) (take i (linesOf m))) k rows
+pub record Lowering (marks : List Bool) (m : Memo) (i k : ℕ) (words : List ℕ) : Type 0 where
+  pub so : Slots lineSlots noLine lineOf (lowerWhere (markOf marks (linesOf m)) (take i (linesOf m))) k (linesIn words)
+  pub size : length words ≡ lineFields * lineSlots
 
-pub lower-start : (marks : List Bool) (m : Memo) → Lowering marks m 0 0 (replicate lineSlots noLine)
+pub lower-start : (marks : List Bool) (m : Memo) → Lowering marks m 0 0 (replicate (lineFields * lineSlots) 0)
 unfolding lowerWhere slotted
-lower-start marks m = record { so = record { count = refl; list = refl } }
+lower-start marks m = record { so = record { count = refl; list = lines-none lineSlots }; size = length-replicate {A = ℕ} (lineFields * lineSlots) 0 }
 
 module _ (m : Memo) (whole : Whole m) where
-  in-slots : Slots lineSlots noLine lineOf (linesOf m) (m .n) (m .rows)
-  unfolding memoOf
-  in-slots = record { count = ap (λ (x : Memo). x .n) whole; list = ap (λ (x : Memo). x .rows) whole }
+  in-slots : Slots lineSlots noLine lineOf (linesOf m) (m .n) (linesIn (m .words))
+  in-slots = record { count = ap (λ (x : Memo). x .n) whole ∙ count-memo (linesOf m); list = ap (λ (x : Memo). linesIn (x .words)) whole ∙ lines-laid (linesOf m) }
 
-  row-at : {i : ℕ} → i < m .n → rowOf (getD (m .rows) i noLine) ≡ getD (linesOf m) i noRow
-  row-at {i} h = ap rowOf (slots-get in-slots i noRow h) ∙ row-line (getD (linesOf m) i noRow)
+  module _ {i : ℕ} {x : Line} (read : x ≡ getD (linesIn (m .words)) i noLine) (more : i < m .n) where
+    row-at : rowOf x ≡ getD (linesOf m) i noRow
+    row-at = ap rowOf (read ∙ slots-get in-slots i noRow more) ∙ row-line (getD (linesOf m) i noRow)
 
-  pub line-plain : {i : ℕ} → i < m .n → Plain (getD (m .rows) i noLine)
-  line-plain {i} h = slots-get in-slots i noRow h ∙ ap lineOf (sym (row-at h))
+    pub line-plain : Plain x
+    line-plain = read ∙ slots-get in-slots i noRow more ∙ ap lineOf (sym row-at)
 
-  module _ {marks : List Bool} {i k : ℕ} {rows : List Line} (c : Lowering marks m i k rows) where
-    pub lower-turn : {y : Line} {s : Bool} {d : ℕ} → Rising 0 (linesOf m) → i < m .n → m .n ≤ lineSlots → k ≤ i
-        → y ≡ lineIf (getD (m .rows) i noLine .radio) (lowerIf (getD marks i false) (rowOf (getD (m .rows) i noLine) .val)) → s ≡ isSome (lowerIf (getD marks i false) (rowOf (getD (m .rows) i noLine) .val)) → d ≡ one-if s
-        → Lowering marks m (i + 1) (k + d) (set rows k y)
-    lower-turn {y} {s} {d} a h f g u v w =
-        let l : Rows StoreLine = linesOf m in
-        let p : Row StoreLine → Bool = markOf marks l in
-        let x : Row StoreLine = getD l i noRow in
-        let o : Option StoreLine = lowerIf (p x) (x .val) in
-        let n : i < length l = omega (arith, in-slots .count) in
-        let e : lowerIf (getD marks i false) (rowOf (getD (m .rows) i noLine) .val) ≡ o =
-        ap₂ (λ (j : ℕ) (z : Row StoreLine). lowerIf (getD marks j false) (z .val)) (sym (rank-at l i noRow a n)) (row-at h) in
-        let q : lowerWhere p (take (i + 1) l) ≡ lowerWhere p (take i l) ++ putRow (x .key) o [] =
-        rw (add-one i, take-suc l i noRow n) (lower-append p (take i l) (x ∷ []) ∙ rw (lower-one p x)) in
-        let y′ : y ≡ lineIf (x .key) o = u ∙ ap₂ lineIf (ap (λ (z : Row StoreLine). z .key) (row-at h)) e in
-        let d′ : d ≡ one-if (isSome o) = w ∙ ap one-if (v ∙ ap isSome e) in
-        record { so = rw (q, y′, d′) (slots-put (c .so) (x .key) o (omega arith)) }
+    module _ {marks : List Bool} {k : ℕ} {words : List ℕ} (c : Lowering marks m i k words) where
+      pub lower-turn : {y : Line} {s : Bool} {d : ℕ} {after : List ℕ} → Rising 0 (linesOf m) → m .n ≤ lineSlots → k ≤ i
+          → y ≡ lineIf (x .radio) (lowerIf (getD marks i false) (rowOf x .val)) → s ≡ isSome (lowerIf (getD marks i false) (rowOf x .val)) → d ≡ one-if s
+          → linesIn after ≡ set (linesIn words) k y → length after ≡ lineFields * lineSlots
+          → Lowering marks m (i + 1) (k + d) after
+      lower-turn {y} {s} {d} {after} a f g u v w put size =
+          let l : Rows StoreLine = linesOf m in
+          let p : Row StoreLine → Bool = markOf marks l in
+          let z : Row StoreLine = getD l i noRow in
+          let o : Option StoreLine = lowerIf (p z) (z .val) in
+          let n : i < length l = omega (arith, in-slots .count) in
+          let e : lowerIf (getD marks i false) (rowOf x .val) ≡ o =
+          ap₂ (λ (j : ℕ) (t : Row StoreLine). lowerIf (getD marks j false) (t .val)) (sym (rank-at l i noRow a n)) row-at in
+          let q : lowerWhere p (take (i + 1) l) ≡ lowerWhere p (take i l) ++ putRow (z .key) o [] =
+          rw (add-one i, take-suc l i noRow n) (lower-append p (take i l) (z ∷ []) ∙ rw (lower-one p z)) in
+          let y′ : y ≡ lineIf (z .key) o = u ∙ ap₂ lineIf (ap (λ (t : Row StoreLine). t .key) row-at) e in
+          let d′ : d ≡ one-if (isSome o) = w ∙ ap one-if (v ∙ ap isSome e) in
+          record { so = rw (put, q, y′, d′) (slots-put (c .so) (z .key) o (omega arith)); size = size }
 
-    pub lower-end : m .n ≤ i → record { n = k; rows = rows } ≡ memoOf (lowerWhere (markOf marks (linesOf m)) (linesOf m))
-    unfolding memoOf
-    lower-end h =
-        let e = take-all i (linesOf m) (omega (arith, in-slots .count)) in
-        (λ t. record { n = c .so .count t; rows = c .so .list t }) ∙ ap (λ (l : Rows StoreLine). memoOf (lowerWhere (markOf marks (linesOf m)) l)) e
+  pub lower-end : {marks : List Bool} {i k : ℕ} {words : List ℕ} → Lowering marks m i k words → m .n ≤ i → record { n = k; words = words } ≡ memoOf (lowerWhere (markOf marks (linesOf m)) (linesOf m))
+  lower-end {marks} {i} {k} {words} c h =
+      let rows : Rows StoreLine = lowerWhere (markOf marks (linesOf m)) (take i (linesOf m)) in
+      let n : k ≡ memoOf rows .n = c .so .count ∙ sym (count-memo rows) in
+      let ws : words ≡ memoOf rows .words = words-laid words rows (c .size) (c .so .list) in
+      (λ t. record { n = n t; words = ws t }) ∙ ap (λ (l : Rows StoreLine). memoOf (lowerWhere (markOf marks (linesOf m)) l)) (take-all i (linesOf m) (omega (arith, in-slots .count)))
 
 -- ---- the call
 

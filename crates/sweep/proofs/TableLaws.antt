@@ -4,7 +4,7 @@ use mathlib.Core.Bool.{Bool, true, false, not}
 use mathlib.Core.List.{List, _∷_, map}
 use mathlib.Core.Logic.{_≢_}
 use mathlib.Core.Option.{Option, none}
-use Prim.Native.Nat.{ℕ, zero, suc, _+_, _-_, _/_, _≤_, _<_}
+use Prim.Native.Nat.{ℕ, zero, suc, _+_, _*_, _/_, _≤_, _<_}
 use native.Mathlib.Omega.{arith}
 use lib.Dec.{eqb}
 use lib.ListN.{length, getD, set, take, length-map, length-set, length-take, List·getD-map}
@@ -24,7 +24,9 @@ use Rattle.entries.specs.Entries.{rowOf as entryRow, placeOf}
 use Rattle.rules.specs.Sweep.{isAt}
 use Rattle.desk.specs.declared.Line.{Line}
 use Rattle.desk.specs.declared.Memo.{Memo}
-use Rattle.desk.specs.Layout.{lineSlots, noLine}
+use Rattle.desk.specs.Layout.{lineSlots, lineFields, noLine}
+use Rattle.desk.specs.Views.{linesIn}
+use Rattle.desk.proofs.LinesLaws.{length-lines-in}
 use Rattle.memo.specs.Memo.{rowOf, noRow, linesOf}
 use Rattle.sweep.specs.Sweep.{linePlaces, radiosIn, lastAt, lastsIn, lastsOf, isStale}
 
@@ -59,14 +61,14 @@ copied-turn f rows {i} {t} h c =
 
 -- the lines before i are written
 pub record LinesRead (m : Memo) (i : ℕ) (radios placed easts norths : List ℕ) : Type 0 where
-  pub radio : Copied (λ x. x .radio) (m .rows) i radios
-  pub mark : Copied (λ x. x .placed) (m .rows) i placed
-  pub east : Copied (λ x. x .east) (m .rows) i easts
-  pub north : Copied (λ x. x .north) (m .rows) i norths
+  pub radio : Copied (λ x. x .radio) (linesIn (m .words)) i radios
+  pub mark : Copied (λ x. x .placed) (linesIn (m .words)) i placed
+  pub east : Copied (λ x. x .east) (linesIn (m .words)) i easts
+  pub north : Copied (λ x. x .north) (linesIn (m .words)) i norths
 
 pub lines-start : (m : Memo) (radios placed easts norths : List ℕ) → length radios ≡ linePlaces → length placed ≡ linePlaces → length easts ≡ linePlaces → length norths ≡ linePlaces → LinesRead m 0 radios placed easts norths
 lines-start m radios placed easts norths a b c d =
-    let none : (t : List ℕ) (f : Line → ℕ) (j : ℕ) → j < 0 → getD t j 0 ≡ f (getD (m .rows) j noLine) = λ t f j h. absurd (omega arith) in
+    let none : (t : List ℕ) (f : Line → ℕ) (j : ℕ) → j < 0 → getD t j 0 ≡ f (getD (linesIn (m .words)) j noLine) = λ t f j h. absurd (omega arith) in
     record {
       radio = record { size = a; same = none radios (λ x. x .radio) };
       mark = record { size = b; same = none placed (λ x. x .placed) };
@@ -75,31 +77,31 @@ lines-start m radios placed easts norths a b c d =
     }
 
 module _ (m : Memo) {i : ℕ} {radios placed easts norths : List ℕ} (l : LinesRead m i radios placed easts norths) (few : m .n ≤ lineSlots) where
-  pub lines-turn : i < m .n
-      → LinesRead m (i + 1) (set radios i (getD (m .rows) i noLine .radio)) (set placed i (getD (m .rows) i noLine .placed)) (set easts i (getD (m .rows) i noLine .east)) (set norths i (getD (m .rows) i noLine .north))
-  lines-turn h = record {
-    radio = copied-turn (λ x. x .radio) (m .rows) (omega arith) (l .radio);
-    mark = copied-turn (λ x. x .placed) (m .rows) (omega arith) (l .mark);
-    east = copied-turn (λ x. x .east) (m .rows) (omega arith) (l .east);
-    north = copied-turn (λ x. x .north) (m .rows) (omega arith) (l .north);
-  }
+  pub lines-turn : {x : Line} → x ≡ getD (linesIn (m .words)) i noLine → i < m .n → LinesRead m (i + 1) (set radios i (x .radio)) (set placed i (x .placed)) (set easts i (x .east)) (set norths i (x .north))
+  lines-turn e h = rw e (record {
+    radio = copied-turn (λ x. x .radio) (linesIn (m .words)) (omega arith) (l .radio);
+    mark = copied-turn (λ x. x .placed) (linesIn (m .words)) (omega arith) (l .mark);
+    east = copied-turn (λ x. x .east) (linesIn (m .words)) (omega arith) (l .east);
+    north = copied-turn (λ x. x .north) (linesIn (m .words)) (omega arith) (l .north);
+  })
 
   abbrev lastRow : ℕ → Row (Option Place)
   lastRow j = record { key = getD radios j 0; val = lastAt (getD placed j 0) (getD easts j 0) (getD norths j 0) }
 
-  pub lines-end : length (m .rows) ≡ lineSlots → m .n ≤ i → lastsIn (m .n) radios placed easts norths ≡ lastsOf (linesOf m)
+  pub lines-end : length (m .words) ≡ lineFields * lineSlots → m .n ≤ i → lastsIn (m .n) radios placed easts norths ≡ lastsOf (linesOf m)
   unfolding lastsIn linesOf
   lines-end size h =
+      let all : length (linesIn (m .words)) ≡ lineSlots = length-lines-in lineSlots (m .words) size in
       sym (tab-of (lastsOf (linesOf m)) (m .n) (record { key = 0; val = none }) lastRow
-      (length-map (linesOf m) _ ∙ length-map (take (m .n) (m .rows)) rowOf ∙ length-take (m .n) (m .rows) ∙ omega arith)
+      (length-map (linesOf m) _ ∙ length-map (take (m .n) (linesIn (m .words))) rowOf ∙ length-take (m .n) (linesIn (m .words)) ∙ omega arith)
       (λ j k.
-      let x : Line = getD (m .rows) j noLine in
+      let x : Line = getD (linesIn (m .words)) j noLine in
       let a = l .radio .same j (omega arith) in
       let b = l .mark .same j (omega arith) in
       let c = l .east .same j (omega arith) in
       let d = l .north .same j (omega arith) in
       List·getD-map (λ y. record { key = y .key; val = y .val .last }) (linesOf m) j noRow
-      ∙ ap (λ y. record { key = y .key; val = y .val .last }) (List·getD-map rowOf (take (m .n) (m .rows)) j noLine ∙ ap rowOf (getD-take (m .n) (m .rows) j noLine k))
+      ∙ ap (λ y. record { key = y .key; val = y .val .last }) (List·getD-map rowOf (take (m .n) (linesIn (m .words))) j noLine ∙ ap rowOf (getD-take (m .n) (linesIn (m .words)) j noLine k))
       ∙ sym (λ t. record { key = a t; val = lastAt (b t) (c t) (d t) })))
 
 -- ---- the search

@@ -2,7 +2,7 @@
 // to a table of entries, and at the end each line that has lost an entry is lowered. The memo is read twice and written once. No page is written.
 ghost use mathlib.Core.Bool.{true, not, cond};
 ghost use mathlib.Core.Path.{_≡_};
-ghost use Prim.Native.Nat.{_<_, _≤_};
+ghost use Prim.Native.Nat.{_*_, _<_, _≤_};
 ghost use lib.ListN.{length};
 ghost use Rattle.terms.specs.Terms.{maxOn, pages};
 ghost use Rattle.lists.specs.Rows.{Rising, rank};
@@ -11,7 +11,7 @@ ghost use Rattle.entries.specs.Entries.{rowOf as entryRow, placeOf, rowsOf};
 ghost use Rattle.page.specs.Page.{entries};
 ghost use Rattle.page.specs.Buffer.{pageAt, there, pagesOf};
 ghost use Rattle.rules.specs.Sweep.{isAt, sweptEntries, sweptMemo};
-ghost use Rattle.desk.specs.Layout.{lineSlots, memoOf};
+ghost use Rattle.desk.specs.Layout.{lineSlots, lineFields, memoOf};
 ghost use Rattle.memo.specs.Memo.{rowOf, linesOf, Plain, Whole};
 ghost use Rattle.sweep.specs.Sweep.{entriesOn, linePlaces, radiosIn, lastAt, lastsIn, lastsOf, isStale, stay, slotAfter, Ready, Sweeps, SweepsAll, lowerIf, lineIf, lowerWhere, markOf};
 use desk::Desk;
@@ -39,19 +39,19 @@ pub struct Swept {
 
 // Each line's radio and last place.
 fn read_lines<'a>(
-    memo: Memo,
+    words: &'a [u16; Desk::MEMO_WORDS],
+    n: usize,
     radios: &'a mut [u16; PLACES],
     placed: &'a mut [u16; PLACES],
     easts: &'a mut [u16; PLACES],
     norths: &'a mut [u16; PLACES],
 )
-    requires { ⌜ (memo .n ≤ lineSlots) × (length (now radios) ≡ linePlaces) × (length (now placed) ≡ linePlaces) × (length (now easts) ≡ linePlaces) × (length (now norths) ≡ linePlaces) ⌝ }
-    ensures { λ _. ⌜ lastsIn (memo .n) (now (radios .exit)) (now (placed .exit)) (now (easts .exit)) (now (norths .exit)) ≡ lastsOf (linesOf memo) ⌝ }
+    requires { ⌜ (length (now words) ≡ lineFields * lineSlots) × (n ≤ lineSlots) × (length (now radios) ≡ linePlaces) × (length (now placed) ≡ linePlaces) × (length (now easts) ≡ linePlaces) × (length (now norths) ≡ linePlaces) ⌝ }
+    ensures { λ _. ⌜ lastsIn n (now (radios .exit)) (now (placed .exit)) (now (easts .exit)) (now (norths .exit)) ≡ lastsOf (linesOf (record { n = n; words = now (words .entry) })) ⌝ }
 {
-    let n = memo.n;
     let mut i: usize = 0;
     while i < n {
-        let x = memo.rows[i];
+        let x = desk::line_at(words, i);
         radios[i] = x.radio;
         placed[i] = x.placed;
         easts[i] = x.east;
@@ -243,23 +243,17 @@ fn lowered<'a>(memo: Memo, marks: &'a [bool; PLACES]) -> Memo
     ensures { λ r. ⌜ r ≡ memoOf (lowerWhere (markOf (now (marks .entry)) (linesOf memo)) (linesOf memo)) ⌝ }
 {
     let n = memo.n;
-    let mut rows = [Line {
-        radio: 0,
-        missed: 0,
-        placed: UNPLACED,
-        east: 0,
-        north: 0,
-    }; LINES];
+    let mut words = [0u16; Desk::MEMO_WORDS];
     let mut k: usize = 0;
     let mut i: usize = 0;
     while i < n {
-        let x = memo.rows[i];
+        let x = desk::line_at(&memo.words, i);
         let mark = marks[i];
-        rows[k] = lowered_line(x, mark);
+        desk::put_line(&mut words, k, lowered_line(x, mark));
         k = k + one_if(line_stays(x, mark));
         i += 1;
     }
-    Memo { n: k, rows }
+    Memo { n: k, words }
 }
 
 // ---- a chain
@@ -273,7 +267,14 @@ pub fn sweep_chain(buffer: &[u8], chain: Chain, memo: Memo) -> Swept
     let mut placed = [0u16; PLACES];
     let mut easts = [0u16; PLACES];
     let mut norths = [0u16; PLACES];
-    read_lines(memo, &mut radios, &mut placed, &mut easts, &mut norths);
+    read_lines(
+        &memo.words,
+        memo.n,
+        &mut radios,
+        &mut placed,
+        &mut easts,
+        &mut norths,
+    );
     let mut marks = [false; PLACES];
     let table = sweep_pages(
         buffer,

@@ -1,4 +1,4 @@
-use Prim.Native.Nat.{_-_, _≤_}
+use Prim.Native.Nat.{_≤_}
 use borrow.Author.Needs.{needs}
 use Rattle.dump.proofs.print_memo.Statement.{statement}
 use Rattle.dump.proofs.print_memo.Tie as tie
@@ -12,11 +12,8 @@ abbrev μ-loop : tie.MeasureT-loop
 loop-holds : tie.Need-loop-holds Inv-loop μ-loop
 loop-holds c = search needs
 
-mul-print-line : tie.Need-mul-print-line Inv-loop μ-loop
-mul-print-line c = search needs
-
-element-copy-out-print-line : tie.Need-element-copy-out-print-line Inv-loop μ-loop
-element-copy-out-print-line c = search needs
+line-at-requires : tie.Need-line-at-requires Inv-loop μ-loop
+line-at-requires c κs = search needs
 
 print-line-requires : tie.Need-print-line-requires Inv-loop μ-loop
 print-line-requires c κs = search needs
@@ -40,8 +37,7 @@ print-memo-spec =
     Inv-loop
     μ-loop
     loop-holds
-    mul-print-line
-    element-copy-out-print-line
+    line-at-requires
     print-line-requires
     add-i
     loop-less

@@ -1,11 +1,7 @@
 -- Where the radio has a line, `alter` is `set` at its place; where it has none, `insertAt` at the place for it.
-use Prim.Native.Nat.{_<_}
+use Rattle.memo.proofs.MemoLaws.{held-slot, held-inside, held-room, raise-set, open-inside, raise-open, plain-recounted}
 use native.Mathlib.Omega.{arith}
-use lib.ListN.{getD}
 use borrow.Author.Needs.{needs}
-use Rattle.desk.specs.Layout.{noLine}
-use Rattle.memo.specs.Memo.{mostMissed}
-use Rattle.memo.proofs.MemoLaws.{held-inside, held-room, raise-set, open-inside, raise-open, plain-recounted}
 use Rattle.memo.proofs.counted.Statement.{statement}
 use Rattle.memo.proofs.counted.Tie as tie
 
@@ -16,24 +12,31 @@ enum-known-spot : tie.Need-enum-known-spot
 enum-known-spot c = search needs
 
 opened-requires : tie.Need-opened-requires
-opened-requires c κs = (search needs, search open-inside, search needs, search needs)
+opened-requires c κs =
+    let l = c .before .before .before in
+    let s = l .before .before .before in
+    (search needs, open-inside (s .args .t1) (s .args .first .radio) (s .pre .0) (s .pre .2) (l .lookup .ensures) (c .before .spot .given .1), search needs, search needs)
 
 enum-known-spot-2 : tie.Need-enum-known-spot-2
 enum-known-spot-2 c = search needs
 
-mul-held : tie.Need-mul-held
-mul-held c = let h : c .before .spot2 .given .0 .0 < c .before .before .before .before .args .t1 .n = search held-inside in omega arith
+line-at-requires : tie.Need-line-at-requires
+line-at-requires c κs =
+    let l = c .before .before .before .before .before in
+    let s = l .before .before .before in
+    (held-slot (s .args .t1) (s .args .first .radio) (s .pre .0) (s .pre .2) (l .lookup .ensures) (c .before .before .before .spot2 .given .1) (omega (arith, s .pre .1)), search needs)
 
-element-copy-out-held : tie.Need-element-copy-out-held
-element-copy-out-held c = let h : c .before .spot2 .given .0 .0 < c .before .before .before .before .args .t1 .n = search held-inside in omega arith
-
-add-t16 : tie.Need-add-t16
-add-t16 c =
-    let h : getD (c .before .before .before .before .before .before .args .t1 .rows) (c .before .before .before .spot2 .given .0 .0) noLine .missed < mostMissed = search held-room in
-    omega arith
+add-t14 : tie.Need-add-t14
+add-t14 c =
+    let l = c .before .before .before .before .before .before .before in
+    let s = l .before .before .before in
+    omega (arith, held-room (s .args .t1) (s .args .first .radio) (s .pre .0) (s .pre .2) (l .lookup .ensures) (c .before .before .before .before .before .spot2 .given .1) (c .before .line-at .ensures) (s .pre .3))
 
 replaced-requires : tie.Need-replaced-requires
-replaced-requires c κs = (search needs, search held-inside, search needs, search plain-recounted)
+replaced-requires c κs =
+    let l = c .before .before .before .before .before .before .before in
+    let s = l .before .before .before in
+    (search needs, held-inside (s .args .t1) (s .args .first .radio) (s .pre .0) (s .pre .2) (l .lookup .ensures) (c .before .before .before .before .before .spot2 .given .1), search needs, search plain-recounted)
 
 returns : tie.Need-returns
 returns c = search raise-open
@@ -49,9 +52,8 @@ counted-spec =
     enum-known-spot
     opened-requires
     enum-known-spot-2
-    mul-held
-    element-copy-out-held
-    add-t16
+    line-at-requires
+    add-t14
     replaced-requires
     returns
     returns-2)

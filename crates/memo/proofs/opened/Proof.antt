@@ -1,50 +1,45 @@
 -- From the end down to i each line has moved one place up (`Opened`); the place left open at the end is `at`.
+use borrow.Author.Needs.{needs}
 use mathlib.Core.Path.{_≡_}
-use Prim.Native.Nat.{_≤_}
+use Prim.Native.Nat.{_*_, _≤_}
 use native.Mathlib.Omega.{arith}
 use lib.ListN.{length}
-use borrow.Author.Needs.{needs}
-use Rattle.lists.proofs.ShiftLaws.{Opened, open-start, open-turn, length-mapped}
-use Rattle.desk.specs.Layout.{lineSlots}
-use Rattle.memo.proofs.MemoLaws.{memo-open}
+use Rattle.lists.proofs.ShiftLaws.{Opened, open-start}
+use Rattle.desk.specs.Layout.{lineSlots, lineFields}
+use Rattle.desk.specs.Views.{linesIn}
+use Rattle.desk.proofs.LinesLaws.{length-lines-in}
+use Rattle.memo.proofs.MemoLaws.{open-line, memo-open}
 use Rattle.memo.proofs.opened.Statement.{statement}
 use Rattle.memo.proofs.opened.Tie as tie
 
 abbrev Inv-loop : tie.InvT-loop
-Inv-loop at line m₀ n i₀ m i = (at ≤ i) × Opened (m₀ .rows) n i (m .rows)
+Inv-loop at line m₀ n i₀ m i = (at ≤ i) × Opened (linesIn (m₀ .words)) n i (linesIn (m .words)) × (length (m .words) ≡ lineFields * lineSlots)
 
 abbrev μ-loop : tie.MeasureT-loop
 μ-loop at line m₀ n i₀ m i = i
 
 loop-holds : tie.Need-loop-holds Inv-loop μ-loop
-loop-holds c = (search needs, let l : length (c .args .memo .rows) ≡ lineSlots = search length-mapped in open-start (omega arith))
+loop-holds c = (search needs, open-start (let l : length (c .args .memo .words) ≡ lineFields * lineSlots = search needs in omega (arith, length-lines-in lineSlots (c .args .memo .words) l)), search needs)
 
 sub-j : tie.Need-sub-j Inv-loop μ-loop
 sub-j c = search needs
 
-mul-x : tie.Need-mul-x Inv-loop μ-loop
-mul-x c = search needs
+line-at-requires : tie.Need-line-at-requires Inv-loop μ-loop
+line-at-requires c κs = search needs
 
-element-copy-out-x : tie.Need-element-copy-out-x Inv-loop μ-loop
-element-copy-out-x c = search needs
-
-mul-x-2 : tie.Need-mul-x-2 Inv-loop μ-loop
-mul-x-2 c = search needs
-
-element-set-from-x : tie.Need-element-set-from-x Inv-loop μ-loop
-element-set-from-x c = search needs
+put-line-requires : tie.Need-put-line-requires Inv-loop μ-loop
+put-line-requires c κs = search needs
 
 loop-less : tie.Need-loop-less Inv-loop μ-loop
 loop-less c = search needs
 
 loop-again : tie.Need-loop-again Inv-loop μ-loop
-loop-again c = (search needs, open-turn _ (c .before .before .loop .inv .1) (omega arith))
+loop-again c =
+    let k = c .before .before in
+    (search needs, open-line (k .before .before .before .before .loop .inv .1) (omega arith) (k .line-at .ensures) (c .put-line .ensures .0), search needs)
 
-mul-line : tie.Need-mul-line Inv-loop μ-loop
-mul-line c = search needs
-
-element-set-from-line : tie.Need-element-set-from-line Inv-loop μ-loop
-element-set-from-line c = search needs
+put-line-requires-2 : tie.Need-put-line-requires-2 Inv-loop μ-loop
+put-line-requires-2 c κs = search needs
 
 add-m : tie.Need-add-m Inv-loop μ-loop
 add-m c = search needs
@@ -60,13 +55,10 @@ opened-spec =
     μ-loop
     loop-holds
     sub-j
-    mul-x
-    element-copy-out-x
-    mul-x-2
-    element-set-from-x
+    line-at-requires
+    put-line-requires
     loop-less
     loop-again
-    mul-line
-    element-set-from-line
+    put-line-requires-2
     add-m
     returns)

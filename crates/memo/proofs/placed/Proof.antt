@@ -1,8 +1,5 @@
-use Prim.Native.Nat.{_<_}
-use native.Mathlib.Omega.{arith}
-use borrow.Author.Needs.{needs}
-use Rattle.desk.specs.Layout.{lineSlots}
 use Rattle.memo.proofs.MemoLaws.{held-slot, held-inside, place-open, place-set}
+use borrow.Author.Needs.{needs}
 use Rattle.memo.proofs.placed.Statement.{statement}
 use Rattle.memo.proofs.placed.Tie as tie
 
@@ -18,14 +15,15 @@ enum-told c = search needs
 returns : tie.Need-returns
 returns c = search place-open
 
-mul-held : tie.Need-mul-held
-mul-held c = let h : c .before .at .given .0 .0 < lineSlots = search held-slot in omega arith
-
-element-copy-out-held : tie.Need-element-copy-out-held
-element-copy-out-held c = search held-slot
+line-at-requires : tie.Need-line-at-requires
+line-at-requires c κs = (search held-slot, search needs)
 
 replaced-requires : tie.Need-replaced-requires
-replaced-requires c κs = (search needs, search held-inside, search needs, search needs)
+replaced-requires c κs =
+    let a = c .before .before .before .before in
+    let l = a .before .before in
+    let s = l .before .before .before in
+    (search needs, held-inside (s .args .t1) (s .args .radio) (s .pre .0) (s .pre .2) (l .lookup .ensures) (a .at .given .1), search needs, search needs)
 
 returns-2 : tie.Need-returns-2
 returns-2 c = search place-set
@@ -38,7 +36,6 @@ placed-spec =
     enum-known-at
     enum-told
     returns
-    mul-held
-    element-copy-out-held
+    line-at-requires
     replaced-requires
     returns-2)

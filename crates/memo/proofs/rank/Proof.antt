@@ -1,22 +1,21 @@
 -- Radios before low are below, those from high on are not (`Between`): where the two meet is the rank.
-use mathlib.Core.Path.{sym}
-use Prim.Native.Nat.{_-_, _≤_}
 use borrow.Author.Needs.{needs}
+use mathlib.Core.Path.{sym}
+use Prim.Native.Nat.{_≤_}
 use Rattle.lists.proofs.SearchLaws.{Between, rank-between}
-use Rattle.lists.proofs.ShiftLaws.{length-mapped}
 use Rattle.memo.specs.Memo.{linesOf, noRow}
 use Rattle.memo.proofs.MemoLaws.{search-start, search-up, search-down}
 use Rattle.memo.proofs.rank.Statement.{statement}
 use Rattle.memo.proofs.rank.Tie as tie
 
 abbrev Inv-loop : tie.InvT-loop
-Inv-loop radio memo low₀ high₀ low high = (low ≤ high) × (high ≤ memo .n) × Between (linesOf memo) radio noRow low high
+Inv-loop words n radio low₀ high₀ low high = (low ≤ high) × (high ≤ n) × Between (linesOf (record { n = n; words = words })) radio noRow low high
 
 abbrev μ-loop : tie.MeasureT-loop
-μ-loop radio memo low₀ high₀ low high = high - low
+μ-loop words n radio low₀ high₀ low high = high - low
 
 loop-holds : tie.Need-loop-holds Inv-loop μ-loop
-loop-holds c = (search needs, search needs, search (search-start, length-mapped))
+loop-holds c = (search needs, search needs, search search-start)
 
 sub-mid : tie.Need-sub-mid Inv-loop μ-loop
 sub-mid c = search needs
@@ -24,11 +23,8 @@ sub-mid c = search needs
 add-mid : tie.Need-add-mid Inv-loop μ-loop
 add-mid c = search needs
 
-mul-x : tie.Need-mul-x Inv-loop μ-loop
-mul-x c = search needs
-
-element-copy-out-x : tie.Need-element-copy-out-x Inv-loop μ-loop
-element-copy-out-x c = search needs
+line-at-requires : tie.Need-line-at-requires Inv-loop μ-loop
+line-at-requires c κs = search needs
 
 add-low : tie.Need-add-low Inv-loop μ-loop
 add-low c = search needs
@@ -57,8 +53,7 @@ rank-spec =
     loop-holds
     sub-mid
     add-mid
-    mul-x
-    element-copy-out-x
+    line-at-requires
     add-low
     loop-less
     loop-again

@@ -1,16 +1,13 @@
-use borrow.Author.Needs.{needs}
 use Rattle.memo.proofs.MemoLaws.{memo-set}
+use borrow.Author.Needs.{needs}
 use Rattle.memo.proofs.replaced.Statement.{statement}
 use Rattle.memo.proofs.replaced.Tie as tie
 
-mul-line : tie.Need-mul-line
-mul-line c = search needs
-
-element-set-from-line : tie.Need-element-set-from-line
-element-set-from-line c = search needs
+put-line-requires : tie.Need-put-line-requires
+put-line-requires c κs = search needs
 
 returns : tie.Need-returns
 returns c = search memo-set
 
 pub replaced-spec : {M : Type 1} → statement M
-replaced-spec = tie.close (tie.spec mul-line element-set-from-line returns)
+replaced-spec = tie.close (tie.spec put-line-requires returns)

@@ -5,7 +5,7 @@ use Rattle.range.proofs.list.Statement.{statement}
 use Rattle.range.proofs.list.Tie as tie
 
 hold-all-requires : tie.Need-hold-all-requires
-hold-all-requires c κs = (empty-table, search needs)
+hold-all-requires c κs = (empty-table, search needs, search needs)
 
 found-on-requires : tie.Need-found-on-requires
 found-on-requires c κs = search needs
@@ -13,17 +13,17 @@ found-on-requires c κs = search needs
 mul-if1 : tie.Need-mul-if1
 mul-if1 c = search needs
 
-cast-t23 : tie.Need-cast-t23
-cast-t23 c = search needs
+cast-t24 : tie.Need-cast-t24
+cast-t24 c = search needs
 
 returns : tie.Need-returns
 returns c = told-short _ _ _ _ _ _ _ (c .before .before .before .before .before .hold-all .ensures) (c .before .found-on .ensures .0) _ (search needs) (c .before .found-on .ensures .1) (c .if1 .taken)
 
 write-rows-requires : tie.Need-write-rows-requires
-write-rows-requires c κs = (search needs, search needs, search needs, found-radios _ _ _ (c .before .before .before .before .found-on .ensures .0) (c .before .before .before .before .before .before .before .before .before .before .before .before .before .before .pre .2), search needs)
+write-rows-requires c κs = (search needs, search needs, search needs, found-radios _ _ _ (c .before .before .before .before .found-on .ensures .0) (c .before .before .before .before .before .before .before .before .before .before .before .before .before .before .pre .3), search needs)
 
-cast-t28 : tie.Need-cast-t28
-cast-t28 c = search needs
+cast-t29 : tie.Need-cast-t29
+cast-t29 c = search needs
 
 same-length : tie.Need-same-length
 same-length c = search needs
@@ -38,9 +38,9 @@ list-spec =
     hold-all-requires
     found-on-requires
     mul-if1
-    cast-t23
+    cast-t24
     returns
     write-rows-requires
-    cast-t28
+    cast-t29
     same-length
     returns-2)

@@ -18,15 +18,19 @@ returns-2 : tie.Need-returns-2
 returns-2 c = pages-unsound _ _ (c .before .pages-sound .ensures) (c .if2 .taken)
 
 radios-sound-requires : tie.Need-radios-sound-requires
-radios-sound-requires c κs = (search desk-passed, pages-passed (c .before .before .before .before .before .before .before .args .desk) _ (c .before .pages-sound .ensures) (c .if2 .left))
+radios-sound-requires c κs =
+    let start = c .before .before .before .before .before .before .before .before .before .before .before .before .before in
+    let memo = start .good .0 .1 .1 .1 .1 .0 .1 .1 .1 .0 .1 .0 .1 in
+    (search (length-mapped, memo), search desk-passed, pages-passed (start .args .t1) _ (c .before .before .before .pages-sound .ensures) (c .before .before .if2 .left))
 
 -- the lengths of the desk's arrays are told field by field
 returns-3 : tie.Need-returns-3
 returns-3 c =
-    let k = c .before .before .before .before .before in
-    let d = k .before .before .before .good .0 .1 .1 in
+    let k = c .before .before .before .before .before .before in
+    let start = k .before .before .before .before .before .before .before .before in
+    let d = start .good .0 .1 .1 in
     let g = d .0 .1 .1 in
-    let shape : Shaped (k .before .before .before .args .desk) = record {
+    let shape : Shaped (start .args .t1) = record {
       easts = search (length-mapped, g .0 .1 .1 .1 .0 .1 .0 .1);
       norths = search (length-mapped, g .1 .0 .1 .1 .1 .0 .1 .0 .1);
       cells = search (length-mapped, g .1 .1 .0 .1 .1 .1 .0 .1 .0 .1);
@@ -34,7 +38,7 @@ returns-3 c =
       memo = search (length-mapped, d .1 .1 .0 .1 .1 .1 .0 .1 .0 .1);
       on = search (length-mapped, d .1 .1 .1 .0 .1 .1 .1 .0 .1 .0 .1);
     } in
-    radios-say _ _ (c .before .before .pages-sound .ensures) (c .before .if2 .left) shape (k .before .desk-sound .ensures) (k .if1 .left) (c .radios-sound .ensures)
+    radios-say _ _ (c .before .before .before .before .pages-sound .ensures) (c .before .before .before .if2 .left) shape (k .before .desk-sound .ensures) (k .if1 .left) (c .radios-sound .ensures)
 
 pub sound-spec : {M : Type 1} → statement M
 sound-spec =

@@ -1,5 +1,6 @@
 use Rattle.sound_grid.proofs.SoundLaws.{grid-east-room, grid-north-room}
 use Rattle.sound_desk.proofs.DeskLaws.{desk-grid, desk-radios, desk-memo, desk-tally}
+use denote.Ref.{now}
 use borrow.Author.Needs.{needs}
 use Rattle.sound_desk.proofs.desk_sound.Statement.{statement}
 use Rattle.sound_desk.proofs.desk_sound.Tie as tie
@@ -23,7 +24,9 @@ returns-3 : tie.Need-returns-3
 returns-3 c = search desk-memo
 
 returns-4 : tie.Need-returns-4
-returns-4 c = search desk-tally
+returns-4 c =
+    let x = c .before .before .before .before .before .before .before .before .before .args in
+    search (desk-tally (record { grid = x .grid; waiting = x .waiting; memo = record { n = x .n; words = now (x .words) }; on = x .on; tally = x .tally }))
 
 pub desk-sound-spec : {M : Type 1} → statement M
 desk-sound-spec =

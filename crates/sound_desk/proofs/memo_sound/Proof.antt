@@ -1,89 +1,61 @@
--- The sum so far and what the rest weighs are the whole (`Weighed`); then what is left to test, from the last radio on, is the test (`Climbs`).
-use Prim.Native.Nat.{_*_, _≤_, _-_}
-use Rattle.lists.proofs.ShiftLaws.{length-mapped}
+-- What is left to test, from the last radio on, is the test (`Climbs`).
+use Prim.Native.Nat.{_≤_}
 use Rattle.desk.specs.Layout.{lineSlots}
-use Rattle.sound_grid.specs.Sound.{mostField}
-use Rattle.sound_grid.proofs.LoopLaws.{Weighed, weighed-start, weighed-turn}
-use Rattle.sound_desk.specs.Sound.{lineWeight, lineTest}
-use Rattle.sound_desk.proofs.ClimbLaws.{Climbs, climb-start, climb-stops, climb-fails, climb-turn, climb-end}
+use Rattle.desk.specs.Views.{linesIn}
+use Rattle.desk.proofs.LinesLaws.{length-lines-in}
+use Rattle.sound_desk.specs.Sound.{lineTest}
+use Rattle.sound_desk.proofs.ClimbLaws.{Climbs, climb-start, read-stops, read-fails, read-turn, climb-end}
 use Rattle.sound_desk.proofs.PartLaws.{memo-long, memo-heavy, memo-climb}
 use borrow.Author.Needs.{needs}
 use Rattle.sound_desk.proofs.memo_sound.Statement.{statement}
 use Rattle.sound_desk.proofs.memo_sound.Tie as tie
 
 abbrev Inv-loop : tie.InvT-loop
-Inv-loop m sum₀ k₀ sum k = (k ≤ lineSlots) × (sum ≤ 5 * mostField * k) × Weighed lineWeight (m .rows) lineSlots (m .n) k sum
+Inv-loop words n last₀ i₀ last i = (i ≤ n) × Climbs (λ x. x .radio) lineTest (linesIn words) n last i
 
 abbrev μ-loop : tie.MeasureT-loop
-μ-loop m sum₀ k₀ sum k = lineSlots - k
+μ-loop words n last₀ i₀ last i = n - i
 
-abbrev Inv-loop2 : tie.InvT-loop2
-Inv-loop2 m sum k last₀ i₀ last i = (i ≤ m .n) × Climbs (λ x. x .radio) lineTest (m .rows) (m .n) last i
-
-abbrev μ-loop2 : tie.MeasureT-loop2
-μ-loop2 m sum k last₀ i₀ last i = m .n - i
-
-returns : tie.Need-returns Inv-loop μ-loop Inv-loop2 μ-loop2
+returns : tie.Need-returns Inv-loop μ-loop
 returns c = search memo-long
 
-loop-holds : tie.Need-loop-holds Inv-loop μ-loop Inv-loop2 μ-loop2
-loop-holds c = (search needs, search needs, weighed-start _ _ _ _ (search length-mapped))
+mul-rest : tie.Need-mul-rest Inv-loop μ-loop
+mul-rest c = search needs
 
-mul-line-weight : tie.Need-mul-line-weight Inv-loop μ-loop Inv-loop2 μ-loop2
-mul-line-weight c = search needs
+rest-requires : tie.Need-rest-requires Inv-loop μ-loop
+rest-requires c κs = search needs
 
-element-copy-out-line-weight : tie.Need-element-copy-out-line-weight Inv-loop μ-loop Inv-loop2 μ-loop2
-element-copy-out-line-weight c = search needs
-
-line-weight-requires : tie.Need-line-weight-requires Inv-loop μ-loop Inv-loop2 μ-loop2
-line-weight-requires c κs = search needs
-
-add-sum : tie.Need-add-sum Inv-loop μ-loop Inv-loop2 μ-loop2
-add-sum c = search needs
-
-add-k : tie.Need-add-k Inv-loop μ-loop Inv-loop2 μ-loop2
-add-k c = search needs
-
-loop-less : tie.Need-loop-less Inv-loop μ-loop Inv-loop2 μ-loop2
-loop-less c = search needs
-
-loop-again : tie.Need-loop-again Inv-loop μ-loop Inv-loop2 μ-loop2
-loop-again c = (search needs, search needs, search weighed-turn)
-
-returns-2 : tie.Need-returns-2 Inv-loop μ-loop Inv-loop2 μ-loop2
+returns-2 : tie.Need-returns-2 Inv-loop μ-loop
 returns-2 c = search memo-heavy
 
-loop2-holds : tie.Need-loop2-holds Inv-loop μ-loop Inv-loop2 μ-loop2
-loop2-holds c = (search needs, climb-start _ _ _ _ lineSlots (search length-mapped) (search needs))
+loop-holds : tie.Need-loop-holds Inv-loop μ-loop
+loop-holds c = (search needs, climb-start _ _ _ _ lineSlots (search length-lines-in) (search needs))
 
-mul-x : tie.Need-mul-x Inv-loop μ-loop Inv-loop2 μ-loop2
-mul-x c = search needs
+line-at-requires : tie.Need-line-at-requires Inv-loop μ-loop
+line-at-requires c κs = search needs
 
-element-copy-out-x : tie.Need-element-copy-out-x Inv-loop μ-loop Inv-loop2 μ-loop2
-element-copy-out-x c = search needs
-
-goes-on-requires : tie.Need-goes-on-requires Inv-loop μ-loop Inv-loop2 μ-loop2
+goes-on-requires : tie.Need-goes-on-requires Inv-loop μ-loop
 goes-on-requires c κs = search needs
 
-returns-3 : tie.Need-returns-3 Inv-loop μ-loop Inv-loop2 μ-loop2
-returns-3 c = search (memo-climb, climb-stops)
+returns-3 : tie.Need-returns-3 Inv-loop μ-loop
+returns-3 c = search (memo-climb, read-stops)
 
-line-ok-requires : tie.Need-line-ok-requires Inv-loop μ-loop Inv-loop2 μ-loop2
+line-ok-requires : tie.Need-line-ok-requires Inv-loop μ-loop
 line-ok-requires c κs = search needs
 
-returns-4 : tie.Need-returns-4 Inv-loop μ-loop Inv-loop2 μ-loop2
-returns-4 c = search (memo-climb, climb-fails)
+returns-4 : tie.Need-returns-4 Inv-loop μ-loop
+returns-4 c = search (memo-climb, read-fails)
 
-add-i : tie.Need-add-i Inv-loop μ-loop Inv-loop2 μ-loop2
+add-i : tie.Need-add-i Inv-loop μ-loop
 add-i c = search needs
 
-loop2-less : tie.Need-loop2-less Inv-loop μ-loop Inv-loop2 μ-loop2
-loop2-less c = search needs
+loop-less : tie.Need-loop-less Inv-loop μ-loop
+loop-less c = search needs
 
-loop2-again : tie.Need-loop2-again Inv-loop μ-loop Inv-loop2 μ-loop2
-loop2-again c = (search needs, search climb-turn)
+loop-again : tie.Need-loop-again Inv-loop μ-loop
+loop-again c = (search needs, search read-turn)
 
-returns-5 : tie.Need-returns-5 Inv-loop μ-loop Inv-loop2 μ-loop2
+returns-5 : tie.Need-returns-5 Inv-loop μ-loop
 returns-5 c = search (memo-climb, climb-end)
 
 pub memo-sound-spec : {M : Type 1} → statement M
@@ -92,26 +64,17 @@ memo-sound-spec =
     (tie.spec
     Inv-loop
     μ-loop
-    Inv-loop2
-    μ-loop2
     returns
-    loop-holds
-    mul-line-weight
-    element-copy-out-line-weight
-    line-weight-requires
-    add-sum
-    add-k
-    loop-less
-    loop-again
+    mul-rest
+    rest-requires
     returns-2
-    loop2-holds
-    mul-x
-    element-copy-out-x
+    loop-holds
+    line-at-requires
     goes-on-requires
     returns-3
     line-ok-requires
     returns-4
     add-i
-    loop2-less
-    loop2-again
+    loop-less
+    loop-again
     returns-5)

@@ -1,28 +1,21 @@
 -- The lines so far are written (`LinesDue`).
-use mathlib.Core.Path.{_≡_}
-use Prim.Native.Nat.{_-_, _≤_}
-use lib.ListN.{length}
-use Rattle.lists.proofs.ShiftLaws.{length-mapped}
-use Rattle.desk.specs.Layout.{lineSlots}
+use Prim.Native.Nat.{_≤_}
 use Rattle.sound_radios.proofs.DueLaws.{LinesDue, lines-start, line-radio, lines-turn, lines-end}
 use borrow.Author.Needs.{needs}
 use Rattle.sound_radios.proofs.lines_due.Statement.{statement}
 use Rattle.sound_radios.proofs.lines_due.Tie as tie
 
 abbrev Inv-loop : tie.InvT-loop
-Inv-loop due₀ kinds₀ codes₀ memo n i₀ due kinds codes i = (i ≤ memo .n) × (length (memo .rows) ≡ lineSlots) × LinesDue memo due₀ kinds₀ codes₀ i due kinds codes
+Inv-loop words n due₀ kinds₀ codes₀ i₀ due kinds codes i = (i ≤ n) × LinesDue (record { n = n; words = words }) due₀ kinds₀ codes₀ i due kinds codes
 
 abbrev μ-loop : tie.MeasureT-loop
-μ-loop due₀ kinds₀ codes₀ memo n i₀ due kinds codes i = memo .n - i
+μ-loop words n due₀ kinds₀ codes₀ i₀ due kinds codes i = n - i
 
 loop-holds : tie.Need-loop-holds Inv-loop μ-loop
-loop-holds c = (search needs, search length-mapped, search lines-start)
+loop-holds c = (search needs, search lines-start)
 
-mul-x : tie.Need-mul-x Inv-loop μ-loop
-mul-x c = search needs
-
-element-copy-out-x : tie.Need-element-copy-out-x Inv-loop μ-loop
-element-copy-out-x c = search needs
+line-at-requires : tie.Need-line-at-requires Inv-loop μ-loop
+line-at-requires c κs = search needs
 
 radio-index-requires : tie.Need-radio-index-requires Inv-loop μ-loop
 radio-index-requires c κs = search line-radio
@@ -58,10 +51,10 @@ loop-less : tie.Need-loop-less Inv-loop μ-loop
 loop-less c = search needs
 
 loop-again : tie.Need-loop-again Inv-loop μ-loop
-loop-again c = (search needs, search needs, search lines-turn)
+loop-again c = (search needs, search lines-turn)
 
 returns : tie.Need-returns Inv-loop μ-loop
-returns c = lines-end _ (c .before .loop .inv .2) (c .loop-test .left)
+returns c = lines-end _ (c .before .loop .inv .1) (c .loop-test .left)
 
 pub lines-due-spec : {M : Type 1} → statement M
 lines-due-spec =
@@ -70,8 +63,7 @@ lines-due-spec =
     Inv-loop
     μ-loop
     loop-holds
-    mul-x
-    element-copy-out-x
+    line-at-requires
     radio-index-requires
     missed-due-requires
     mul-due

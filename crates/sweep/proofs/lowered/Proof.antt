@@ -1,24 +1,21 @@
 -- Those of the first i lines that stay are in the slots, and every other slot is unused (`Lowering`).
-use Prim.Native.Nat.{_-_, _≤_}
+use Prim.Native.Nat.{_≤_}
 use borrow.Author.Needs.{needs}
 use Rattle.sweep.proofs.LowerLaws.{Lowering, lower-start, line-plain, lower-turn, lower-end}
 use Rattle.sweep.proofs.lowered.Statement.{statement}
 use Rattle.sweep.proofs.lowered.Tie as tie
 
 abbrev Inv-loop : tie.InvT-loop
-Inv-loop marks memo n rows₀ k₀ i₀ rows k i = (k ≤ i) × (i ≤ n) × Lowering marks memo i k rows
+Inv-loop marks memo n words₀ k₀ i₀ words k i = (k ≤ i) × (i ≤ n) × Lowering marks memo i k words
 
 abbrev μ-loop : tie.MeasureT-loop
-μ-loop marks memo n rows₀ k₀ i₀ rows k i = n - i
+μ-loop marks memo n words₀ k₀ i₀ words k i = n - i
 
 loop-holds : tie.Need-loop-holds Inv-loop μ-loop
 loop-holds c = (search needs, search needs, lower-start _ _)
 
-mul-x : tie.Need-mul-x Inv-loop μ-loop
-mul-x c = search needs
-
-element-copy-out-x : tie.Need-element-copy-out-x Inv-loop μ-loop
-element-copy-out-x c = search needs
+line-at-requires : tie.Need-line-at-requires Inv-loop μ-loop
+line-at-requires c κs = search needs
 
 element-copy-out-mark : tie.Need-element-copy-out-mark Inv-loop μ-loop
 element-copy-out-mark c = search needs
@@ -26,11 +23,8 @@ element-copy-out-mark c = search needs
 lowered-line-requires : tie.Need-lowered-line-requires Inv-loop μ-loop
 lowered-line-requires c κs = search line-plain
 
-mul-rows : tie.Need-mul-rows Inv-loop μ-loop
-mul-rows c = search needs
-
-array-set-from-rows : tie.Need-array-set-from-rows Inv-loop μ-loop
-array-set-from-rows c = search needs
+put-line-requires : tie.Need-put-line-requires Inv-loop μ-loop
+put-line-requires c κs = search needs
 
 line-stays-requires : tie.Need-line-stays-requires Inv-loop μ-loop
 line-stays-requires c κs = search needs
@@ -60,12 +54,10 @@ lowered-spec =
     Inv-loop
     μ-loop
     loop-holds
-    mul-x
-    element-copy-out-x
+    line-at-requires
     element-copy-out-mark
     lowered-line-requires
-    mul-rows
-    array-set-from-rows
+    put-line-requires
     line-stays-requires
     one-if-requires
     add-k

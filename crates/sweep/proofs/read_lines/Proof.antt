@@ -1,28 +1,22 @@
 -- The lines so far are written (`LinesRead`).
-use mathlib.Core.Path.{_≡_}
-use Prim.Native.Nat.{_-_, _≤_}
-use lib.ListN.{length}
-use Rattle.lists.proofs.ShiftLaws.{length-mapped}
-use Rattle.desk.specs.Layout.{lineSlots}
+use Prim.Native.Nat.{_≤_}
+use denote.Ref.{now}
 use borrow.Author.Needs.{needs}
 use Rattle.sweep.proofs.TableLaws.{LinesRead, lines-start, lines-turn, lines-end}
 use Rattle.sweep.proofs.read_lines.Statement.{statement}
 use Rattle.sweep.proofs.read_lines.Tie as tie
 
 abbrev Inv-loop : tie.InvT-loop
-Inv-loop radios₀ placed₀ easts₀ norths₀ memo n i₀ radios placed easts norths i = (i ≤ memo .n) × (length (memo .rows) ≡ lineSlots) × LinesRead memo i radios placed easts norths
+Inv-loop words n radios₀ placed₀ easts₀ norths₀ i₀ radios placed easts norths i = (i ≤ n) × LinesRead (record { n = n; words = words }) i radios placed easts norths
 
 abbrev μ-loop : tie.MeasureT-loop
-μ-loop radios₀ placed₀ easts₀ norths₀ memo n i₀ radios placed easts norths i = memo .n - i
+μ-loop words n radios₀ placed₀ easts₀ norths₀ i₀ radios placed easts norths i = n - i
 
 loop-holds : tie.Need-loop-holds Inv-loop μ-loop
-loop-holds c = (search needs, search length-mapped, search (lines-start, needs))
+loop-holds c = (search needs, search (lines-start, needs))
 
-mul-x : tie.Need-mul-x Inv-loop μ-loop
-mul-x c = search needs
-
-element-copy-out-x : tie.Need-element-copy-out-x Inv-loop μ-loop
-element-copy-out-x c = search needs
+line-at-requires : tie.Need-line-at-requires Inv-loop μ-loop
+line-at-requires c κs = search needs
 
 mul-radios : tie.Need-mul-radios Inv-loop μ-loop
 mul-radios c = search needs
@@ -55,10 +49,12 @@ loop-less : tie.Need-loop-less Inv-loop μ-loop
 loop-less c = search needs
 
 loop-again : tie.Need-loop-again Inv-loop μ-loop
-loop-again c = (search needs, search needs, search lines-turn)
+loop-again c = (search needs, search lines-turn)
 
 returns : tie.Need-returns Inv-loop μ-loop
-returns c = search lines-end
+returns c =
+    let start = c .before .before in
+    lines-end (record { n = start .args .n; words = now (start .args .words) }) (c .before .loop .inv .1) (start .pre .1) (start .pre .0) (search needs)
 
 pub read-lines-spec : {M : Type 1} → statement M
 read-lines-spec =
@@ -67,8 +63,7 @@ read-lines-spec =
     Inv-loop
     μ-loop
     loop-holds
-    mul-x
-    element-copy-out-x
+    line-at-requires
     mul-radios
     element-write-radios
     mul-placed

@@ -16,7 +16,7 @@ returns : tie.Need-returns
 returns c =
     let pages = c .before .before in
     let lines = pages .before .before .before .before .before .before in
-    let start = lines .before .before .before .before .before .before in
+    let start = lines .before .before .before .before .before .before .before .before in
     chain-swept _ _ (lines .read-lines .ensures) (start .pre .3) (start .pre .4) (start .pre .5) (start .pre .2) (pages .sweep-pages .ensures) (c .lowered .ensures)
 
 pub sweep-chain-spec : {M : Type 1} → statement M

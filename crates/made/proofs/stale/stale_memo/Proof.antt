@@ -1,16 +1,16 @@
-use Prim.Native.Nat.{_-_, _≤_}
+use Prim.Native.Nat.{_≤_}
 use borrow.Author.Needs.{needs}
 use Rattle.made.proofs.stale.stale_memo.Statement.{statement}
 use Rattle.made.proofs.stale.stale_memo.Tie as tie
 
 abbrev Inv-loop : tie.InvT-loop
-Inv-loop n rows₀ i₀ rows i = (i ≤ n) × (n ≤ 1151)
+Inv-loop n memo₀ i₀ memo i = (i ≤ n) × (n ≤ 1151)
 
 abbrev μ-loop : tie.MeasureT-loop
-μ-loop n rows₀ i₀ rows i = n - i
+μ-loop n memo₀ i₀ memo i = n - i
 
-line-requires : tie.Need-line-requires Inv-loop μ-loop
-line-requires c κs = search needs
+blank-memo-requires : tie.Need-blank-memo-requires Inv-loop μ-loop
+blank-memo-requires c κs = search needs
 
 loop-holds : tie.Need-loop-holds Inv-loop μ-loop
 loop-holds c = search needs
@@ -18,11 +18,8 @@ loop-holds c = search needs
 stale-line-requires : tie.Need-stale-line-requires Inv-loop μ-loop
 stale-line-requires c κs = search needs
 
-mul-rows : tie.Need-mul-rows Inv-loop μ-loop
-mul-rows c = search needs
-
-array-set-from-rows : tie.Need-array-set-from-rows Inv-loop μ-loop
-array-set-from-rows c = search needs
+with-line-requires : tie.Need-with-line-requires Inv-loop μ-loop
+with-line-requires c κs = search needs
 
 add-i : tie.Need-add-i Inv-loop μ-loop
 add-i c = search needs
@@ -42,11 +39,10 @@ stale-memo-spec =
     (tie.spec
     Inv-loop
     μ-loop
-    line-requires
+    blank-memo-requires
     loop-holds
     stale-line-requires
-    mul-rows
-    array-set-from-rows
+    with-line-requires
     add-i
     loop-less
     loop-again
