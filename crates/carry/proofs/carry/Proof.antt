@@ -8,43 +8,33 @@ use Rattle.carry.proofs.answered.Reads as answered-reads
 use Rattle.carry.proofs.carry_sound.Reads as carry-sound-reads
 use Rattle.sound.proofs.sound.Reads as sound-reads
 
--- src/lib.rt:203:9
 answered-requires : tie.Need-answered-requires
 answered-requires c κs = search needs
 
--- src/lib.rt:203:9
 returns : tie.Need-returns
 returns c = search size-answers
 
--- src/lib.rt:205:9
 sound-requires : tie.Need-sound-requires
 sound-requires c κs = search needs
 
--- src/lib.rt:206:9
 answered-requires-2 : tie.Need-answered-requires-2
 answered-requires-2 c κs = search needs
 
--- src/lib.rt:206:9
 same-length : tie.Need-same-length
 same-length c = search needs
 
--- src/lib.rt:206:9
 returns-2 : tie.Need-returns-2
 returns-2 c = let s = c .before .before in unsound-answers _ (search needs) (s .sound .ensures .1) (search needs) (c .answered2 .ensures)
 
--- src/lib.rt:208:5
 carry-sound-requires : tie.Need-carry-sound-requires
 carry-sound-requires c κs = let s = c .before .before .before in sound-by (s .sound .result) (s .sound .ensures .0) (search needs)
 
--- src/lib.rt:199:1
 same-length-2 : tie.Need-same-length-2
 same-length-2 c = search needs
 
--- src/lib.rt:199:1
 same-length-3 : tie.Need-same-length-3
 same-length-3 c = search needs
 
--- src/lib.rt:199:1
 returns-3 : tie.Need-returns-3
 returns-3 c =
     let k = c .before .before .before .before in

@@ -12,120 +12,96 @@ use Rattle.carry.proofs.sign_off.Reads as sign-off-reads
 use Rattle.carry.proofs.sign_on.Reads as sign-on-reads
 use Rattle.records.proofs.asked_by.Reads as asked-by-reads
 
--- src/lib.rt:181:11
 asked-by-requires : tie.Need-asked-by-requires
 asked-by-requires c κs = record-asks (c .before .before .before .before .pre)
 
--- src/lib.rt:182:24
 enum-known-number : tie.Need-enum-known-number
 enum-known-number c = search needs
 
--- src/lib.rt:182:35
 answered-requires : tie.Need-answered-requires
 answered-requires c κs = search needs
 
--- src/lib.rt:183:23
 enum-known-radio : tie.Need-enum-known-radio
 enum-known-radio c = search needs
 
--- src/lib.rt:183:55
 sign-on-requires : tie.Need-sign-on-requires
 sign-on-requires c κs =
     let a = c .before .before .before .before in
     let e = a .before .before .before .before .before in
     search (on-asked (e .pre) (e .args .bytes .now) (e .args .buffer .now) (λ i. a .before .before .before .shared-slice-known .given i .fits) (a .asked-by .ensures))
 
--- src/lib.rt:183:46
 accepted-requires : tie.Need-accepted-requires
 accepted-requires c κs = search needs
 
--- src/lib.rt:184:23
 enum-known-radio-2 : tie.Need-enum-known-radio-2
 enum-known-radio-2 c = search needs
 
--- src/lib.rt:184:55
 reported-requires : tie.Need-reported-requires
 reported-requires c κs =
     let a = c .before .before .before .before in
     let e = a .before .before .before .before .before in
     search (report-asked (e .pre) (e .args .bytes .now) (e .args .buffer .now) (λ i. a .before .before .before .shared-slice-known .given i .fits) (a .asked-by .ensures))
 
--- src/lib.rt:184:46
 accepted-requires-2 : tie.Need-accepted-requires-2
 accepted-requires-2 c κs = search needs
 
--- src/lib.rt:185:24
 enum-known-radio-3 : tie.Need-enum-known-radio-3
 enum-known-radio-3 c = search needs
 
--- src/lib.rt:185:43
 sign-off-requires : tie.Need-sign-off-requires
 sign-off-requires c κs =
     let a = c .before .before .before .before in
     let e = a .before .before .before .before .before in
     search (off-asked (e .pre) (e .args .bytes .now) (e .args .buffer .now) (λ i. a .before .before .before .shared-slice-known .given i .fits) (a .asked-by .ensures))
 
--- src/lib.rt:185:34
 accepted-requires-3 : tie.Need-accepted-requires-3
 accepted-requires-3 c κs = search needs
 
--- src/lib.rt:186:22
 enum-known-west : tie.Need-enum-known-west
 enum-known-west c = search needs
 
--- src/lib.rt:193:13
 listed-requires : tie.Need-listed-requires
 listed-requires c κs = search needs
 
--- src/lib.rt:176:1
 returns : tie.Need-returns
 returns c = λ x.
     let a = c .before .before .before .before in
     let e = a .before .before .before .before .before in
     refused-returns x (e .args .bytes .now) (e .args .buffer .now) (λ i. a .before .before .before .shared-slice-known .given i .fits) (a .asked-by .ensures) _ (search needs) (c .answered .ensures)
 
--- src/lib.rt:176:1
 same-length : tie.Need-same-length
 same-length c = search needs
 
--- src/lib.rt:176:1
 returns-2 : tie.Need-returns-2
 returns-2 c = λ x.
     let a = c .before .before .before .before .before .before .before .before in
     let e = a .before .before .before .before .before in
     on-returns x (e .args .bytes .now) (e .args .buffer .now) (λ i. a .before .before .before .shared-slice-known .given i .fits) (a .asked-by .ensures) _ _ (search (needs, c .before .before .before .before .before .before .radio)) (c .before .before .before .sign-on .ensures) (c .accepted .ensures)
 
--- src/lib.rt:176:1
 same-length-2 : tie.Need-same-length-2
 same-length-2 c = search needs
 
--- src/lib.rt:176:1
 returns-3 : tie.Need-returns-3
 returns-3 c = λ x.
     let a = c .before .before .before .before .before .before .before .before in
     let e = a .before .before .before .before .before in
     report-returns x (e .args .bytes .now) (e .args .buffer .now) (λ i. a .before .before .before .shared-slice-known .given i .fits) (a .asked-by .ensures) _ _ (search (needs, c .before .before .before .before .before .before .radio2)) (c .before .before .before .reported .ensures) (c .accepted2 .ensures)
 
--- src/lib.rt:176:1
 same-length-3 : tie.Need-same-length-3
 same-length-3 c = search needs
 
--- src/lib.rt:176:1
 returns-4 : tie.Need-returns-4
 returns-4 c = λ x.
     let a = c .before .before .before .before .before .before .before .before in
     let e = a .before .before .before .before .before in
     off-returns x (e .args .bytes .now) (e .args .buffer .now) (λ i. a .before .before .before .shared-slice-known .given i .fits) (a .asked-by .ensures) _ (search (needs, c .before .before .before .before .before .before .radio3)) (c .before .before .before .sign-off .ensures) (c .accepted3 .ensures)
 
--- src/lib.rt:176:1
 same-length-4 : tie.Need-same-length-4
 same-length-4 c = search needs
 
--- src/lib.rt:176:1
 same-length-5 : tie.Need-same-length-5
 same-length-5 c = search needs
 
--- src/lib.rt:176:1
 returns-5 : tie.Need-returns-5
 returns-5 c = λ x.
     let a = c .before .before .before .before .before .before .before .before in

@@ -7,21 +7,17 @@ use Rattle.carry.proofs.followed.Lts as lts
 use Rattle.carry.proofs.ticked.Reads as ticked-reads
 use Rattle.flush.proofs.after_report.Reads as after-report-reads
 
--- src/lib.rt:40:9
 after-report-requires : tie.Need-after-report-requires
 after-report-requires c κs = effect-reported (c .before .before .before .before .before .before .pre)
 
--- src/lib.rt:51:5
 ticked-requires : tie.Need-ticked-requires
 ticked-requires c κs =
     let a = c .before .before .before .before .before .before in
     flushed-left (a .before .before .before .before .before .before .before .pre) (a .after-report .ensures)
 
--- src/lib.rt:32:1
 same-length : tie.Need-same-length
 same-length c = search needs
 
--- src/lib.rt:32:1
 returns : tie.Need-returns
 returns c = λ x.
     let t = c .before .before in

@@ -8,23 +8,19 @@ use Rattle.carry.proofs.sign_off.Lts as lts
 use Rattle.carry.proofs.ticked.Reads as ticked-reads
 use Rattle.own.proofs.signed_off.Reads as signed-off-reads
 
--- src/lib.rt:107:9
 signed-off-requires : tie.Need-signed-off-requires
 signed-off-requires c κs =
     let x = c .before .before .before .before .before .pre in
     off-asks (x .sound .store) (c .before .before .before .before .before .args .desk) (x .sound .held) (x .sound .well) (c .before .before .before .before .before .args .radio)
 
--- src/lib.rt:118:5
 ticked-requires : tie.Need-ticked-requires
 ticked-requires c κs =
     let o = c .before .before .before .before in
     off-left (o .before .before .before .before .before .before .pre) (o .signed-off .result) (o .signed-off .ensures)
 
--- src/lib.rt:99:1
 same-length : tie.Need-same-length
 same-length c = search needs
 
--- src/lib.rt:99:1
 returns : tie.Need-returns
 returns c = λ x.
     let t = c .before .before in

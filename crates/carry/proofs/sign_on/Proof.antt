@@ -8,23 +8,19 @@ use Rattle.carry.proofs.sign_on.Lts as lts
 use Rattle.carry.proofs.followed.Reads as followed-reads
 use Rattle.own.proofs.signed_on.Reads as signed-on-reads
 
--- src/lib.rt:65:9
 signed-on-requires : tie.Need-signed-on-requires
 signed-on-requires c κs =
     let x = c .before .before .before .before .before .pre in
     on-asks (x .sound .store) (c .before .before .before .before .before .args .desk) (x .sound .held) (x .sound .well) (x .signs .room)
 
--- src/lib.rt:75:5
 followed-requires : tie.Need-followed-requires
 followed-requires c κs =
     let o = c .before .before .before in
     on-effect (o .before .before .before .before .before .before .pre) (o .signed-on .result) (o .signed-on .ensures)
 
--- src/lib.rt:57:1
 same-length : tie.Need-same-length
 same-length c = search needs
 
--- src/lib.rt:57:1
 returns : tie.Need-returns
 returns c = λ x.
     let f = c .before .before in

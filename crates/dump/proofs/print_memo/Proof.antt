@@ -1,4 +1,4 @@
-use Prim.Native.Nat.{_≤_}
+use Prim.Native.Nat.{_-_, _≤_}
 use borrow.Author.Needs.{needs}
 use Rattle.dump.proofs.print_memo.Statement.{statement}
 use Rattle.dump.proofs.print_memo.Tie as tie

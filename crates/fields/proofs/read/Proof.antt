@@ -6,23 +6,18 @@ use Rattle.fields.proofs.read.Reads as reads
 use Rattle.fields.proofs.read.Lts as lts
 use Rattle.fields.proofs.joined.Reads as joined-reads
 
--- src/lib.rt:20:12
 shared-slice-read-joined : tie.Need-shared-slice-read-joined
 shared-slice-read-joined c = search needs
 
--- src/lib.rt:20:21
 add-joined : tie.Need-add-joined
 add-joined c = search needs
 
--- src/lib.rt:20:19
 shared-slice-read-joined-2 : tie.Need-shared-slice-read-joined-2
 shared-slice-read-joined-2 c = search needs
 
--- src/lib.rt:20:5
 joined-requires : tie.Need-joined-requires
 joined-requires c κs = search needs
 
--- src/lib.rt:16:1
 returns : tie.Need-returns
 unfolding word
 returns c = search needs

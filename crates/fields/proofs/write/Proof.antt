@@ -8,31 +8,24 @@ use Rattle.fields.proofs.write.Tie as tie
 use Rattle.fields.proofs.write.Reads as reads
 use Rattle.fields.proofs.write.Lts as lts
 
--- src/lib.rt:28:13
 cast-s : tie.Need-cast-s
 cast-s c = search needs
 
--- src/lib.rt:28:5
 slice-write-s : tie.Need-slice-write-s
 slice-write-s c = search needs
 
--- src/lib.rt:29:17
 cast-s-2 : tie.Need-cast-s-2
 cast-s-2 c = search needs
 
--- src/lib.rt:29:7
 add-s : tie.Need-add-s
 add-s c = search needs
 
--- src/lib.rt:29:5
 slice-write-s-2 : tie.Need-slice-write-s-2
 slice-write-s-2 c = simp length-set (omega arith)
 
--- src/lib.rt:24:1
 same-length : tie.Need-same-length
 same-length c = search needs
 
--- src/lib.rt:24:1
 returns : tie.Need-returns
 unfolding le
 returns c = put-two _ _ _ _ (omega arith)

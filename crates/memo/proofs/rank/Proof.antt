@@ -1,7 +1,7 @@
 -- Radios before low are below, those from high on are not (`Between`): where the two meet is the rank.
 use borrow.Author.Needs.{needs}
 use mathlib.Core.Path.{sym}
-use Prim.Native.Nat.{_≤_}
+use Prim.Native.Nat.{_-_, _≤_}
 use Rattle.lists.proofs.SearchLaws.{Between, rank-between}
 use Rattle.memo.specs.Memo.{linesOf, noRow}
 use Rattle.memo.proofs.MemoLaws.{search-start, search-up, search-down}

@@ -1,5 +1,5 @@
 -- The lines passed lie over the table.
-use Prim.Native.Nat.{_≤_}
+use Prim.Native.Nat.{_-_, _≤_}
 use lib.ListN.{take}
 use Rattle.memo.specs.Memo.{linesOf}
 use Rattle.range.specs.Range.{placesIn, Holds, linesOver}

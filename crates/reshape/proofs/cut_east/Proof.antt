@@ -5,11 +5,9 @@ use Rattle.reshape.proofs.cut_east.Reads as reads
 use Rattle.reshape.proofs.cut_east.Lts as lts
 use Rattle.directory.proofs.with_cut.Reads as with-cut-reads
 
--- src/lib.rt:82:5
 with-cut-requires : tie.Need-with-cut-requires
 with-cut-requires c κs = search needs
 
--- src/lib.rt:76:1
 returns : tie.Need-returns
 returns c = cc
 

@@ -6,19 +6,15 @@ use Rattle.reshape.proofs.cut_grid.Lts as lts
 use Rattle.reshape.proofs.cut_east.Reads as cut-east-reads
 use Rattle.reshape.proofs.cut_north.Reads as cut-north-reads
 
--- src/lib.rt:103:9
 cut-east-requires : tie.Need-cut-east-requires
 cut-east-requires c κs = search east-ready
 
--- src/lib.rt:103:9
 returns : tie.Need-returns
 returns c = search east-grid
 
--- src/lib.rt:105:5
 cut-north-requires : tie.Need-cut-north-requires
 cut-north-requires c κs = search north-ready
 
--- src/lib.rt:98:1
 returns-2 : tie.Need-returns-2
 returns-2 c = search north-grid
 

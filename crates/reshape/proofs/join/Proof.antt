@@ -15,34 +15,27 @@ use Rattle.reshape.proofs.joined_cells.Reads as joined-cells-reads
 use Rattle.reshape.proofs.with_cells.Reads as with-cells-reads
 use Rattle.sweep.proofs.sweep_chain.Reads as sweep-chain-reads
 
--- src/lib.rt:211:13
 mul-d : tie.Need-mul-d
 mul-d c = let h = near-d (c .before .before .pre .2) in omega arith
 
--- src/lib.rt:211:13
 element-copy-out-d : tie.Need-element-copy-out-d
 element-copy-out-d c = near-d (c .before .before .pre .2)
 
--- src/lib.rt:212:13
 mul-m : tie.Need-mul-m
 mul-m c = let h = near-m (c .before .before .before .pre .2) in omega arith
 
--- src/lib.rt:212:13
 element-copy-out-m : tie.Need-element-copy-out-m
 element-copy-out-m c = near-m (c .before .before .before .pre .2)
 
--- src/lib.rt:213:9
 read-chain-requires : tie.Need-read-chain-requires
 read-chain-requires c κs = search needs
 
--- src/lib.rt:214:9
 sweep-chain-requires : tie.Need-sweep-chain-requires
 sweep-chain-requires c κs =
     let o = c .before in
     let e = o .before .before .before .before .before .before in
     near-asks (e .pre .2) (o .read-chain .result) (o .read-chain .ensures .0) (o .read-chain .ensures .2)
 
--- src/lib.rt:216:9
 merged-requires : tie.Need-merged-requires
 merged-requires c κs =
     let w = c .before in
@@ -50,7 +43,6 @@ merged-requires c κs =
     let e = o .before .before .before .before .before .before in
     near-merges (e .pre .2) (o .read-chain .result) (o .read-chain .ensures .0) (w .sweep-chain .result) (w .sweep-chain .ensures) (e .args .table) (e .pre .1) refl
 
--- src/lib.rt:217:9
 join-pages-requires : tie.Need-join-pages-requires
 join-pages-requires c κs =
     let a = c .before in
@@ -64,19 +56,15 @@ join-pages-requires c κs =
       near-joins (e .pre .2) (o .read-chain .result) (o .read-chain .ensures .0) (w .sweep-chain .result) (w .sweep-chain .ensures) (rowsOf (a .merged .result)) (a .merged .ensures .0),
     )
 
--- src/lib.rt:218:9
 joined-cells-requires : tie.Need-joined-cells-requires
 joined-cells-requires c κs = near-puts (c .before .before .before .before .before .before .before .before .before .before .before .before .before .before .pre .2)
 
--- src/lib.rt:221:15
 with-cells-requires : tie.Need-with-cells-requires
 with-cells-requires c κs = search needs
 
--- src/lib.rt:206:1
 same-length : tie.Need-same-length
 same-length c = search needs
 
--- src/lib.rt:206:1
 returns : tie.Need-returns
 returns c = λ x.
     let j = c .before .before in

@@ -8,14 +8,12 @@ use Rattle.reshape.proofs.join_onto_d.Lts as lts
 use Rattle.settle.proofs.give_up.Reads as give-up-reads
 use Rattle.settle.proofs.settle.Reads as settle-reads
 
--- src/lib.rt:168:9
 settle-requires : tie.Need-settle-requires
 settle-requires c κs =
     let e = c .before .before in
     let q = d-asks (e .pre .4) in
     (e .pre .4 .laid .size, e .pre .2, e .pre .0, q .0, q .1, q .2)
 
--- src/lib.rt:169:9
 give-up-requires : tie.Need-give-up-requires
 give-up-requires c κs =
     let s = c .before .before .before in
@@ -24,11 +22,9 @@ give-up-requires c κs =
     let p = d-asks (e .pre .4) in
     search (q .0, q .1, p .0, e .pre .0, e .pre .1)
 
--- src/lib.rt:164:1
 same-length : tie.Need-same-length
 same-length c = search needs
 
--- src/lib.rt:164:1
 returns : tie.Need-returns
 returns c = λ x.
     let g = c .before .before in

@@ -8,14 +8,12 @@ use Rattle.reshape.proofs.join_onto_m.Lts as lts
 use Rattle.settle.proofs.give_up.Reads as give-up-reads
 use Rattle.settle.proofs.settle.Reads as settle-reads
 
--- src/lib.rt:181:9
 give-up-requires : tie.Need-give-up-requires
 give-up-requires c κs =
     let e = c .before .before in
     let q = d-given-asks (e .pre .4) in
     (q .0, e .pre .0, q .1)
 
--- src/lib.rt:182:5
 settle-requires : tie.Need-settle-requires
 settle-requires c κs =
     let g = c .before .before .before in
@@ -23,11 +21,9 @@ settle-requires c κs =
     let q = m-asks (e .pre .4) (g .give-up .ensures .0) (g .give-up .ensures .1) in
     (m-size (e .pre .4) (g .give-up .ensures .0) (g .give-up .ensures .1), e .pre .2, e .pre .1, q .0, q .1, q .2)
 
--- src/lib.rt:177:1
 same-length : tie.Need-same-length
 same-length c = search needs
 
--- src/lib.rt:177:1
 returns : tie.Need-returns
 returns c = λ x.
     let s = c .before .before in

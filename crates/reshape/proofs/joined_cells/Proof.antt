@@ -8,19 +8,15 @@ use Rattle.directory.proofs.put_last.Reads as put-last-reads
 use Rattle.directory.proofs.taken_out.Reads as taken-out-reads
 use Rattle.join.proofs.joined_slot.Reads as joined-slot-reads
 
--- src/lib.rt:201:9
 taken-out-requires : tie.Need-taken-out-requires
 taken-out-requires c κs = search needs
 
--- src/lib.rt:202:31
 joined-slot-requires : tie.Need-joined-slot-requires
 joined-slot-requires c κs = search needs
 
--- src/lib.rt:202:5
 put-last-requires : tie.Need-put-last-requires
 put-last-requires c κs = let e = c .before .before in out-puts (e .args .rest) (e .args .k) (e .pre .0) (e .pre .1) (c .before .taken-out .ensures) (e .pre .2)
 
--- src/lib.rt:197:1
 returns : tie.Need-returns
 returns c =
     let j = c .before in

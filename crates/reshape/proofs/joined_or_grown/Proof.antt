@@ -12,51 +12,39 @@ use Rattle.join.proofs.find_neighbour.Reads as find-neighbour-reads
 use Rattle.reshape.proofs.join.Reads as join-reads
 use Rattle.reshape.proofs.settled_last.Reads as settled-last-reads
 
--- src/lib.rt:259:13
 mul-d : tie.Need-mul-d
 mul-d c = let h = midway-in (c .before .before .pre .3) in omega arith
 
--- src/lib.rt:259:13
 element-copy-out-d : tie.Need-element-copy-out-d
 element-copy-out-d c = midway-in (c .before .before .pre .3)
 
--- src/lib.rt:260:9
 taken-out-requires : tie.Need-taken-out-requires
 taken-out-requires c κs = loose-takes (midway-loose (c .before .before .before .pre .3))
 
--- src/lib.rt:261:28
 find-neighbour-requires : tie.Need-find-neighbour-requires
 find-neighbour-requires c κs = let e = c .before .before .before .before .before in lone-asks (e .pre .3) (c .before .taken-out .ensures) (e .pre .1) (e .pre .2)
 
--- src/lib.rt:261:23
 enum-known-k : tie.Need-enum-known-k
 enum-known-k c = search needs
 
--- src/lib.rt:262:34
 enum-told : tie.Need-enum-told
 enum-told c = search needs
 
--- src/lib.rt:262:13
 settled-last-requires : tie.Need-settled-last-requires
 settled-last-requires c κs = let e = c .before .before .before .before .before .before .before .before .before in (e .pre .0, omega (arith, e .pre .1, e .pre .2), midway-loose (e .pre .3))
 
--- src/lib.rt:263:9
 same-length : tie.Need-same-length
 same-length c = search needs
 
--- src/lib.rt:263:9
 returns : tie.Need-returns
 returns c = λ x. search (lone-returns x)
 
--- src/lib.rt:265:5
 join-requires : tie.Need-join-requires
 join-requires c κs = let e = c .before .before .before .before .before .before .before .before .before .before in (e .pre .0, e .pre .1, search (nears (e .pre .3)))
 
--- src/lib.rt:254:1
 same-length-2 : tie.Need-same-length-2
 same-length-2 c = search needs
 
--- src/lib.rt:254:1
 returns-2 : tie.Need-returns-2
 returns-2 c = λ x.
     let j = c .before .before in

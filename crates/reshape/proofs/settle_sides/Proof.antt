@@ -12,19 +12,15 @@ use Rattle.settle.proofs.settle.Reads as settle-reads
 use Rattle.split.proofs.high_part.Reads as high-part-reads
 use Rattle.split.proofs.low_part.Reads as low-part-reads
 
--- src/lib.rt:122:13
 mul-d : tie.Need-mul-d
 mul-d c = let h = split-in-slots (c .before .before .pre .3) in omega arith
 
--- src/lib.rt:122:13
 element-copy-out-d : tie.Need-element-copy-out-d
 element-copy-out-d c = split-in-slots (c .before .before .pre .3)
 
--- src/lib.rt:123:9
 low-part-requires : tie.Need-low-part-requires
 low-part-requires c κs = search needs
 
--- src/lib.rt:124:9
 settle-requires : tie.Need-settle-requires
 settle-requires c κs =
     let l = c .before in
@@ -32,11 +28,9 @@ settle-requires c κs =
     let q = low-settles (e .pre .3) (rowsOf (l .low-part .result)) (l .low-part .ensures .0) in
     (e .pre .3 .midway .laid .size, omega (arith, l .low-part .ensures .2, e .pre .1), e .pre .0, q .0, q .1, q .2)
 
--- src/lib.rt:125:9
 high-part-requires : tie.Need-high-part-requires
 high-part-requires c κs = search needs
 
--- src/lib.rt:131:9
 settle-requires-2 : tie.Need-settle-requires-2
 settle-requires-2 c κs =
     let h = c .before in
@@ -47,11 +41,9 @@ settle-requires-2 c κs =
     let q = high-settles (e .pre .3) low (l .low-part .ensures .0) (s .settle .ensures .0) (s .settle .ensures .1) [] (rowsOf (h .high-part .result)) refl (h .high-part .ensures .0) in
     (high-size (e .pre .3) low (l .low-part .ensures .0) (s .settle .ensures .0) (s .settle .ensures .1), omega (arith, h .high-part .ensures .2, e .pre .1), omega arith, tt, q .1, q .2)
 
--- src/lib.rt:117:1
 same-length : tie.Need-same-length
 same-length c = search needs
 
--- src/lib.rt:117:1
 returns : tie.Need-returns
 returns c = λ x.
     let t = c .before .before in

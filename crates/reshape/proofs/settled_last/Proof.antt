@@ -11,39 +11,30 @@ use Rattle.reshape.proofs.begun_at.Reads as begun-at-reads
 use Rattle.reshape.proofs.with_cells.Reads as with-cells-reads
 use Rattle.settle.proofs.settle.Reads as settle-reads
 
--- src/lib.rt:51:13
 mul-d : tie.Need-mul-d
 mul-d c = let h = loose-in-slots (c .before .before .pre .2) in omega arith
 
--- src/lib.rt:51:13
 element-copy-out-d : tie.Need-element-copy-out-d
 element-copy-out-d c = loose-in-slots (c .before .before .pre .2)
 
--- src/lib.rt:52:9
 settle-requires : tie.Need-settle-requires
 settle-requires c κs = let e = c .before .before .before .before in loose-settles (e .args .chain) (e .args .table) (e .pre .2) (e .pre .0) (e .pre .1)
 
--- src/lib.rt:53:9
 taken-out-requires : tie.Need-taken-out-requires
 taken-out-requires c κs = search loose-takes
 
--- src/lib.rt:54:9
 begun-at-requires : tie.Need-begun-at-requires
 begun-at-requires c κs = search needs
 
--- src/lib.rt:55:9
 put-last-requires : tie.Need-put-last-requires
 put-last-requires c κs = loose-puts (c .before .before .before .before .before .before .before .before .before .pre .2) (c .before .taken-out .ensures)
 
--- src/lib.rt:56:5
 with-cells-requires : tie.Need-with-cells-requires
 with-cells-requires c κs = search needs
 
--- src/lib.rt:46:1
 same-length : tie.Need-same-length
 same-length c = search needs
 
--- src/lib.rt:46:1
 returns : tie.Need-returns
 returns c = λ x. search (moved-returns x)
 

@@ -11,31 +11,24 @@ use Rattle.reshape.proofs.settle_sides.Reads as settle-sides-reads
 use Rattle.reshape.proofs.split_cells.Reads as split-cells-reads
 use Rattle.reshape.proofs.with_cells.Reads as with-cells-reads
 
--- src/lib.rt:145:9
 unused-number-requires : tie.Need-unused-number-requires
 unused-number-requires c κs = search split-numbers
 
--- src/lib.rt:146:9
 settle-sides-requires : tie.Need-settle-sides-requires
 settle-sides-requires c κs = search needs
 
--- src/lib.rt:147:9
 split-cells-requires : tie.Need-split-cells-requires
 split-cells-requires c κs = search split-asks
 
--- src/lib.rt:148:9
 with-cells-requires : tie.Need-with-cells-requires
 with-cells-requires c κs = search needs
 
--- src/lib.rt:149:5
 cut-grid-requires : tie.Need-cut-grid-requires
 cut-grid-requires c κs = search split-cuts
 
--- src/lib.rt:140:1
 same-length : tie.Need-same-length
 same-length c = search needs
 
--- src/lib.rt:140:1
 returns : tie.Need-returns
 returns c = λ x.
     let w = c .before in

@@ -9,38 +9,30 @@ use Rattle.directory.proofs.taken_out.Reads as taken-out-reads
 use Rattle.split.proofs.high_slot.Reads as high-slot-reads
 use Rattle.split.proofs.low_slot.Reads as low-slot-reads
 
--- src/lib.rt:66:13
 mul-d : tie.Need-mul-d
 mul-d c = search needs
 
--- src/lib.rt:66:13
 element-copy-out-d : tie.Need-element-copy-out-d
 element-copy-out-d c = search needs
 
--- src/lib.rt:67:9
 taken-out-requires : tie.Need-taken-out-requires
 taken-out-requires c κs = search needs
 
--- src/lib.rt:68:41
 low-slot-requires : tie.Need-low-slot-requires
 low-slot-requires c κs = search needs
 
--- src/lib.rt:68:9
 put-last-requires : tie.Need-put-last-requires
 put-last-requires c κs = let e = c .before .before .before in out-puts (e .args .t1) (e .args .at) (e .pre .0) (e .pre .1) (c .before .taken-out .ensures) (e .pre .2)
 
--- src/lib.rt:69:30
 high-slot-requires : tie.Need-high-slot-requires
 high-slot-requires c κs = search needs
 
--- src/lib.rt:69:5
 put-last-requires-2 : tie.Need-put-last-requires-2
 put-last-requires-2 c κs =
     let t = c .before .before .before in
     let e = t .before .before in
     last-puts (e .args .t1) (e .args .at) (e .pre .0) (e .pre .1) (t .taken-out .ensures) (c .before .before .low-slot .result) (c .before .put-last .ensures) (e .pre .2)
 
--- src/lib.rt:62:1
 returns : tie.Need-returns
 returns c = search sides-return
 

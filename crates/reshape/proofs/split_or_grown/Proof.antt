@@ -10,59 +10,45 @@ use Rattle.cut.proofs.chosen_cut.Reads as chosen-cut-reads
 use Rattle.reshape.proofs.settled_last.Reads as settled-last-reads
 use Rattle.reshape.proofs.split.Reads as split-reads
 
--- src/lib.rt:239:13
 settled-last-requires : tie.Need-settled-last-requires
 settled-last-requires c κs = let e = c .before .before .before .before in (e .pre .0, e .pre .1, midway-loose (e .pre .3))
 
--- src/lib.rt:240:9
 same-length : tie.Need-same-length
 same-length c = search needs
 
--- src/lib.rt:240:9
 returns : tie.Need-returns
 returns c = λ x. search (full-returns x)
 
--- src/lib.rt:242:13
 mul-d : tie.Need-mul-d
 mul-d c = let h = midway-in (c .before .before .before .pre .3) in omega arith
 
--- src/lib.rt:242:13
 element-copy-out-d : tie.Need-element-copy-out-d
 element-copy-out-d c = midway-in (c .before .before .before .pre .3)
 
--- src/lib.rt:245:36
 chosen-cut-requires : tie.Need-chosen-cut-requires
 chosen-cut-requires c κs = let e = c .before .before .before .before .before .before in let q = cuts-few (e .pre .3) in (e .pre .1, q .0, q .1)
 
--- src/lib.rt:245:23
 enum-known-axis : tie.Need-enum-known-axis
 enum-known-axis c = search needs
 
--- src/lib.rt:246:34
 enum-told : tie.Need-enum-told
 enum-told c = search needs
 
--- src/lib.rt:246:13
 settled-last-requires-2 : tie.Need-settled-last-requires-2
 settled-last-requires-2 c κs = let e = c .before .before .before .before .before .before .before .before .before .before in (e .pre .0, e .pre .1, midway-loose (e .pre .3))
 
--- src/lib.rt:247:9
 same-length-2 : tie.Need-same-length-2
 same-length-2 c = search needs
 
--- src/lib.rt:247:9
 returns-2 : tie.Need-returns-2
 returns-2 c = λ x. search (uncut-returns x (c .before .before .before .before .before .before .before .before .before .before .before .before .before .pre .2))
 
--- src/lib.rt:249:9
 split-requires : tie.Need-split-requires
 split-requires c κs = let e = c .before .before .before .before .before .before .before .before .before .before .before in (e .pre .0, e .pre .1, search (splits (e .pre .3) (e .pre .2)))
 
--- src/lib.rt:233:1
 same-length-3 : tie.Need-same-length-3
 same-length-3 c = search needs
 
--- src/lib.rt:233:1
 returns-3 : tie.Need-returns-3
 returns-3 c = λ x. search (split-returns x (c .before .before .before .before .before .before .before .before .before .before .before .before .before .before .pre .2))
 

@@ -1,5 +1,5 @@
 -- What is left to test, from the last radio on, is the test (`Climbs`).
-use Prim.Native.Nat.{_≤_}
+use Prim.Native.Nat.{_-_, _≤_}
 use Rattle.desk.specs.Layout.{lineSlots}
 use Rattle.desk.specs.Views.{linesIn}
 use Rattle.desk.proofs.LinesLaws.{length-lines-in}

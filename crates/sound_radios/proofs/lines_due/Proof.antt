@@ -1,5 +1,5 @@
 -- The lines so far are written (`LinesDue`).
-use Prim.Native.Nat.{_≤_}
+use Prim.Native.Nat.{_-_, _≤_}
 use Rattle.sound_radios.proofs.DueLaws.{LinesDue, lines-start, line-radio, lines-turn, lines-end}
 use borrow.Author.Needs.{needs}
 use Rattle.sound_radios.proofs.lines_due.Statement.{statement}

@@ -1,5 +1,5 @@
 -- Those of the first i lines that stay are in the slots, and every other slot is unused (`Lowering`).
-use Prim.Native.Nat.{_≤_}
+use Prim.Native.Nat.{_-_, _≤_}
 use borrow.Author.Needs.{needs}
 use Rattle.sweep.proofs.LowerLaws.{Lowering, lower-start, line-plain, lower-turn, lower-end}
 use Rattle.sweep.proofs.lowered.Statement.{statement}

@@ -1,5 +1,5 @@
 -- The lines so far are written (`LinesRead`).
-use Prim.Native.Nat.{_≤_}
+use Prim.Native.Nat.{_-_, _≤_}
 use denote.Ref.{now}
 use borrow.Author.Needs.{needs}
 use Rattle.sweep.proofs.TableLaws.{LinesRead, lines-start, lines-turn, lines-end}

@@ -1,4 +1,4 @@
-use Prim.Native.Nat.{_≤_}
+use Prim.Native.Nat.{_-_, _≤_}
 use borrow.Author.Needs.{needs}
 use Rattle.made.proofs.stale.stale_memo.Statement.{statement}
 use Rattle.made.proofs.stale.stale_memo.Tie as tie
