@@ -1,4 +1,3 @@
 pub mod SideLaws
 pub mod BestLaws
 pub mod MedianLaws
-pub mod DeskLaws

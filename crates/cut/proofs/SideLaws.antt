@@ -17,7 +17,7 @@ use Rattle.entries.specs.declared.Entry.{Entry}
 use Rattle.entries.specs.declared.Entries.{Entries}
 use Rattle.entries.specs.Entries.{placeOf, rowOf, rowsOf, noRow}
 use Rattle.entries.proofs.TableLaws.{length-rows}
-use Rattle.rules.specs.Grid.{Axis, eastward, northward, along, across, spanOf, cutsOf}
+use Rattle.rules.specs.Grid.{eastward, northward, along, across, spanOf, cutsOf}
 use Rattle.rules.specs.Cut.{Cut, through, lowSide, lowCount, fits, difference, longerSide}
 use Rattle.desk.specs.declared.CutList.{CutList}
 use Rattle.desk.specs.declared.Slot.{Slot}
@@ -71,12 +71,6 @@ module _ (a : ℕ) (here : a ≡ 0 → ⊥) where
 
   pub north-other : axisOf 0 ≡ across (axisOf a)
   north-other = rw (axis-north a here, east-axis)
-
-pub span-length : (d : Slot) (axis : Axis) {low high : ℕ} → low ≡ spanOf axis (edgesOf d) .low → high ≡ spanOf axis (edgesOf d) .high → low ≤ high → high - low ≡ spanOf axis (edgesOf d) .high - spanOf axis (edgesOf d) .low
-span-length d axis e f h = rw (e, f)
-
-pub span-none : (d : Slot) (axis : Axis) {low high : ℕ} → low ≡ spanOf axis (edgesOf d) .low → high ≡ spanOf axis (edgesOf d) .high → high < low → 0 ≡ spanOf axis (edgesOf d) .high - spanOf axis (edgesOf d) .low
-span-none d axis e f h = omega arith
 
 module _ (d : Slot) {x y : ℕ} (e : x ≡ spanOf (axisOf 0) (edgesOf d) .high - spanOf (axisOf 0) (edgesOf d) .low) (f : y ≡ spanOf (axisOf 1) (edgesOf d) .high - spanOf (axisOf 1) (edgesOf d) .low) where
   longer : ltb (d .east - d .west) (d .north - d .south) ≡ ltb x y

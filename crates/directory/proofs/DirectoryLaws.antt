@@ -1,6 +1,6 @@
 -- A store's cells and cuts in the desk's arrays: what the functions of this crate are asked, and what they answer, in the store's words.
 use mathlib.Core.Bool.{Bool}
-use mathlib.Core.List.{List, [], _∷_, _++_, map, map-append}
+use mathlib.Core.List.{List, [], _∷_, _++_, map}
 use mathlib.Core.Option.{some}
 use mathlib.Core.Path.{_≡_, refl, sym, ap, _∙_, subst}
 use Prim.Native.Nat.{ℕ, zero, suc, _≤_, _<_}
@@ -19,12 +19,12 @@ use Rattle.lists.proofs.MapLaws.{map-removeAt}
 use Rattle.lists.proofs.TestsLaws.{both-left, each-map, each-over-map, firstAt-some, best-holds}
 use Rattle.rules.specs.Limits.{maxCells}
 use Rattle.rules.specs.Grid.{Rect, Cuts, cutsOf, spanOf, inside, Box, boxes}
-use Rattle.rules.specs.Store.{Cell, cellAt, others}
+use Rattle.rules.specs.Store.{Cell, cellAt}
 use Rattle.rules.specs.Cut.{Cut}
 use Rattle.rules.specs.Flush.{unusedNumber}
 use Rattle.rules.specs.Carry.{mostOf, boxToFlush}
 use Rattle.rules.proofs.Parts.{Edged, Tiling}
-use Rattle.rules.proofs.TilingLaws.{others-among, GoodCut}
+use Rattle.rules.proofs.TilingLaws.{GoodCut}
 use Rattle.rules.proofs.CutLaws.{due-some}
 use Rattle.desk.specs.declared.CutList.{CutList}
 use Rattle.desk.specs.declared.Slot.{Slot}
@@ -86,10 +86,6 @@ module _ {d : Directory} (cells : List Cell) (laid : d ≡ directoryOf cells) wh
   directory-removed k =
       ap (λ (l : List Slot). directoryWith (removeAt l k)) directory-slots ∙ ap directoryWith (sym (map-removeAt slotOf cells k)) ∙ sym (laid-with (removeAt cells k)) ∙ unfold removeAt in refl
 
-  pub directory-last : (c : Cell) → directoryWith (slotsIn d ++ (slotOf c ∷ [])) ≡ directoryOf (cells ++ (c ∷ []))
-  directory-last c =
-      ap (λ (l : List Slot). directoryWith (l ++ (slotOf c ∷ []))) directory-slots ∙ ap directoryWith (sym (map-append slotOf cells (c ∷ []))) ∙ sym (laid-with (cells ++ (c ∷ [])))
-
 -- ---- a cell and its slot
 
 -- what is found stands below the count, in a directory of any kind
@@ -100,9 +96,6 @@ found-inside d p {k = k} told e =
     (λ f. let t = rw f at told in let z : _≡_ {A = ℕ} 0 1 = cc in absurd (omega arith))
     (λ i f. let t = rw f at told in let z : i ≡ k = cc in
     omega (arith, z, firstAt-some (λ s. inside (edgesOf s) p) (take (d .n) (d .slots)) i noSlot f .0, length-take (d .n) (d .slots)))
-
-pub found-slot : (d : Directory) (p : Place) {o : FoundCell} {k : ℕ} → o ≡ foundAt (slotAt (slotsIn d) p) → o ≡ At k → d .n ≤ maxCells → k < maxCells
-found-slot d p told e h = omega (arith, found-inside d p told e)
 
 pub record Stands (d : Directory) (cells : List Cell) (c : Cell) (k : ℕ) : Type 0 where
   pub inside : k < length cells
@@ -141,10 +134,6 @@ module _ {d : Directory} (cells : List Cell) (laid : d ≡ directoryOf cells) wh
 
     pub found-not : {P : Type 0} {o : FoundCell} → o ≡ foundAt (slotAt (slotsIn d) p) → o ≡ Nowhere → P
     found-not told e = let r = found-some in let f = r .1 in let z : _≡_ {A = ℕ} 0 1 = cc in absurd (omega arith)
-
-  pub stands-removed : {c : Cell} {k : ℕ} → Stands d cells c k → ((n : ℕ) → count n (map (λ x. x .number) cells) ≤ 1) → directoryWith (removeAt (slotsIn d) k) ≡ directoryOf (others (c .number) cells)
-  stands-removed {c} {k} s once =
-      directory-removed cells laid k ∙ ap directoryOf (sym (others-among cells c (record { before = take k cells; after = drop (suc k) cells; split = s .split }) once))
 
 -- ---- the cuts of one direction
 

@@ -1,5 +1,5 @@
 -- The joined cell: entries that go in one after the other, and the slot; both where they are those of two cells of a store.
-use mathlib.Core.Path.{_≡_, refl, sym, ap, ap₂, _∙_}
+use mathlib.Core.Path.{_≡_, refl, sym, ap, _∙_}
 use mathlib.Core.List.{[], _∷_}
 use mathlib.Core.Option.{some}
 use Prim.Native.Nat.{ℕ, _+_, _≤_, _<_}
@@ -17,7 +17,6 @@ use Rattle.entries.specs.declared.Entries.{Entries}
 use Rattle.entries.specs.Entries.{rowOf, placeOf, rowsOf, noRow}
 use Rattle.entries.proofs.TableLaws.{length-rows, rows-get}
 use Rattle.rules.specs.Store.{Cell, settled}
-use Rattle.rules.specs.Sweep.{sweptEntries}
 use Rattle.rules.specs.Flush.{Flushed, joined}
 use Rattle.rules.proofs.TilingLaws.{smaller-number}
 use Rattle.desk.specs.Layout.{slotOf}
@@ -89,7 +88,3 @@ module _ {from into all : Entries} {i : ℕ} (m : Merging from into all i) where
 pub joined-slot-cell : (f : Flushed) (n : Cell) → joinedSlot (slotOf (f .cell)) (slotOf n) (firstOf noPage (joined f n .chain)) ≡ slotOf (joined f n)
 unfolding joinedSlot settled
 joined-slot-cell f n = rw (smaller-number (settled (f .store .free) (f .cell)) n)
-
-pub merged-cell : (f : Flushed) (n : Cell) {from into all : Rows Place} → from ≡ sweptEntries (f .store .memo) (n .entries) → into ≡ f .cell .entries → all ≡ merge from into → all ≡ joined f n .entries
-unfolding settled
-merged-cell f n e g h = h ∙ ap₂ (λ (x y : Rows Place). merge x y) e g

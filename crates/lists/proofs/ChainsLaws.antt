@@ -6,8 +6,8 @@ use Prim.Native.Nat.{ℕ, zero, suc, _+_, _≤_, _<_}
 use native.Mathlib.Omega.{arith}
 use native.Mathlib.Nat.{le-of-suc-le-suc, not-suc-le-zero}
 use lib.Dec.{eqb}
-use lib.ListN.{length, take, drop, length-append, length-take, length-drop, take-append-drop}
-use lib.Seq.{take-append-le, drop-append-le, take-append-add, drop-append-add}
+use lib.ListN.{length, drop, length-append, length-take, length-drop}
+use lib.Seq.{drop-append-le}
 use borrow.Author.Tests.{eqb-true, ne-eqb, eq-eqb}
 use Rattle.lists.specs.Tests.{Each}
 use Rattle.lists.specs.Sums.{sumBy, count}
@@ -31,11 +31,6 @@ module _ (end : ℕ) (next : ℕ → ℕ) where
   walk-linked fuel [] k h = walk-end fuel
   walk-linked zero (p ∷ l) k h = absurd (not-suc-le-zero h)
   walk-linked (suc fuel) (p ∷ l) k h = walk-step fuel p (λ e. omega (arith, k .0)) ∙ rw (k .1) (ap (λ r. p ∷ r) (walk-linked fuel l (k .2) (le-of-suc-le-suc h)))
-
-  pub linked-unique : (l m : List ℕ) → Linked end next l → Linked end next m → firstOf end l ≡ firstOf end m → l ≡ m
-  linked-unique l m k n e =
-      let fuel = length l + length m in
-      sym (walk-linked fuel l k (omega arith)) ∙ ap (walk end next fuel) e ∙ walk-linked fuel m n (omega arith)
 
   -- a walk that came to `end` before its fuel ran out has found a chain
   pub linked-walk : (fuel p : ℕ) → length (walk end next fuel p) < fuel → Each (λ q. q < end) (walk end next fuel p)
@@ -63,10 +58,6 @@ linked-frame end next next′ (p ∷ l) f k = (k .0, f p (count-head p l) ∙ k 
 -- ---- settling
 
 module _ (need : ℕ) (chain free : List ℕ) where
-  pub settled-append : settledChain need chain free ++ settledFree need chain free ≡ chain ++ free
-  unfolding settledChain settledFree
-  settled-append = take-append-drop need (chain ++ free)
-
   pub length-settledChain : need ≤ length chain + length free → length (settledChain need chain free) ≡ need
   unfolding settledChain
   length-settledChain h = simp (length-take, length-append) (omega arith)
@@ -79,27 +70,6 @@ module _ (need : ℕ) (chain free : List ℕ) where
   unfolding settledChain settledFree
   sum-settled f = sum-take-drop f need (chain ++ free) ∙ sum-append f chain free
 
-  -- too many pages: the last go to the front of the free chain
-  pub settledChain-give : need ≤ length chain → settledChain need chain free ≡ take need chain
-  unfolding settledChain
-  settledChain-give h = take-append-le need chain free h
-
   pub settledFree-give : need ≤ length chain → settledFree need chain free ≡ drop need chain ++ free
   unfolding settledFree
   settledFree-give h = drop-append-le need chain free h
-
-  -- k pages too few: they come from the front of the free chain
-  pub settledChain-take : (k : ℕ) → length chain + k ≡ need → settledChain need chain free ≡ chain ++ take k free
-  unfolding settledChain
-  settledChain-take k e = rw (← e) (take-append-add chain free k)
-
-  pub settledFree-take : (k : ℕ) → length chain + k ≡ need → settledFree need chain free ≡ drop k free
-  unfolding settledFree
-  settledFree-take k e = rw (← e) (drop-append-add chain free k)
-
-  -- settled once more, it is as if settled only then
-  pub settledChain-twice : (then : ℕ) → settledChain then (settledChain need chain free) (settledFree need chain free) ≡ settledChain then chain free
-  settledChain-twice then = unfold settledChain in ap (take then) settled-append
-
-  pub settledFree-twice : (then : ℕ) → settledFree then (settledChain need chain free) (settledFree need chain free) ≡ settledFree then chain free
-  settledFree-twice then = unfold settledFree in ap (drop then) settled-append

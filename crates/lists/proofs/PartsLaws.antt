@@ -1,12 +1,12 @@
 -- Laws of parts, of writes at an offset, and of tables.
 use mathlib.Core.Path.{_≡_, refl, sym, ap, ap₂, _∙_}
 use Prim.Native.Nat.{ℕ, zero, suc, _+_, _-_, _*_, _≤_, _<_}
-use native.Mathlib.Nat.{not-suc-le-zero, le-of-suc-le-suc, suc-inj, suc-add, add-assoc, add-zero, zero-add}
+use native.Mathlib.Nat.{not-suc-le-zero, le-of-suc-le-suc, suc-inj, add-assoc, add-zero, zero-add}
 use mathlib.Core.List.{List, [], _∷_, _++_, append-assoc, append-nil}
 use native.Mathlib.Omega.{arith}
 use native.Mathlib.Numerals.{add-one}
 use lib.ListN.{take, drop, length, replicate, length-replicate, replicate-append-replicate, getD, set, length-take, length-drop, length-append, List·getD-append, take-append-drop, drop-of-length-le}
-use lib.Seq.{getD-take, getD-drop, take-at, drop-at, drop-drop, set-split, length-take-le, take-append-le, drop-append-le, take-take, take-suc, drop-cons, take-append-seam, getD-append-add, take-add, ext-getD}
+use lib.Seq.{getD-take, getD-drop, take-at, drop-at, drop-drop, set-split, length-take-le, take-append-le, take-take, take-suc, drop-cons, take-append-seam, take-add, ext-getD}
 use mathlib.Core.Logic.{_≢_}
 use Rattle.lists.specs.Parts.{part, put, tab}
 use Rattle.lists.specs.Sums.{concat}
@@ -80,12 +80,6 @@ module _ {ℓ} {A : Type ℓ} where
   getD-put-before xs a vs i d h k =
       List·getD-append (take a xs) _ d i (simp length-take (omega arith)) ∙ getD-take a xs i d h
 
-  pub getD-put-in : (xs : List A) (a : ℕ) (vs : List A) (i : ℕ) (d : A) → i < length vs → a ≤ length xs → getD (put xs a vs) (a + i) d ≡ getD vs i d
-  unfolding put
-  getD-put-in xs a vs i d h k =
-      let e : length (take a xs) ≡ a = length-take-le a xs k in
-      ap (λ (n : ℕ). getD (put xs a vs) (n + i) d) (sym e) ∙ getD-append-add (take a xs) _ i d ∙ List·getD-append vs _ d i h
-
   pub getD-put-after : (xs : List A) (a : ℕ) (vs : List A) (i : ℕ) (d : A) → a + length vs ≤ i → a ≤ length xs → getD (put xs a vs) i d ≡ getD xs i d
   getD-put-after xs a vs i d h k =
       let m : ℕ = i - (a + length vs) in
@@ -102,21 +96,6 @@ module _ {ℓ} {A : Type ℓ} where
   put-snoc xs a vs v h =
       let l : length (put xs a vs) ≡ length xs = length-put xs a vs (omega arith) in
       set-put (put xs a vs) _ v (omega arith) ∙ put-put xs a vs (v ∷ []) (omega arith)
-
-  -- a write inside a part that was lent, seen from the whole
-  pub put-in : (xs : List A) (a n b : ℕ) (vs : List A) → a + n ≤ length xs → b + length vs ≤ n
-      → put xs a (put (part xs a n) b vs) ≡ put xs (a + b) vs
-  unfolding put part
-  put-in xs a n b vs h k =
-      let d : List A = drop a xs in
-      let ld : length d ≡ length xs - a = length-drop a xs in
-      let e₁ : a + length (put (part xs a n) b vs) ≡ a + n =
-      rw (length-put (part xs a n) b vs (rw (length-part xs a n h) k), length-part xs a n h) in
-      let e₂ : drop (b + length vs) (take n d) ++ drop n d ≡ drop (b + length vs) d =
-      sym (drop-append-le (b + length vs) (take n d) (drop n d) (rw (length-take-le n d (omega arith)) k)) ∙ ap (drop (b + length vs)) (take-append-drop n d) in
-      let e₃ : drop (b + length vs) (take n d) ++ drop (a + n) xs ≡ drop (a + b + length vs) xs =
-      ap (λ r. drop (b + length vs) (take n d) ++ r) (sym (drop-drop n a xs)) ∙ e₂ ∙ drop-drop (b + length vs) a xs ∙ rw add-assoc in
-      rw (e₁, take-take b n d (omega arith), take-add a b xs) (simp append-assoc (ap (λ r. take a xs ++ (take b d ++ (vs ++ r))) e₃))
 
   -- a part after a write: the written one, and one that does not meet it
   pub part-put : (xs : List A) (a : ℕ) (vs : List A) → a + length vs ≤ length xs → part (put xs a vs) a (length vs) ≡ vs
@@ -215,10 +194,6 @@ module _ {ℓ} {A : Type ℓ} where
   set-tab (suc n) f g zero v h e k = ap₂ _∷_ e (tab-ext n _ _ (λ j b. k (suc j) (omega arith)))
   set-tab (suc n) f g (suc i) v h e k =
       ap₂ _∷_ (k 0 (omega arith)) (set-tab n (λ j. f (suc j)) (λ j. g (suc j)) i v (le-of-suc-le-suc h) e (λ j b. k (suc j) (λ q. b (suc-inj q))))
-
-  pub put-cons : (x : A) (xs : List A) (m : ℕ) (vs : List A) → put (x ∷ xs) (suc m) vs ≡ x ∷ put xs m vs
-  unfolding put
-  put-cons x xs m vs = rw suc-add
 
   -- what a part that was lent from a to e comes back as
   pub lent : (xs ys : List A) (a k : ℕ) → length ys ≡ k → take a xs ++ (ys ++ drop k (drop a xs)) ≡ put xs a ys

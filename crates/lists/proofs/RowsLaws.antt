@@ -274,9 +274,6 @@ module _ {Val : Type 0} where
         ap (countFound f (x .key)) (h (x .key) (x .val) (find-head x xs)),
       )
 
-  pub length-merge : (c : ℕ) (l m : Rows Val) → Rising c l → Rising 0 m → ((r : ℕ) (v : Val) → find l r ≡ some v → find m r ≡ none) → length (merge l m) ≡ length l + length m
-  length-merge c l m a k h = omega (arith, sum-merge (λ _ _. 1) c l m a k h, sum-const 1 l, sum-const 1 m, sum-const 1 (merge l m))
-
   pub length-merge-le : (c : ℕ) (l m : Rows Val) → Rising c l → Rising 0 m → length (merge l m) ≤ length l + length m
   unfolding merge
   length-merge-le c [] m a k = omega arith

@@ -196,9 +196,6 @@ module _ {A : Type 0} where
   sum-concat f [] = refl
   sum-concat f (l ∷ ls) = omega (arith, sum-append f l (concat ls), sum-concat f ls)
 
-  pub length-concat : (ls : List (List A)) → length (concat ls) ≡ sumBy length ls
-  length-concat ls = omega (arith, sum-const 1 (concat ls), sum-concat (λ _. 1) ls, sum-ext (sumBy (λ _. 1)) length ls (λ l. omega (arith, sum-const 1 l)))
-
 -- ---- map
 
 module _ {A B : Type 0} where

@@ -5,18 +5,16 @@ use mathlib.Core.List.{List, [], _∷_, _++_, map}
 use mathlib.Core.Option.{Option, none, some}
 use Prim.Native.Nat.{ℕ, zero, suc, _+_, _≤_, _<_}
 use native.Mathlib.Omega.{arith}
-use native.Mathlib.Nat.{le-of-suc-le-suc, not-suc-le-zero}
+use native.Mathlib.Nat.{not-suc-le-zero}
 use lib.Dec.{eqb, leb, ltb}
 use lib.ListN.{length, getD, set}
-use borrow.Author.Tests.{lt-ltb, le-ltb, le-leb, lt-leb, ltb-true, ltb-false, leb-true, eqb-true, eqb-false, eq-eqb, ne-eqb}
-use Rattle.lists.specs.Parts.{tab}
+use borrow.Author.Tests.{lt-ltb, le-leb, lt-leb, ltb-true, ltb-false, leb-true, eqb-true, eqb-false, eq-eqb, ne-eqb}
 use Rattle.lists.specs.Rows.{Row, Rows, Rising, UpTo, find, countFound}
 use Rattle.lists.specs.Sums.{sumBy, concat, count}
 use Rattle.lists.specs.Tests.{one-if, both, Each, isSome, all}
 use Rattle.lists.proofs.Cases.{by-cases}
-use Rattle.lists.proofs.PartsLaws.{tab-ext, set-tab}
 use Rattle.lists.proofs.RowsLaws.{sum-key}
-use Rattle.lists.proofs.SumsLaws.{sum-append, sum-each, sum-const, sum-concat, count-at, sum-last, each-count}
+use Rattle.lists.proofs.SumsLaws.{sum-append, sum-each, sum-const, sum-concat, count-at, each-count}
 use Rattle.lists.proofs.TestsLaws.{both-left, both-right, both-intro, each-map, all-each, each-all, each-getD, getD-each, one-if-le}
 use Rattle.rules.specs.WellFormed.{RisingCuts}
 use Rattle.mirror.specs.Loops.{every, allTo, risesTo, lastFrom, eachOnce, onceAtMost, keys, passing}
@@ -38,16 +36,6 @@ both-swap true true c d = refl
 both-swap true false true d = refl
 both-swap true false false d = refl
 both-swap false b c d = refl
-
--- ---- every
-
-pub every-true : (l : List Bool) → every l ≡ true → Each (λ b. b ≡ true) l
-unfolding every
-every-true l e = all-each (λ b. b) (λ b. b ≡ true) l (λ b t. t) e
-
-pub true-every : (l : List Bool) → Each (λ b. b ≡ true) l → every l ≡ true
-unfolding every
-true-every l e = each-all (λ b. b) (λ b. b ≡ true) l (λ b t. t) e
 
 -- ---- allTo
 
@@ -215,39 +203,12 @@ pub true-at-most : (n : ℕ) (l : List ℕ) → ((k : ℕ) → count k l ≤ 1) 
 unfolding onceAtMost
 true-at-most n l h = true-allTo n (λ k. leb (count k l) 1) (λ k b. le-leb (count k l) 1 (h k))
 
--- a number twice, or one beyond
-pub once-twice : (n : ℕ) (l : List ℕ) (k : ℕ) → 2 ≤ count k l → eachOnce n l ≡ false
-once-twice n l k h = by-cases (eachOnce n l) (λ t. absurd (omega (arith, once-true n l t k, one-if-le (ltb k n)))) (λ t. t)
-
-pub once-beyond : (n : ℕ) (l : List ℕ) (k : ℕ) → n ≤ k → 1 ≤ count k l → eachOnce n l ≡ false
-once-beyond n l k b h = by-cases (eachOnce n l) (λ t. absurd (omega (arith, once-true n l t k, ap one-if (le-ltb k n b)))) (λ t. t)
-
 pub at-most-twice : (n : ℕ) (l : List ℕ) (k : ℕ) → k < n → 2 ≤ count k l → onceAtMost n l ≡ false
 unfolding onceAtMost
 at-most-twice n l k b h = allTo-false n (λ q. leb (count q l) 1) k b (lt-leb (count k l) 1 h)
 
 -- by marks: each number of the list has set its own
 module _ (n : ℕ) (l : List ℕ) (marks : List Bool) (size : length marks ≡ n) (own : (k : ℕ) → one-if (getD marks k false) ≡ count k l) where
-  pub marks-once : all (λ b. b) marks ≡ eachOnce n l
-  marks-once = bool-same (all (λ b. b) marks) (eachOnce n l) full once-full
-    where
-      beyond : (m : List Bool) (k : ℕ) → length m ≤ k → getD m k false ≡ false
-      beyond [] k h = refl
-      beyond (b ∷ m) zero h = absurd (not-suc-le-zero h)
-      beyond (b ∷ m) (suc k) h = beyond m k (le-of-suc-le-suc h)
-
-      full : all (λ b. b) marks ≡ true → eachOnce n l ≡ true
-      full t =
-          true-once n l (λ k. sym (own k) ∙ ap one-if (by-cases (ltb k n)
-          (λ u. allTo-true (length marks) (λ i. getD marks i false) (sym (all-allTo (λ b. b) marks false) ∙ t) k (omega (arith, ltb-true k n u)) ∙ sym u)
-          (λ u. beyond marks k (omega (arith, ltb-false k n u)) ∙ sym u)))
-
-      once-full : eachOnce n l ≡ true → all (λ b. b) marks ≡ true
-      once-full t =
-          all-allTo (λ b. b) marks false
-          ∙ true-allTo (length marks) (λ i. getD marks i false)
-          (λ i h. by-cases (getD marks i false) (λ u. u) (λ u. absurd (omega (arith, own i, once-true n l t i, ap one-if u, ap one-if (lt-ltb i n (omega arith))))))
-
   pub marks-at-most : onceAtMost n l ≡ true
   marks-at-most = true-at-most n l (λ k. omega (arith, own k, one-if-le (getD marks k false)))
 
@@ -260,11 +221,6 @@ both-one r b = rw (eq-eqb r r refl)
 both-other : (r q : ℕ) (b : Bool) → (r ≡ q → ⊥) → one-if (both (eqb r q) b) ≡ 0
 unfolding both
 both-other r q b h = rw (ne-eqb r q h)
-
-both-none : (a : Bool) → one-if (both a false) ≡ 0
-unfolding both
-both-none true = refl
-both-none false = refl
 
 both-parts : (a b : Bool) → one-if (both a b) + one-if (both a (not b)) ≡ one-if (both a true)
 unfolding both
@@ -285,23 +241,6 @@ module _ {Val : Type 0} where
   pub passing-concat : (t : Row Val → Bool) (r : ℕ) (ls : List (Rows Val)) → passing t r (concat ls) ≡ sumBy (passing t r) ls
   unfolding passing
   passing-concat t r ls = sum-concat (λ x. one-if (both (eqb r (x .key)) (t x))) ls
-
-  pub passing-last : (t : Row Val → Bool) (r : ℕ) (l : Rows Val) (x : Row Val) → passing t r (l ++ (x ∷ [])) ≡ passing t r l + one-if (both (eqb r (x .key)) (t x))
-  unfolding passing
-  passing-last t r l x = sum-last (λ y. one-if (both (eqb r (y .key)) (t y))) l x
-
-  -- a table by key, one row more: it adds 1 at its key, if it passes
-  pub table-passed : (t : Row Val → Bool) (n : ℕ) (l : Rows Val) (x : Row Val) → x .key < n → t x ≡ true
-      → tab n (λ r. passing t r (l ++ (x ∷ []))) ≡ set (tab n (λ r. passing t r l)) (x .key) (passing t (x .key) l + 1)
-  table-passed t n l x h e =
-      set-tab n (λ r. passing t r l) (λ r. passing t r (l ++ (x ∷ []))) (x .key) (passing t (x .key) l + 1) h
-      (omega (arith, passing-last t (x .key) l x, both-one (x .key) (t x), ap one-if e))
-      (λ j d. omega (arith, passing-last t j l x, both-other j (x .key) (t x) d))
-
-  pub table-failed : (t : Row Val → Bool) (n : ℕ) (l : Rows Val) (x : Row Val) → t x ≡ false → tab n (λ r. passing t r (l ++ (x ∷ []))) ≡ tab n (λ r. passing t r l)
-  table-failed t n l x e =
-      tab-ext n (λ r. passing t r (l ++ (x ∷ []))) (λ r. passing t r l)
-      (λ r h. omega (arith, passing-last t r l x, ap (λ (b : Bool). one-if (both (eqb r (x .key)) b)) e, both-none (eqb r (x .key))))
 
   -- of rising rows it is the row found, if that passes
   pub passing-found : (t : Row Val → Bool) (b r : ℕ) (l : Rows Val) → Rising b l → passing t r l ≡ countFound (λ k v. one-if (t (record { key = k; val = v }))) r (find l r)

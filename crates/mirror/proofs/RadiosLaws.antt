@@ -22,8 +22,8 @@ use Rattle.rules.specs.Carry.{wasNew}
 use Rattle.rules.specs.WellFormed.{countIf, liveOf, staleOf, InSquareIf, GoodLine}
 use Rattle.mirror.specs.Loops.{risesTo, keys, passing}
 use Rattle.mirror.specs.Cells.{rowsOf}
-use Rattle.mirror.specs.Radios.{liveAt, staleAt, newAt, onAt, onTest, presentTest, unmarkedTest, memoTest, lineTest, linesTest, lastTest, lastsTest, entriesAt, missedAt, balanceTest}
-use Rattle.mirror.proofs.LoopsLaws.{bool-same, allTo-true, true-allTo, allTo-ext, each-to-map, rises-rows, rows-rise, passing-found, passing-beyond, passing-some, passing-concat, passing-parts}
+use Rattle.mirror.specs.Radios.{liveAt, staleAt, newAt, onAt, onTest, presentTest, unmarkedTest, memoTest, lineTest, linesTest, lastTest, lastsTest, entriesAt, missedAt}
+use Rattle.mirror.proofs.LoopsLaws.{allTo-true, true-allTo, each-to-map, rises-rows, rows-rise, passing-found, passing-beyond, passing-some, passing-concat, passing-parts}
 use Rattle.mirror.proofs.GridLaws.{concat-each, place-true, true-place}
 
 -- ---- who is on
@@ -255,16 +255,3 @@ module _ (memo : Rows Line) (es : Rows Place) (rise : Rising 0 memo) (lines : li
       option-cases (find memo r)
       (λ e. stale-none memo r es e ∙ sym (missed-found r 0 memo rise ∙ ap (countFound (λ _ l. l .missed) r) e))
       (λ l e. line-found memo es lines r l e .1 ∙ sym (missed-found r 0 memo rise ∙ ap (countFound (λ _ k. k .missed) r) e))
-
-  pub balance-present : (ws : Rows Report) (on : Rows (Unit {0})) → balanceTest memo es ws on ≡ presentTest memo es ws on
-  unfolding balanceTest presentTest
-  balance-present ws on =
-      allTo-ext (suc maxRadio) (λ r. eqb (entriesAt r es + newAt r ws) (onAt r on + missedAt r memo)) (λ r. eqb (liveAt memo r es + newAt r ws) (onAt r on)) (λ r h. same r)
-    where
-      same : (r : ℕ) → eqb (entriesAt r es + newAt r ws) (onAt r on + missedAt r memo) ≡ eqb (liveAt memo r es + newAt r ws) (onAt r on)
-      same r =
-          let a = stale-live memo r es in
-          let b = stale-missed r in
-          bool-same (eqb (entriesAt r es + newAt r ws) (onAt r on + missedAt r memo)) (eqb (liveAt memo r es + newAt r ws) (onAt r on))
-          (λ t. eq-eqb (liveAt memo r es + newAt r ws) (onAt r on) (omega (arith, eqb-true (entriesAt r es + newAt r ws) (onAt r on + missedAt r memo) t)))
-          (λ t. eq-eqb (entriesAt r es + newAt r ws) (onAt r on + missedAt r memo) (omega (arith, eqb-true (liveAt memo r es + newAt r ws) (onAt r on) t)))

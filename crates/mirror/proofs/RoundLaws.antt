@@ -1,5 +1,5 @@
 -- The tests of the tally and of the round's inequality say just the clauses.
-use mathlib.Core.Path.{_≡_, refl, ap, _∙_}
+use mathlib.Core.Path.{_≡_, ap, _∙_}
 use mathlib.Core.Bool.{true}
 use mathlib.Core.List.{List, [], _∷_}
 use Prim.Native.Nat.{ℕ, zero, suc, _+_, _-_, _*_, _≤_, _<_}
@@ -27,10 +27,6 @@ unfolding tallyTest
 true-tally c h = lt-ltb c sweepEvery h
 
 -- ---- the inequality
-
-pub stale-count : (memo : Rows Line) (c : Cell) → staleCount memo (c .entries) ≡ staleIn memo c
-unfolding staleCount staleIn
-stale-count memo c = refl
 
 sum-counts : (memo : Rows Line) (cells : List Cell) → sumBy (λ n. n) (staleCounts memo (rowsOf cells)) ≡ sumBy (staleIn memo) cells
 unfolding staleCount staleIn

@@ -1,9 +1,8 @@
 -- The test says exactly that the store is well-formed: each of its parts is one clause.
 use mathlib.Core.Path.{_≡_, sym, _∙_}
-use mathlib.Core.Bool.{Bool, true, false}
+use mathlib.Core.Bool.{Bool, true}
 use mathlib.Core.List.{List, [], _∷_}
-use Prim.Native.Nat.{ℕ, _≤_, _<_}
-use native.Mathlib.Omega.{arith}
+use Prim.Native.Nat.{_≤_, _<_}
 use lib.Dec.{leb}
 use lib.ListN.{length}
 use borrow.Author.Tests.{le-leb, leb-true}
@@ -11,7 +10,6 @@ use Rattle.terms.specs.Terms.{Place, maxRadio}
 use Rattle.lists.specs.Rows.{Rising, UpTo}
 use Rattle.lists.specs.Sums.{sumBy, concat}
 use Rattle.lists.specs.Tests.{one-if, Each, all}
-use Rattle.lists.proofs.Cases.{by-cases}
 use Rattle.lists.proofs.TestsLaws.{each-map, all-each, each-all}
 use Rattle.rules.specs.Limits.{lastMetre, maxCells, maxCuts}
 use Rattle.rules.specs.Grid.{Axis, eastward, northward, inside, Cuts, cutsOf}
@@ -23,8 +21,7 @@ use Rattle.mirror.specs.Cells.{numbersOf, edgesOf, rowsOf, numbersTest, 
 use Rattle.mirror.specs.Radios.{onTest, presentTest, unmarkedTest, memoTest, linesTest, lastsTest}
 use Rattle.mirror.specs.Waiting.{waitingTest, placesTest, fewTest}
 use Rattle.mirror.specs.Round.{tallyTest, staleCounts, boundTest}
-use Rattle.mirror.specs.Well.{wellTest}
-use Rattle.mirror.proofs.LoopsLaws.{every-true, true-every, each-of-map, each-to-map}
+use Rattle.mirror.proofs.LoopsLaws.{each-of-map, each-to-map}
 use Rattle.mirror.proofs.GridLaws.{by-axis, cuts-true, true-cuts, WholeBoxes, edges-true, true-edges, holding-cells, tile-true, true-tile}
 use Rattle.mirror.proofs.CellsLaws.{numbers-true, true-numbers, round-true, true-round, pages-true, true-pages, chain-true, true-chain, radios-true, true-radios, inside-true, true-inside}
 use Rattle.mirror.proofs.RadiosLaws.{on-true, true-on, RowsRise, RowsUpTo, present-true, true-present, unmarked-true, true-unmarked, memo-true, true-memo, lines-true, true-lines, true-lasts}
@@ -56,91 +53,6 @@ pub record Passes (s : Store) : Type 0 where
   pub round : roundTest (numbersOf (s .cells)) ≡ true
   pub tallied : tallyTest (s .tally) ≡ true
   pub bounded : boundTest (staleCounts (s .memo) (rowsOf (s .cells))) (length (s .waiting)) (s .tally) ≡ true
-
-pub test-passes : (s : Store) → wellTest s ≡ true → Passes s
-unfolding wellTest
-test-passes s e =
-    let a = every-true _ e in
-    let b = a .1 .1 .1 .1 .1 .1 .1 in
-    let c = b .1 .1 .1 .1 .1 .1 .1 in
-    let d = c .1 .1 .1 .1 .1 .1 .1 in
-    record {
-      few = a .0;
-      on = a .1 .0;
-      easts = a .1 .1 .0;
-      norths = a .1 .1 .1 .0;
-      numbers = a .1 .1 .1 .1 .0;
-      edges = a .1 .1 .1 .1 .1 .0;
-      tile = a .1 .1 .1 .1 .1 .1 .0;
-      paged = b .0;
-      chained = b .1 .0;
-      radios = b .1 .1 .0;
-      placed = b .1 .1 .1 .0;
-      present = b .1 .1 .1 .1 .0;
-      unmarked = b .1 .1 .1 .1 .1 .0;
-      memo = b .1 .1 .1 .1 .1 .1 .0;
-      lines = c .0;
-      lasts = c .1 .0;
-      waiting = c .1 .1 .0;
-      places = c .1 .1 .1 .0;
-      boxed = c .1 .1 .1 .1 .0;
-      round = c .1 .1 .1 .1 .1 .0;
-      tallied = c .1 .1 .1 .1 .1 .1 .0;
-      bounded = d .0;
-    }
-
-pub passes-test : (s : Store) → Passes s → wellTest s ≡ true
-unfolding wellTest
-passes-test s p =
-    true-every _ (
-      p .few,
-      (
-        p .on,
-        (
-          p .easts,
-          (
-            p .norths,
-            (
-              p .numbers,
-              (
-                p .edges,
-                (
-                  p .tile,
-                  (
-                    p .paged,
-                    (
-                      p .chained,
-                      (
-                        p .radios,
-                        (
-                          p .placed,
-                          (
-                            p .present,
-                            (
-                              p .unmarked,
-                              (
-                                p .memo,
-                                (
-                                  p .lines,
-                                  (
-                                    p .lasts,
-                                    (p .waiting, (p .places, (p .boxed, (p .round, (p .tallied, (p .bounded, tt)))))),
-                                  ),
-                                ),
-                              ),
-                            ),
-                          ),
-                        ),
-                      ),
-                    ),
-                  ),
-                ),
-              ),
-            ),
-          ),
-        ),
-      ),
-    )
 
 -- ---- a store that passes is well-formed
 
@@ -264,21 +176,3 @@ module _ (s : Store) (w : WellFormed s) where
     tallied = true-tally (s .tally) (w .tallied);
     bounded = true-bound (s .memo) (s .cells) (length (s .waiting)) (s .tally) (w .bounded);
   }
-
--- ---- the theorem
-
-pub well-test : (s : Store) → WellFormed s → wellTest s ≡ true
-well-test s w = passes-test s (well-passes s w)
-
-pub test-well : (s : Store) → wellTest s ≡ true → WellFormed s
-test-well s e = passes-well s (test-passes s e)
-
--- and a store that fails is not
-pub test-false : (s : Store) → wellTest s ≡ false → WellFormed s → ⊥
-test-false s e w = true-false (sym (well-test s w) ∙ e)
-  where
-    true-false : true ≡ false → ⊥
-    true-false z = let n : _≡_ {A = ℕ} 0 1 = cc in absurd (omega arith)
-
-pub false-test : (s : Store) → (WellFormed s → ⊥) → wellTest s ≡ false
-false-test s h = by-cases (wellTest s) (λ t. absurd (h (test-well s t))) (λ t. t)

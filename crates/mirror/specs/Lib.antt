@@ -4,4 +4,3 @@ pub mod Loops
 pub mod Radios
 pub mod Round
 pub mod Waiting
-pub mod Well

@@ -70,6 +70,3 @@ entriesAt r es = passing (λ _. true) r es
 
 unfoldable pub missedAt : ℕ → Rows Line → ℕ
 missedAt r memo = sumBy (λ l. cond (eqb r (l .key)) (l .val .missed) 0) memo
-
-unfoldable pub balanceTest : Rows Line → Rows Place → Rows Report → Rows (Unit {0}) → Bool
-balanceTest memo es ws on = allTo (suc maxRadio) (λ r. eqb (entriesAt r es + newAt r ws) (onAt r on + missedAt r memo))

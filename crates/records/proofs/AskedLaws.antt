@@ -153,6 +153,3 @@ module _ (s : Store) (on : On) (b : List ℕ) {o : Asked} (laid : on ≡ onOf (s
 
     pub asks-off : {r : ℕ} → o ≡ SignOff r → SignsOff s r
     asks-off {r} is = taken-showed (signOff r) is small
-
-    pub asks-range : {w e u n : ℕ} → o ≡ Range w e u n → (w ≤ e) × (u ≤ n)
-    asks-range {w} {e} {u} {n} is = taken-showed (range (record { easts = record { low = w; high = e }; norths = record { low = u; high = n } })) is small

@@ -18,7 +18,7 @@ use Rattle.rules.specs.Limits.{maxCells, joinEntries}
 use Rattle.rules.specs.Store.{Line, Cell, Store, others, pagesFor, settled, freeAfter}
 use Rattle.rules.specs.Sweep.{stale, sweptEntries}
 use Rattle.rules.specs.Cut.{Cut}
-use Rattle.rules.specs.Flush.{Flushed, grown, lowCell, highCell, unusedNumber, splitAt, joinedEdges, joined, joinedWith}
+use Rattle.rules.specs.Flush.{Flushed, grown, lowCell, highCell, joinedEdges, joined, joinedWith}
 use Rattle.rules.specs.WellFormed.{chains}
 use Rattle.rules.proofs.Parts.{Rowed, Paged}
 use Rattle.rules.proofs.PagedLaws.{size, needed, pagesFor-one, pages-few, pages-few-split, room-pages, length-freeAfter, size-split}
@@ -55,12 +55,6 @@ module _ {f : Flushed} {d₀ : Cell} {before after : List Cell} {old : Rows Line
         sum-middle needed before (f .cell) after,
         ap (λ (x : List ℕ). length x) (r .chain),
       )
-
-  pub grown-laid : Laid (grown f) (written b (settledLeaves (f .cell .number) (f .cell .chain) (f .store .free) (f .cell .entries)))
-  unfolding grown
-  grown-laid =
-      settled-laid (f .cell) d-apart (grown f) (before ++ after) [] (append-nil (before ++ after))
-      (ap (λ (x : List Cell). x ++ (settled (f .store .free) (f .cell) ∷ [])) (r .rest)) refl
 
   -- ---- split
 
@@ -118,10 +112,6 @@ module _ {f : Flushed} {d₀ : Cell} {before after : List Cell} {old : Rows Line
     high-laid s e g =
         settled-laid high high-apart s (midway .cells) [] (append-nil (midway .cells))
         (e ∙ sym (append-assoc (before ++ after) (settled (f .store .free) low ∷ []) (settled (freeAfter (f .store .free) low) high ∷ []))) g
-
-  pub split-laid : (cut : Cut) (few : length (before ++ (d₀ ∷ after)) < maxCells) → Laid (splitAt cut f) (written (bytesLow cut (unusedNumber (f .store .cells)) few) (settledLeaves (high cut (unusedNumber (f .store .cells)) few .number) (high cut (unusedNumber (f .store .cells)) few .chain) (midway cut (unusedNumber (f .store .cells)) few .free) (high cut (unusedNumber (f .store .cells)) few .entries)))
-  unfolding splitAt
-  split-laid cut few = high-laid cut (unusedNumber (f .store .cells)) few (splitAt cut f) (ap (λ (x : List Cell). x ++ (settled (f .store .free) (lowCell cut (f .cell)) ∷ settled (freeAfter (f .store .free) (lowCell cut (f .cell))) (highCell cut (unusedNumber (f .store .cells)) (f .cell)) ∷ [])) (r .rest)) refl
 
   -- ---- join
 

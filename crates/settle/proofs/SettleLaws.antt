@@ -5,7 +5,7 @@ use mathlib.Core.Path.{_≡_, refl, sym, ap, ap₂, subst, _∙_}
 use Prim.Native.Nat.{ℕ, zero, suc, _+_, _-_, _≤_, _<_}
 use native.Mathlib.Omega.{arith}
 use lib.Dec.{eqb, ltb}
-use lib.ListN.{length, drop, length-take}
+use lib.ListN.{length, drop}
 use lib.Seq.{take-at, drop-at}
 use borrow.Author.Tests.{ltb-true, eq-eqb}
 use Rattle.terms.specs.Terms.{Place, pages, noPage, noCell}
@@ -17,8 +17,7 @@ use Rattle.lists.proofs.Cases.{by-cases}
 use Rattle.lists.proofs.SumsLaws.{sum-append, sum-concat, sum-take-drop, sum-map, sum-middle, counted-below}
 use Rattle.lists.proofs.TestsLaws.{each-append, each-split, each-middle, each-concat-map, concat-map-each}
 use Rattle.page.specs.Page.{kindFree, kindFirst, freePageOf, next}
-use Rattle.page.specs.Buffer.{bufferBytes, pageAt, putPage, pagesOf, chainFrom, endFrom}
-use Rattle.page.specs.declared.Chain.{Chain}
+use Rattle.page.specs.Buffer.{bufferBytes, pageAt, putPage, chainFrom, endFrom}
 use Rattle.page.specs.declared.ChainEnd.the-variants.{Ended}
 use Rattle.page.proofs.BufferLaws.{length-putPage, pageAt-same, pageAt-other}
 use Rattle.page.proofs.ChainLaws.{following}
@@ -281,14 +280,6 @@ module _ {b : List ℕ} {rest : List Cell} {free : List ℕ} (c : Cell) (a : Apa
           sum-chain-settled free c (λ x. one-if (eqb q x)),
         )
 
--- c₀ of a store is settled with c's entries: the new bytes lay out the store with the settled cell, anywhere in the round
-pub settle-laid : (s s′ : Store) (b : List ℕ) (xs ys us vs : List Cell) (c₀ c : Cell) → PagesOnce s → Laid s b
-    → s .cells ≡ xs ++ (c₀ ∷ ys) → c .chain ≡ c₀ .chain
-    → us ++ vs ≡ xs ++ ys → s′ .cells ≡ us ++ (settled (s .free) c ∷ vs) → s′ .free ≡ freeAfter (s .free) c
-    → Laid s′ (written b (settledLeaves (c .number) (c .chain) (s .free) (c .entries))) × PagesOnce s′
-settle-laid s s′ b xs ys us vs c₀ c once l e g h f k =
-    let a = apart-cell s once b l xs c₀ ys e g in (settled-laid c a s′ us vs h f k, settled-once c a s′ us vs h f k)
-
 -- ---- all pages given up
 
 module _ {b : List ℕ} {rest : List Cell} {chain free : List ℕ} (a : Apart b rest chain free) where
@@ -314,10 +305,6 @@ module _ {b : List ℕ} {rest : List Cell} {chain free : List ℕ} (a : Apart b 
     given-once q = omega (arith, a .once q, count-store s′ q, ap (λ (cs : List Cell). count q (chainsOf cs)) f, ap (count q) g, count-append q chain free)
 
 -- ---- in the words of the contracts
-
--- a chain that was read has as many pages as it says
-pub chain-few : (c : Chain) → length (c .pages) ≡ pages → length (pagesOf c) < pages → c .n ≤ pages
-chain-few c s h = omega (arith, length-take (c .n) (c .pages))
 
 module _ {b : List ℕ} {rest : List Cell} {free : List ℕ} (c : Cell) (a : Apart b rest (c .chain) free) {chain : List ℕ} {f : ℕ} {rows : Rows Place}
     (is-chain : chain ≡ c .chain) (is-free : f ≡ firstOf noPage free) (are-rows : rows ≡ c .entries) where

@@ -13,7 +13,7 @@ use Rattle.lists.specs.Sums.{concat, count}
 use Rattle.lists.specs.Tests.{one-if, Each}
 use Rattle.lists.specs.Words.{Bytes}
 use Rattle.lists.proofs.Cases.{by-cases}
-use Rattle.lists.proofs.SumsLaws.{sum-nil, sum-append}
+use Rattle.lists.proofs.SumsLaws.{sum-append}
 use Rattle.lists.proofs.TestsLaws.{both-left, both-right, both-intro, each-append, each-split}
 use Rattle.page.specs.Page.{kindFirst}
 use Rattle.page.specs.Buffer.{bufferBytes}
@@ -34,10 +34,6 @@ use Rattle.sound_pages.proofs.ChainLaws.{failed-not, need, Chain, chain
 
 abbrev pub chainsOf : List Cell → List ℕ
 chainsOf cells = concat (map (λ c. c .chain) cells)
-
-count-none : (q : ℕ) → count q (chainsOf []) ≡ 0
-unfolding concat
-count-none q = sum-nil (λ x. one-if (eqb q x))
 
 count-cells : (q : ℕ) (c : Cell) (cells : List Cell) → count q (chainsOf (c ∷ cells)) ≡ count q (c .chain) + count q (chainsOf cells)
 unfolding concat

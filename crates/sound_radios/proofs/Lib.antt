@@ -1,5 +1,4 @@
 pub mod DueLaws
-pub mod EntriesLaws
 pub mod JudgeLaws
 pub mod KnownLaws
 pub mod ReadLaws

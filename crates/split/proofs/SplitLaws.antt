@@ -10,7 +10,7 @@ use lib.ListN.{length, getD, set, take, length-set}
 use lib.Seq.{take-suc, take-suc-set, take-set-le}
 use Rattle.terms.specs.Terms.{Place, maxOn, noPage}
 use Rattle.lists.specs.Chains.{firstOf}
-use Rattle.lists.specs.Rows.{Row, Rows}
+use Rattle.lists.specs.Rows.{Row}
 use Rattle.lists.specs.Sums.{keep, filter}
 use Rattle.lists.specs.Tests.{one-if}
 use Rattle.lists.proofs.Cases.{by-cases}
@@ -25,7 +25,7 @@ use Rattle.desk.specs.declared.Slot.{Slot}
 use Rattle.desk.specs.Layout.{slotOf}
 use Rattle.cut.specs.Choice.{cutAt}
 use Rattle.cut.proofs.SideLaws.{axis-east, axis-north}
-use Rattle.split.specs.Split.{sideOf, slotWith, lowSlot, highSlot}
+use Rattle.split.specs.Split.{sideOf, lowSlot, highSlot}
 
 -- ---- lists
 
@@ -135,27 +135,11 @@ module _ (d : Slot) (a at first : ℕ) where
 
 -- where d's slot and entries are a cell's: those of the cell's two parts, the slots also once these are settled
 module _ (c : Cut) (d : Cell) where
-  pub low-slot-cell : (first : ℕ) → lowSlot c (slotOf d) first ≡ slotWith (lowCell c d .number) (lowCell c d .edges) first
-  unfolding lowSlot lowCell
-  low-slot-cell first = refl
-
   pub low-slot-settled : (free : List ℕ) → lowSlot c (slotOf d) (firstOf noPage (settled free (lowCell c d) .chain)) ≡ slotOf (settled free (lowCell c d))
   unfolding lowSlot lowCell settled
   low-slot-settled free = refl
 
-  pub low-part-cell : {es part : Rows Place} → es ≡ d .entries → part ≡ filter (lowSide c) es → part ≡ lowCell c d .entries
-  unfolding lowCell
-  low-part-cell e f = f ∙ ap (filter (lowSide c)) e
-
   module _ (n : ℕ) where
-    pub high-slot-cell : (first : ℕ) → highSlot c (slotOf d) n first ≡ slotWith (highCell c n d .number) (highCell c n d .edges) first
-    unfolding highSlot highCell
-    high-slot-cell first = refl
-
     pub high-slot-settled : (free : List ℕ) → highSlot c (slotOf d) n (firstOf noPage (settled free (highCell c n d) .chain)) ≡ slotOf (settled free (highCell c n d))
     unfolding highSlot highCell settled
     high-slot-settled free = refl
-
-    pub high-part-cell : {es part : Rows Place} → es ≡ d .entries → part ≡ filter (λ e. not (lowSide c e)) es → part ≡ highCell c n d .entries
-    unfolding highCell
-    high-part-cell e f = f ∙ ap (filter (λ e. not (lowSide c e))) e
