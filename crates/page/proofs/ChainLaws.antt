@@ -1,16 +1,14 @@
--- Chains in the buffer: what is there, one step at any fuel, the loop that reads a chain, and that a chain which ends is a linked chain.
+-- Chains in the buffer: what is there, one step at any fuel, and that a chain which ends is a linked chain.
 use mathlib.Core.Bool.{Bool, true, false, not}
-use mathlib.Core.List.{List, [], _∷_, _++_, append-assoc, append-nil}
+use mathlib.Core.List.{List, [], _∷_}
 use mathlib.Core.Logic.{_≢_}
 use mathlib.Core.Path.{_≡_, refl, sym, ap, _∙_}
 use Prim.Native.Nat.{ℕ, zero, suc, _+_, _-_, _*_, _≤_, _<_}
 use native.Mathlib.Nat.{not-suc-le-zero, le-of-suc-le-suc}
 use native.Mathlib.Omega.{arith}
-use native.Mathlib.Numerals.{add-one}
 use lib.Dec.{eqb, leb}
-use lib.ListN.{length, take, drop, set, length-set}
-use lib.Seq.{take-suc-set}
-use borrow.Author.Tests.{ltb-true, leb-true, lt-ltb, le-ltb, le-leb, eqb-true, eqb-false, eq-eqb, ne-eqb, not-true, not-false}
+use lib.ListN.{length, take, drop}
+use borrow.Author.Tests.{ltb-true, leb-true, lt-ltb, le-ltb, le-leb, eqb-true, eqb-false, eq-eqb, ne-eqb, not-false}
 use Rattle.terms.specs.Terms.{pages, noPage}
 use Rattle.lists.specs.Chains.{firstOf, walk, Linked}
 use Rattle.lists.specs.Parts.{part}
@@ -21,7 +19,6 @@ use Rattle.lists.proofs.PartsLaws.{length-part}
 use Rattle.lists.proofs.TestsLaws.{both-left, both-right, both-intro}
 use Rattle.page.specs.Page.{pageBytes, next}
 use Rattle.page.specs.Buffer.{pageAt, there, chainFrom, boundEnd, endFrom}
-use Rattle.page.specs.declared.ChainEnd.{ChainEnd}
 use Rattle.page.specs.declared.ChainEnd.the-variants.{Ended, PastBound, NotThere}
 
 -- ---- what is there
@@ -56,12 +53,6 @@ page-slice b p h = let e : pageBytes * p + pageBytes - pageBytes * p ≡ pageByt
 
 -- ---- one step, at any fuel
 
-pub bound-ended : (p : ℕ) → p ≡ noPage → Ended ≡ boundEnd p
-bound-ended p e = rw (eq-eqb p noPage e)
-
-pub bound-past : (p : ℕ) → p ≢ noPage → PastBound ≡ boundEnd p
-bound-past p n = rw (ne-eqb p noPage n)
-
 module _ (b : List ℕ) (p : ℕ) where
   pub chain-ended : (fuel : ℕ) → p ≡ noPage → (chainFrom fuel b p ≡ []) × (endFrom fuel b p ≡ Ended)
   unfolding chainFrom endFrom
@@ -79,54 +70,6 @@ module _ (b : List ℕ) (p : ℕ) where
   pub chain-out : (chainFrom 0 b p ≡ []) × (endFrom 0 b p ≡ boundEnd p)
   unfolding chainFrom endFrom
   chain-out = (refl, refl)
-
--- ---- the loop: what is read, followed by what the chain still says, is the whole
-
-pub record Walking (b : List ℕ) (first : ℕ) (ps : List ℕ) (p n : ℕ) : Type 0 where
-  pub bound : n ≤ pages
-  pub size : length ps ≡ pages
-  pub met : take n ps ++ chainFrom (pages - n) b p ≡ chainFrom pages b first
-  pub end : endFrom (pages - n) b p ≡ endFrom pages b first
-
-pub walking-start : (b : List ℕ) (first : ℕ) (ps : List ℕ) → length ps ≡ pages → Walking b first ps first 0
-walking-start b first ps l = record { bound = omega arith; size = l; met = refl; end = refl }
-
-abbrev Read : List ℕ → ℕ → List ℕ → ℕ → ChainEnd → Type 0
-Read b first ps n e = (take n ps ≡ chainFrom pages b first) × (e ≡ endFrom pages b first) × (n ≤ pages)
-
-module _ {b : List ℕ} {first : ℕ} {ps : List ℕ} {p n : ℕ} (w : Walking b first ps p n) where
-  walking-stop : {e : ChainEnd} → chainFrom (pages - n) b p ≡ [] → endFrom (pages - n) b p ≡ e → Read b first ps n e
-  walking-stop h k = (sym (append-nil (take n ps)) ∙ rw h at (w .met), sym k ∙ w .end, w .bound)
-
-  pub walking-ended : p ≡ noPage → Read b first ps n Ended
-  walking-ended e = let t = chain-ended b p (pages - n) e in walking-stop (t .0) (t .1)
-
-  pub walking-not-there : {r : Bool} → n < pages → p ≢ noPage → r ≡ there b p → not r ≡ true → Read b first ps n (NotThere p)
-  walking-not-there {r} h k e i =
-      let f : pages - n ≡ suc (pages - (n + 1)) = omega arith in
-      let t = chain-not-there b p (pages - (n + 1)) k (sym e ∙ not-true r i) in
-      walking-stop (rw f (t .0)) (rw f (t .1))
-
-  pub walking-out : {e : ChainEnd} → pages ≤ n → e ≡ boundEnd p → Read b first ps n e
-  walking-out h k =
-      let f : pages - n ≡ 0 = omega arith in
-      let t = chain-out b p in
-      walking-stop (rw f (t .0)) (rw f (t .1 ∙ sym k))
-
-  pub walking-turn : {r : Bool} {q : ℕ} → n < pages → r ≡ there b p → not r ≡ false → q ≡ next (pageAt b p) → Walking b first (set ps n p) q (n + 1)
-  walking-turn h e i g =
-      let f : pages - n ≡ suc (pages - (n + 1)) = omega arith in
-      let t = chain-there b p (pages - (n + 1)) (was-there b p e i) in
-      let s = w .size in
-      let m : take (n + 1) (set ps n p) ≡ take n ps ++ (p ∷ []) = rw add-one (take-suc-set ps n p (omega arith)) in
-      let r : p ∷ chainFrom (pages - (n + 1)) b (next (pageAt b p)) ≡ chainFrom (pages - n) b p = rw f (sym (t .0)) in
-      let o : endFrom (pages - (n + 1)) b (next (pageAt b p)) ≡ endFrom (pages - n) b p = rw f (sym (t .1)) in
-      record {
-        bound = omega arith;
-        size = length-set ps n p ∙ s;
-        met = rw (g, m) (append-assoc (take n ps) (p ∷ []) _ ∙ ap (λ l. take n ps ++ l) r ∙ w .met);
-        end = rw g (o ∙ w .end);
-      }
 
 -- ---- a chain which ends is a linked chain of the buffer
 

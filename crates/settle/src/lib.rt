@@ -17,11 +17,11 @@ use page::Chain;
 use page::ChainEnd;
 use page::KIND_FIRST;
 use page::KIND_FURTHER;
-use page::free_page;
 use page::next_page;
-use page::write_page;
 use terms::NO_PAGE;
 use terms::PAGE_ENTRIES;
+use write::free_page;
+use write::write_page;
 
 // Where a settled chain begins, and the free chain then.
 pub struct Settled {
