@@ -88,7 +88,7 @@ fn print_grid(grid: Grid, pages: &[u8])
     print_cuts(b"north cuts", norths, within(norths.n, 15));
     let cells = grid.cells;
     print_cells(cells, within(cells.n, 64), pages);
-    print_free(grid.free, chain::read_chain(pages, grid.free));
+    print_free(grid.free, page_chain::read_chain(pages, grid.free));
 }
 
 fn print_cuts(name: &[u8], cuts: CutList, n: usize)
@@ -183,7 +183,7 @@ fn print_cell(s: Slot, pages: &[u8])
     print_edges(s);
     print_field(b" first page ", s.first);
     print(b"\n");
-    let chain = chain::read_chain(pages, s.first);
+    let chain = page_chain::read_chain(pages, s.first);
     let n = chain.n;
     print_pages(pages, chain, n);
 }

@@ -38,7 +38,7 @@ fn swept_at(buffer: &[u8], grid: Grid, at: usize, memo: Memo) -> Hand
 {
     let cells = grid.cells;
     let d = cells.slots[at];
-    let chain = chain::read_chain(buffer, d.first);
+    let chain = page_chain::read_chain(buffer, d.first);
     let swept = sweep::sweep_chain(buffer, chain, memo);
     let table = swept.table;
     let lines = swept.memo;

@@ -50,7 +50,7 @@ fn free_pages(pages: &mut [u8])
 {
     let mut p: usize = 1;
     while p < PAGES {
-        write::free_page(pages, p, free_after(p));
+        page_write::free_page(pages, p, free_after(p));
         p += 1;
     }
 }
@@ -60,7 +60,7 @@ fn write_pages(pages: &mut [u8])
     requires { ⌜ length (now pages) ≡ bufferBytes ⌝ }
     ensures { λ _. ⌜ now (pages .exit) ≡ pagesOf fresh ⌝ }
 {
-    write::write_page(
+    page_write::write_page(
         pages,
         0,
         page::KIND_FIRST,

@@ -278,7 +278,7 @@ pub fn write_low(buffer: &mut [u8], first: usize, further: usize)
     ensures { λ _. ⌜ length (now (buffer .exit)) ≡ bufferBytes ⌝ }
 {
     let es = low_entries();
-    write::write_page(
+    page_write::write_page(
         buffer,
         LOW_FIRST,
         page::KIND_FIRST,
@@ -288,7 +288,7 @@ pub fn write_low(buffer: &mut [u8], first: usize, further: usize)
         0,
         first,
     );
-    write::write_page(
+    page_write::write_page(
         buffer,
         LOW_FURTHER,
         page::KIND_FURTHER,
@@ -306,7 +306,7 @@ pub fn write_high(buffer: &mut [u8], twice: bool)
     ensures { λ _. ⌜ length (now (buffer .exit)) ≡ bufferBytes ⌝ }
 {
     if twice {
-        write::write_page(
+        page_write::write_page(
             buffer,
             HIGH_FIRST,
             page::KIND_FIRST,
@@ -317,7 +317,7 @@ pub fn write_high(buffer: &mut [u8], twice: bool)
             4,
         );
     } else {
-        write::write_page(
+        page_write::write_page(
             buffer,
             HIGH_FIRST,
             page::KIND_FIRST,
@@ -335,7 +335,7 @@ pub fn write_none(buffer: &mut [u8], p: usize, cell: u16)
     requires { ⌜ (length (now buffer) ≡ bufferBytes) × (p < pages) ⌝ }
     ensures { λ _. ⌜ length (now (buffer .exit)) ≡ bufferBytes ⌝ }
 {
-    write::write_page(
+    page_write::write_page(
         buffer,
         p,
         page::KIND_FIRST,
@@ -354,10 +354,10 @@ pub fn link(buffer: &mut [u8], a: usize, b: usize)
 {
     let mut p = a;
     while p < b {
-        write::free_page(buffer, p, (p + 1) as u16);
+        page_write::free_page(buffer, p, (p + 1) as u16);
         p += 1;
     }
-    write::free_page(buffer, b, NO_PAGE);
+    page_write::free_page(buffer, b, NO_PAGE);
 }
 
 fn is_free(p: usize) -> bool {
@@ -377,7 +377,7 @@ fn put_free(buffer: &mut [u8], p: usize, next: u16) -> u16
     if !is_free(p) {
         return next;
     }
-    write::free_page(buffer, p, next);
+    page_write::free_page(buffer, p, next);
     p as u16
 }
 

@@ -72,7 +72,7 @@ fn write_full(buffer: &mut [u8])
     let mut p: usize = 0;
     while p < STALE_PAGES - 1 {
         let es = stale_entries(PAGE_ENTRIES * p + 1, PAGE_ENTRIES);
-        write::write_page(
+        page_write::write_page(
             buffer,
             p,
             stale_kind(p),
@@ -103,7 +103,7 @@ pub fn write_rest(buffer: &mut [u8], n: usize)
 {
     let rest = n - PAGE_ENTRIES * (STALE_PAGES - 1);
     let es = stale_entries(PAGE_ENTRIES * (STALE_PAGES - 1) + 1, rest);
-    write::write_page(
+    page_write::write_page(
         buffer,
         STALE_PAGES - 1,
         page::KIND_FURTHER,

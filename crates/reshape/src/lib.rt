@@ -271,7 +271,7 @@ fn join(
     let cells = grid.cells;
     let d = cells.slots[at];
     let m = rest.slots[k];
-    let other = chain::read_chain(buffer, m.first);
+    let other = page_chain::read_chain(buffer, m.first);
     let swept = sweep::sweep_chain(buffer, other, memo);
     let stays = swept.table;
     let all = join::merged(stays, table);

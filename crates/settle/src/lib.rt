@@ -18,10 +18,10 @@ use page::ChainEnd;
 use page::KIND_FIRST;
 use page::KIND_FURTHER;
 use page::next_page;
+use page_write::free_page;
+use page_write::write_page;
 use terms::NO_PAGE;
 use terms::PAGE_ENTRIES;
-use write::free_page;
-use write::write_page;
 
 // Where a settled chain begins, and the free chain then.
 pub struct Settled {

@@ -23,8 +23,8 @@ const ENTRIES: usize = 70;
 fn main() {
     let mut buffer = [0u8; BUFFER_BYTES];
     write_chain(&mut buffer, table());
-    write::free_page(&mut buffer, 7, 11);
-    print_chain(&buffer, chain::read_chain(&buffer, 5));
+    page_write::free_page(&mut buffer, 7, 11);
+    print_chain(&buffer, page_chain::read_chain(&buffer, 5));
     print_page(&buffer, 7);
 }
 
@@ -56,8 +56,8 @@ fn table() -> Entries
 fn write_chain(buffer: &mut [u8], es: Entries)
     requires { ⌜ (length (now buffer) ≡ bufferBytes) × (es .n ≡ 70) ⌝ }
 {
-    write::write_page(buffer, 5, page::KIND_FIRST, 2, CELL, es, 0, PAGE_ENTRIES);
-    write::write_page(
+    page_write::write_page(buffer, 5, page::KIND_FIRST, 2, CELL, es, 0, PAGE_ENTRIES);
+    page_write::write_page(
         buffer,
         2,
         page::KIND_FURTHER,
@@ -67,7 +67,7 @@ fn write_chain(buffer: &mut [u8], es: Entries)
         PAGE_ENTRIES,
         PAGE_ENTRIES,
     );
-    write::write_page(
+    page_write::write_page(
         buffer,
         9,
         page::KIND_FURTHER,
@@ -142,7 +142,7 @@ fn print_page(buffer: &[u8], p: u16)
     }
     let page = page::page_at(buffer, p as usize);
     print_header(p, page::read_header(page));
-    print_layout(layout::laid_out(page));
+    print_layout(page_layout::laid_out(page));
     print_entries(page, page::entry_count(page));
 }
 

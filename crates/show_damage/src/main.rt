@@ -76,7 +76,7 @@ fn table() -> Entries
 fn write_pages(buffer: &mut [u8], es: Entries)
     requires { ⌜ (length (now buffer) ≡ bufferBytes) × (es .n ≡ 34) ⌝ }
 {
-    write::write_page(
+    page_write::write_page(
         buffer,
         FIRST,
         page::KIND_FIRST,
@@ -86,7 +86,7 @@ fn write_pages(buffer: &mut [u8], es: Entries)
         0,
         PAGE_ENTRIES,
     );
-    write::write_page(
+    page_write::write_page(
         buffer,
         FURTHER,
         page::KIND_FURTHER,
@@ -96,7 +96,7 @@ fn write_pages(buffer: &mut [u8], es: Entries)
         PAGE_ENTRIES,
         2,
     );
-    write::free_page(buffer, FREE, NO_PAGE);
+    page_write::free_page(buffer, FREE, NO_PAGE);
 }
 
 // ---- one damage at a time
@@ -116,7 +116,7 @@ fn try_next(buffer: &mut [u8], name: &[u8], next: u16)
 {
     let at = PAGE_BYTES * FIRST + NEXT_AT;
     let was = exchange(buffer, at, next);
-    print_chain(name, chain::read_chain(buffer, FIRST as u16));
+    print_chain(name, page_chain::read_chain(buffer, FIRST as u16));
     exchange(buffer, at, was);
 }
 
@@ -126,7 +126,7 @@ fn try_page(buffer: &mut [u8], name: &[u8], p: usize, at: usize, v: u16)
 {
     let place = PAGE_BYTES * p + at;
     let was = exchange(buffer, place, v);
-    print_layout(name, layout::laid_out(page::page_at(buffer, p)));
+    print_layout(name, page_layout::laid_out(page::page_at(buffer, p)));
     exchange(buffer, place, was);
 }
 
@@ -159,8 +159,8 @@ fn show_next(buffer: &mut [u8])
 }
 
 fn show_first(buffer: &[u8]) {
-    print_chain(b"first page 65535", chain::read_chain(buffer, NO_PAGE));
-    print_chain(b"first page 200", chain::read_chain(buffer, 200));
+    print_chain(b"first page 65535", page_chain::read_chain(buffer, NO_PAGE));
+    print_chain(b"first page 200", page_chain::read_chain(buffer, 200));
 }
 
 fn show_cut(buffer: &[u8])
@@ -168,11 +168,11 @@ fn show_cut(buffer: &[u8])
 {
     print_chain(
         b"one byte short",
-        chain::read_chain(front(buffer, BUFFER_BYTES - 1), FIRST as u16),
+        page_chain::read_chain(front(buffer, BUFFER_BYTES - 1), FIRST as u16),
     );
     print_chain(
         b"empty buffer",
-        chain::read_chain(front(buffer, 0), FIRST as u16),
+        page_chain::read_chain(front(buffer, 0), FIRST as u16),
     );
 }
 
@@ -180,10 +180,10 @@ fn show_cut(buffer: &[u8])
 fn show_all() {
     let mut buffer = [0u8; BUFFER_BYTES];
     link_all(&mut buffer);
-    write::free_page(&mut buffer, 127, NO_PAGE);
-    print_chain(b"all pages in a row", chain::read_chain(&buffer, 0));
-    write::free_page(&mut buffer, 127, 0);
-    print_chain(b"all pages in a ring", chain::read_chain(&buffer, 0));
+    page_write::free_page(&mut buffer, 127, NO_PAGE);
+    print_chain(b"all pages in a row", page_chain::read_chain(&buffer, 0));
+    page_write::free_page(&mut buffer, 127, 0);
+    print_chain(b"all pages in a ring", page_chain::read_chain(&buffer, 0));
 }
 
 fn link_all(buffer: &mut [u8])
@@ -191,7 +191,7 @@ fn link_all(buffer: &mut [u8])
 {
     let mut p: usize = 0;
     while p < PAGES {
-        write::free_page(buffer, p, (p + 1) as u16);
+        page_write::free_page(buffer, p, (p + 1) as u16);
         p += 1;
     }
 }
@@ -229,7 +229,7 @@ fn show_size(buffer: &[u8])
     let page = page::page_at(buffer, FIRST);
     print_layout(
         b"page of 199 bytes",
-        layout::laid_out(front(page, PAGE_BYTES - 1)),
+        page_layout::laid_out(front(page, PAGE_BYTES - 1)),
     );
 }
 

@@ -102,7 +102,7 @@ fn show_empty(desk: Desk, buffer: &mut [u8])
 {
     small::write_none(buffer, 1, 2);
     try_desk(b"cell without a place", with_empty(desk), buffer);
-    write::free_page(buffer, 1, 2);
+    page_write::free_page(buffer, 1, 2);
 }
 
 // With another number for the high cell, in the directory and on its page.

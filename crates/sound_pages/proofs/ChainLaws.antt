@@ -19,7 +19,7 @@ use Rattle.lists.proofs.Cases.{by-cases}
 use Rattle.lists.proofs.TestsLaws.{either-left, either-right, each-append, each-split}
 use Rattle.page.specs.Page.{kindFree, kindFirst, kindFurther, pageOf, freePageOf, next, entries}
 use Rattle.page.specs.Buffer.{bufferBytes, pageAt}
-use Rattle.layout.specs.Layout.{kindFits}
+use Rattle.page_layout.specs.Layout.{kindFits}
 use Rattle.page.proofs.PageLaws.{page-fields, entries-pageOf}
 use Rattle.desk.specs.declared.Slot.{Slot}
 use Rattle.desk.specs.Layout.{At, leaves, freeLeaves}

@@ -18,7 +18,7 @@ use Rattle.lists.proofs.TestsLaws.{not-true, not-false, all-cons}
 use Rattle.entries.specs.declared.Entry.{Entry}
 use Rattle.entries.specs.Entries.{rowOf, noRow}
 use Rattle.page.specs.Page.{used, kind, next, cell, count, entryAt, entries}
-use Rattle.layout.specs.Layout.{laidOut}
+use Rattle.page_layout.specs.Layout.{laidOut}
 use Rattle.page.specs.declared.Header.{Header}
 use Rattle.desk.specs.declared.Slot.{Slot}
 use Rattle.sound_pages.specs.Walks.{isPage, fullOrLast, startsAbove, lastRadio, insideOf, pageOk, unmarked}

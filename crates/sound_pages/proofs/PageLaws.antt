@@ -17,9 +17,9 @@ use Rattle.lists.proofs.RowsLaws.{rising-less}
 use Rattle.lists.proofs.TestsLaws.{both-left, both-right, both-intro, either-cases, each-all, all-each}
 use Rattle.page.specs.Page.{pageBytes, kindFree, kindFurther, pageOf, freePageOf, kind, next, cell, count, entries}
 use Rattle.page.specs.Buffer.{bufferBytes, pageAt}
-use Rattle.layout.specs.Layout.{kindFits}
+use Rattle.page_layout.specs.Layout.{kindFits}
 use Rattle.page.proofs.BufferLaws.{length-pageAt}
-use Rattle.layout.proofs.LayoutLaws.{laid-out, laid-out-rows, page-passes}
+use Rattle.page_layout.proofs.LayoutLaws.{laid-out, laid-out-rows, page-passes}
 use Rattle.page.proofs.PageLaws.{length-entries, page-fields, count-pageOf, entries-pageOf}
 use Rattle.desk.specs.declared.Slot.{Slot}
 use Rattle.sound_pages.specs.Walks.{isPage, fullOrLast, startsAbove, lastRadio, insideOf, pageOk}

@@ -9,7 +9,7 @@ use Rattle.lists.specs.Rows.{Row, Rows}
 use Rattle.lists.specs.Tests.{both, either, all}
 use Rattle.page.specs.Page.{kindFree, kindFirst, kindFurther, kind, next, cell, count, entries}
 use Rattle.page.specs.Buffer.{bufferBytes, pageAt}
-use Rattle.layout.specs.Layout.{laidOut}
+use Rattle.page_layout.specs.Layout.{laidOut}
 use Rattle.rules.specs.Grid.{inside}
 use Rattle.rules.specs.Limits.{maxCells}
 use Rattle.desk.specs.declared.Slot.{Slot}

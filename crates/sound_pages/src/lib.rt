@@ -32,7 +32,7 @@ fn is_page(page: &[u8], kind: u16, cell: u16) -> bool
     requires { ⌜ length (now page) ≡ pageBytes ⌝ }
     ensures { λ r. ⌜ r ≡ isPage kind cell (now (page .entry)) ⌝ }
 {
-    if !layout::laid_out(page) {
+    if !page_layout::laid_out(page) {
         return false;
     }
     let h = page::read_header(page);

@@ -9,7 +9,7 @@ use Rattle.reshape.proofs.join.Tie as tie
 use Rattle.reshape.proofs.join.Reads as reads
 use Rattle.reshape.proofs.join.Lts as lts
 use Rattle.join.proofs.merged.Reads as merged-reads
-use Rattle.chain.proofs.read_chain.Reads as read-chain-reads
+use Rattle.page_chain.proofs.read_chain.Reads as read-chain-reads
 use Rattle.reshape.proofs.join_pages.Reads as join-pages-reads
 use Rattle.reshape.proofs.joined_cells.Reads as joined-cells-reads
 use Rattle.reshape.proofs.with_cells.Reads as with-cells-reads

@@ -1,0 +1,129 @@
+-- What the functions of the layout test need: a law for each turn, end or return, in the words of the contracts.
+use mathlib.Core.Bool.{Bool, true, false, not}
+use mathlib.Core.List.{List, _∷_}
+use mathlib.Core.Path.{_≡_, sym, ap, _∙_}
+use Prim.Native.Nat.{ℕ, suc, _+_, _*_, _≤_, _<_, max}
+use native.Mathlib.Numerals.{add-one}
+use native.Mathlib.Omega.{arith}
+use lib.Dec.{eqb, leb, ltb}
+use lib.ListN.{length, getD, drop, drop-of-length-le}
+use lib.Seq.{drop-cons}
+use borrow.Author.Tests.{eq-eqb, ne-eqb, le-ltb, lt-leb}
+use Rattle.terms.specs.Terms.{fieldBytes, maxRadio}
+use Rattle.lists.specs.Parts.{tab}
+use Rattle.lists.specs.Tests.{both, either}
+use Rattle.lists.specs.Words.{word}
+use Rattle.lists.proofs.Cases.{by-cases}
+use Rattle.lists.proofs.PartsLaws.{length-tab, getD-tab}
+use Rattle.lists.proofs.TestsLaws.{not-true, not-false, both-left-false, both-right-false}
+use Rattle.entries.specs.Entries.{noRow}
+use Rattle.page.specs.Page.{pageBytes, headBytes, entryBytes, kindFree, kindFirst, kindFurther, used, kind, next, cell, roomOf, count, entryAt, entries}
+use Rattle.page_layout.specs.Layout.{climb, climbs, top, kindFits, laidOut}
+use Rattle.page_layout.specs.declared.Climb.{Climb}
+use Rattle.page_layout.specs.declared.Climb.the-variants.{To, Broken}
+use Rattle.page.specs.declared.Header.{Header}
+use Rattle.page_layout.proofs.LayoutLaws.{climb-none, climb-step, climb-stop}
+
+-- ---- top_from
+
+pub top-turn : (b : List ℕ) (i s : ℕ) {r t : ℕ} → i < length b → r ≡ max s (getD b i 0) → max s (top (drop i b)) ≡ t → max r (top (drop (i + 1) b)) ≡ t
+unfolding top
+top-turn b i s h f g = rw (add-one i) (omega (arith, ap top (drop-cons b i 0 h)))
+
+pub top-end : (b : List ℕ) (i s : ℕ) {t : ℕ} → length b ≤ i → max s (top (drop i b)) ≡ t → s ≡ t
+unfolding top
+top-end b i s h f = omega (arith, ap top (drop-of-length-le b {i = i} h))
+
+-- ---- radios_rise
+
+module _ (b : List ℕ) (n low i last : ℕ) (inside : i < n) (so : climb last (drop i (tab n (entryAt b))) ≡ climb low (tab n (entryAt b))) where
+  open-entry : drop i (tab n (entryAt b)) ≡ entryAt b i ∷ drop (suc i) (tab n (entryAt b))
+  open-entry =
+      let l = length-tab n (entryAt b) in
+      drop-cons (tab n (entryAt b)) i noRow (omega arith) ∙ rw (getD-tab n (entryAt b) i noRow inside)
+
+  module _ {r : ℕ} (e : r ≡ word fieldBytes b (headBytes + entryBytes * i)) where
+    radio-is : entryAt b i .key ≡ r
+    unfolding entryAt
+    radio-is = sym e
+
+    pub climb-turn : last < r → r ≤ maxRadio → climb r (drop (i + 1) (tab n (entryAt b))) ≡ climb low (tab n (entryAt b))
+    climb-turn h k =
+        let a = radio-is in
+        let g = rw (open-entry, climb-step last (entryAt b i) (drop (suc i) (tab n (entryAt b))) (omega arith) (omega arith)) at so in
+        rw (add-one i) (ap (λ (x : ℕ). climb x (drop (suc i) (tab n (entryAt b)))) (sym a) ∙ g)
+
+    stop : both (ltb last (entryAt b i .key)) (leb (entryAt b i .key) maxRadio) ≡ false → Broken ≡ climb low (tab n (entryAt b))
+    stop t = sym (climb-stop last (entryAt b i) (drop (suc i) (tab n (entryAt b))) t) ∙ rw open-entry at so
+
+    pub climb-low : r ≤ last → Broken ≡ climb low (tab n (entryAt b))
+    climb-low h = let a = radio-is in stop (both-left-false _ (le-ltb last (entryAt b i .key) (omega arith)))
+
+    pub climb-high : maxRadio < r → Broken ≡ climb low (tab n (entryAt b))
+    climb-high h = let a = radio-is in stop (both-right-false _ (lt-leb (entryAt b i .key) maxRadio (omega arith)))
+
+pub climb-end : (b : List ℕ) (n low : ℕ) {i last : ℕ} → n ≤ i → climb last (drop i (tab n (entryAt b))) ≡ climb low (tab n (entryAt b)) → To last ≡ climb low (tab n (entryAt b))
+climb-end b n low {i} {last} h so =
+    let l = length-tab n (entryAt b) in
+    sym (climb-none last) ∙ rw (drop-of-length-le (tab n (entryAt b)) {i = i} (omega arith)) at so
+
+-- ---- kind_fits
+
+module _ (k n : ℕ) where
+  pub fits-free : k ≡ kindFree → eqb n 0 ≡ kindFits k n
+  unfolding kindFits both either
+  fits-free e = by-cases (eqb n 0) (λ t. rw (e, t)) (λ t. rw (e, t))
+
+  pub fits-first : k ≡ kindFirst → true ≡ kindFits k n
+  unfolding kindFits both either
+  fits-first e = rw e
+
+  pub fits-further : k ≡ kindFurther → ltb 0 n ≡ kindFits k n
+  unfolding kindFits both either
+  fits-further e = rw e
+
+  pub fits-none : (k ≡ kindFree → ⊥) → (k ≡ kindFirst → ⊥) → (k ≡ kindFurther → ⊥) → false ≡ kindFits k n
+  unfolding kindFits both either
+  fits-none f g h = rw (ne-eqb k kindFree f, ne-eqb k kindFirst g, ne-eqb k kindFurther h)
+
+-- ---- laid_out: the sections grow with the tests passed
+
+pub laid-size : (b : List ℕ) → (length b ≡ pageBytes → ⊥) → false ≡ laidOut b
+unfolding laidOut both
+laid-size b f = rw (ne-eqb (length b) pageBytes f)
+
+module _ (b : List ℕ) (whole : length b ≡ pageBytes) (h : Header) (head : h ≡ record { used = used b; kind = kind b; next = next b; cell = cell b }) {n : ℕ} (room : n ≡ roomOf (h .used)) where
+  used-is : used b ≡ h .used
+  used-is = ap (λ (x : Header). x .used) (sym head)
+
+  kind-is : kind b ≡ h .kind
+  kind-is = ap (λ (x : Header). x .kind) (sym head)
+
+  count-is : count b ≡ n
+  unfolding count
+  count-is = ap roomOf used-is ∙ sym room
+
+  pub laid-used : (h .used ≡ headBytes + entryBytes * n → ⊥) → false ≡ laidOut b
+  unfolding laidOut both
+  laid-used f = rw (eq-eqb (length b) pageBytes whole, count-is, used-is, ne-eqb (h .used) (headBytes + entryBytes * n) f)
+
+  module _ (fit : h .used ≡ headBytes + entryBytes * n) {f : Bool} (fits : f ≡ kindFits (h .kind) n) where
+    pub laid-kind : not f ≡ true → false ≡ laidOut b
+    unfolding laidOut both
+    laid-kind t = rw (eq-eqb (length b) pageBytes whole, count-is, used-is, eq-eqb (h .used) (headBytes + entryBytes * n) fit, kind-is, ← fits, not-true f t)
+
+    module _ (good : not f ≡ false) {s : ℕ} (most : s ≡ top (drop (headBytes + entryBytes * n) b)) where
+      pub laid-unused : (s ≡ 0 → ⊥) → false ≡ laidOut b
+      unfolding laidOut both
+      laid-unused z = rw (eq-eqb (length b) pageBytes whole, count-is, used-is, eq-eqb (h .used) (headBytes + entryBytes * n) fit, kind-is, ← fits, not-false f good, ← most, ne-eqb s 0 z)
+
+      module _ (zeros : s ≡ 0) {r : Climb} (rise : r ≡ climb 0 (tab n (entryAt b))) where
+        laid-rest : climbs r ≡ laidOut b
+        unfolding laidOut both entries
+        laid-rest = rw (eq-eqb (length b) pageBytes whole, count-is, used-is, eq-eqb (h .used) (headBytes + entryBytes * n) fit, kind-is, ← fits, not-false f good, ← most, eq-eqb s 0 zeros, ← rise)
+
+        pub laid-rise : {last : ℕ} → r ≡ To last → true ≡ laidOut b
+        laid-rise e = sym (ap climbs e) ∙ laid-rest
+
+        pub laid-broken : r ≡ Broken → false ≡ laidOut b
+        laid-broken e = sym (ap climbs e) ∙ laid-rest
