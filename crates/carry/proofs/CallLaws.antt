@@ -33,9 +33,10 @@ use Rattle.range.specs.declared.Rectangle.{Rectangle}
 use Rattle.range.specs.declared.Listed.{Listed}
 use Rattle.range.specs.Range.{rectOf, foundIn}
 use Rattle.range.proofs.StoreLaws.{range-gives}
+use Rattle.effects.specs.Effects.{Stands, AskedOn, AskedReport, AskedOff, Carries}
+use Rattle.effects.proofs.EffectLaws.{on-held}
 use Rattle.carry.specs.declared.Carried.{Carried}
-use Rattle.carry.specs.Carry.{Stands, AskedOn, AskedReport, AskedOff, Carries, Lists}
-use Rattle.carry.proofs.EffectLaws.{on-held}
+use Rattle.carry.specs.Carry.{Lists}
 
 well-once : (s : Store) → WellFormed s → PagesOnce s
 unfolding chains

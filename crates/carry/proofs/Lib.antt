@@ -1,3 +1,1 @@
-pub mod EffectLaws
-pub mod OwnLaws
 pub mod CallLaws

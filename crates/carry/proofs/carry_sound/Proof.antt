@@ -7,9 +7,9 @@ use Rattle.carry.proofs.carry_sound.Lts as lts
 use Rattle.carry.proofs.accepted.Reads as accepted-reads
 use Rattle.carry.proofs.answered.Reads as answered-reads
 use Rattle.carry.proofs.listed.Reads as listed-reads
-use Rattle.carry.proofs.reported.Reads as reported-reads
-use Rattle.carry.proofs.sign_off.Reads as sign-off-reads
-use Rattle.carry.proofs.sign_on.Reads as sign-on-reads
+use Rattle.effects.proofs.reported.Reads as reported-reads
+use Rattle.effects.proofs.sign_off.Reads as sign-off-reads
+use Rattle.effects.proofs.sign_on.Reads as sign-on-reads
 use Rattle.records.proofs.asked_by.Reads as asked-by-reads
 
 asked-by-requires : tie.Need-asked-by-requires

@@ -26,7 +26,7 @@ use Rattle.waiting.specs.Waiting.{reportsOf}
 use Rattle.flush.specs.Flush.{Holds, Tallied, Ticks, Reported, After, quiet}
 use Rattle.flush.proofs.TickLaws.{tick-counts}
 use Rattle.flush.proofs.AfterLaws.{due-asks, quiet-due, after-nothing, after-tallied}
-use Rattle.carry.specs.Carry.{Stands, Left, Effected, Followed}
+use Rattle.effects.specs.Effects.{Stands, Left, Effected, Followed}
 
 -- ---- a desk by its parts
 

@@ -1,9 +1,9 @@
 use borrow.Author.Needs.{needs}
-use Rattle.carry.proofs.EffectLaws.{left-tallied, left-returns}
-use Rattle.carry.proofs.ticked.Statement.{statement}
-use Rattle.carry.proofs.ticked.Tie as tie
-use Rattle.carry.proofs.ticked.Reads as reads
-use Rattle.carry.proofs.ticked.Lts as lts
+use Rattle.effects.proofs.EffectLaws.{left-tallied, left-returns}
+use Rattle.effects.proofs.ticked.Statement.{statement}
+use Rattle.effects.proofs.ticked.Tie as tie
+use Rattle.effects.proofs.ticked.Reads as reads
+use Rattle.effects.proofs.ticked.Lts as lts
 use Rattle.flush.proofs.tick.Reads as tick-reads
 
 tick-requires : tie.Need-tick-requires

@@ -1,11 +1,11 @@
 use borrow.Author.Needs.{needs}
 use Rattle.own.proofs.StoreLaws.{off-asks}
-use Rattle.carry.proofs.OwnLaws.{off-left, off-carries}
-use Rattle.carry.proofs.sign_off.Statement.{statement}
-use Rattle.carry.proofs.sign_off.Tie as tie
-use Rattle.carry.proofs.sign_off.Reads as reads
-use Rattle.carry.proofs.sign_off.Lts as lts
-use Rattle.carry.proofs.ticked.Reads as ticked-reads
+use Rattle.effects.proofs.OwnLaws.{off-left, off-carries}
+use Rattle.effects.proofs.sign_off.Statement.{statement}
+use Rattle.effects.proofs.sign_off.Tie as tie
+use Rattle.effects.proofs.sign_off.Reads as reads
+use Rattle.effects.proofs.sign_off.Lts as lts
+use Rattle.effects.proofs.ticked.Reads as ticked-reads
 use Rattle.own.proofs.signed_off.Reads as signed-off-reads
 
 signed-off-requires : tie.Need-signed-off-requires

@@ -27,7 +27,7 @@ use Rattle.own.specs.declared.SignedOn.{SignedOn}
 use Rattle.own.specs.declared.SignedOff.{SignedOff}
 use Rattle.own.proofs.StoreLaws.{on-gives, report-gives, off-gives, on-laid, report-laid, off-laid}
 use Rattle.records.proofs.AskedLaws.{SignsOn, Reports}
-use Rattle.carry.specs.Carry.{Stands, Effected, Followed, Left, AskedOn, AskedReport, AskedOff, Carries}
+use Rattle.effects.specs.Effects.{Stands, Effected, Followed, Left, AskedOn, AskedReport, AskedOff, Carries}
 
 -- ---- the store then
 

@@ -1,11 +1,11 @@
 use borrow.Author.Needs.{needs}
 use Rattle.own.proofs.StoreLaws.{on-asks}
-use Rattle.carry.proofs.OwnLaws.{on-effect, on-carries}
-use Rattle.carry.proofs.sign_on.Statement.{statement}
-use Rattle.carry.proofs.sign_on.Tie as tie
-use Rattle.carry.proofs.sign_on.Reads as reads
-use Rattle.carry.proofs.sign_on.Lts as lts
-use Rattle.carry.proofs.followed.Reads as followed-reads
+use Rattle.effects.proofs.OwnLaws.{on-effect, on-carries}
+use Rattle.effects.proofs.sign_on.Statement.{statement}
+use Rattle.effects.proofs.sign_on.Tie as tie
+use Rattle.effects.proofs.sign_on.Reads as reads
+use Rattle.effects.proofs.sign_on.Lts as lts
+use Rattle.effects.proofs.followed.Reads as followed-reads
 use Rattle.own.proofs.signed_on.Reads as signed-on-reads
 
 signed-on-requires : tie.Need-signed-on-requires

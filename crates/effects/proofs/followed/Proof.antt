@@ -1,10 +1,10 @@
 use borrow.Author.Needs.{needs}
-use Rattle.carry.proofs.EffectLaws.{effect-reported, flushed-left, effect-followed}
-use Rattle.carry.proofs.followed.Statement.{statement}
-use Rattle.carry.proofs.followed.Tie as tie
-use Rattle.carry.proofs.followed.Reads as reads
-use Rattle.carry.proofs.followed.Lts as lts
-use Rattle.carry.proofs.ticked.Reads as ticked-reads
+use Rattle.effects.proofs.EffectLaws.{effect-reported, flushed-left, effect-followed}
+use Rattle.effects.proofs.followed.Statement.{statement}
+use Rattle.effects.proofs.followed.Tie as tie
+use Rattle.effects.proofs.followed.Reads as reads
+use Rattle.effects.proofs.followed.Lts as lts
+use Rattle.effects.proofs.ticked.Reads as ticked-reads
 use Rattle.flush.proofs.after_report.Reads as after-report-reads
 
 after-report-requires : tie.Need-after-report-requires

@@ -1,10 +1,10 @@
 use native.Mathlib.Omega.{arith}
 use borrow.Author.Needs.{needs}
 use Rattle.own.proofs.StoreLaws.{report-asks}
-use Rattle.carry.proofs.EffectLaws.{quiet-asks, effect-quiet}
-use Rattle.carry.proofs.OwnLaws.{report-effect, report-carries}
-use Rattle.carry.proofs.reported.Statement.{statement}
-use Rattle.carry.proofs.reported.Tie as tie
+use Rattle.effects.proofs.EffectLaws.{quiet-asks, effect-quiet}
+use Rattle.effects.proofs.OwnLaws.{report-effect, report-carries}
+use Rattle.effects.proofs.reported.Statement.{statement}
+use Rattle.effects.proofs.reported.Tie as tie
 
 reported-requires : tie.Need-reported-requires
 reported-requires c κs =
