@@ -4,11 +4,10 @@ use mathlib.Core.List.{List, [], _∷_, _++_}
 use mathlib.Core.Logic.{_≢_}
 use mathlib.Core.Path.{_≡_, sym, ap, ap₂, _∙_}
 use Prim.Native.Nat.{ℕ, _+_, _*_, _≤_, _<_}
-use native.Mathlib.Numerals.{add-one}
 use native.Mathlib.Omega.{arith}
 use lib.Dec.{eqb}
 use lib.ListN.{length, getD, set, take, replicate, length-set, length-take, length-replicate, getD-replicate}
-use lib.Seq.{take-suc, take-all, getD-set-same, getD-set-other}
+use lib.Seq.{take-all, getD-set-same, getD-set-other}
 use borrow.Author.Tests.{eqb-true, eq-eqb}
 use Rattle.lists.specs.Rows.{Row, Rows}
 use Rattle.lists.specs.Tests.{one-if}
@@ -26,8 +25,8 @@ use Rattle.desk.specs.declared.Waiting.{Waiting}
 use Rattle.desk.specs.Layout.{noReport}
 use Rattle.desk.specs.Views.{cutsIn, cutsBy}
 use Rattle.boxes.specs.Boxes.{maxStripes, tableSize, boxAt, Crowd}
-use Rattle.waiting.specs.Waiting.{reportsOf}
-use Rattle.waiting.proofs.WaitingLaws.{noRow, length-reports, reports-get}
+use Rattle.waiting.specs.Waiting.{rowOf, reportsOf}
+use Rattle.waiting.proofs.WaitingLaws.{length-reports, reports-next}
 
 -- ---- the memory cell of a place
 
@@ -138,15 +137,12 @@ crowding-start easts norths w = record { so = crowd-start (cutsBy easts norths) 
 module _ {easts norths : CutList} (w : Waiting) {i : ℕ} {crowd : List ℕ} (c : Crowding easts norths w i crowd) (size : length (w .rows) ≡ fullMemory) (fits : w .n ≤ fullMemory) where
   module _ (east-cuts : easts .n ≤ maxCuts) (north-cuts : norths .n ≤ maxCuts) (more : i < w .n) {k : ℕ}
       (said : k ≡ boxAt (boxOf (cutsBy easts norths) (record { east = getD (w .rows) i noReport .east; north = getD (w .rows) i noReport .north }))) where
-    next : k ≡ boxAt (boxOf (cutsBy easts norths) (getD (reportsOf w) i noRow .val .place))
-    next = said ∙ ap (λ (x : Row StoreReport). boxAt (boxOf (cutsBy easts norths) (x .val .place))) (sym (reports-get w size fits i more))
-
     pub crowding-room : getD crowd k 0 < fullMemory
-    crowding-room = omega (arith, crowd-most (c .so) (few-cuts easts east-cuts) (few-cuts norths north-cuts) (getD (reportsOf w) i noRow) next, length-take i (reportsOf w))
+    crowding-room = omega (arith, crowd-most (c .so) (few-cuts easts east-cuts) (few-cuts norths north-cuts) (rowOf (getD (w .rows) i noReport)) said, length-take i (reportsOf w))
 
     pub crowding-turn : Crowding easts norths w (i + 1) (set crowd k (getD crowd k 0 + 1))
     crowding-turn = record {
-      so = rw (add-one i, take-suc (reportsOf w) i noRow (rw (length-reports w size fits) more)) (crowd-turn (c .so) (few-cuts easts east-cuts) (few-cuts norths north-cuts) (getD (reportsOf w) i noRow) next);
+      so = rw (reports-next w size fits i more) (crowd-turn (c .so) (few-cuts easts east-cuts) (few-cuts norths north-cuts) (rowOf (getD (w .rows) i noReport)) said);
     }
 
   pub crowding-end : w .n ≤ i → Crowd (cutsBy easts norths) (reportsOf w) crowd

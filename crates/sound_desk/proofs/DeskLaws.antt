@@ -41,9 +41,12 @@ use Rattle.sound_grid.proofs.LoopLaws.{stops, goes}
 use Rattle.sound_grid.proofs.SlotLaws.{slots-count}
 use Rattle.sound_grid.proofs.CutsLaws.{cuts-whole, cuts-in, whole-cuts}
 use Rattle.sound_grid.proofs.GridLaws.{directory-count, directory-whole, slots-in, whole-directory}
-use Rattle.sound_desk.specs.Views.{reportsOf, cellOf}
+use Rattle.waiting.specs.Waiting.{reportsOf}
+use Rattle.waiting.proofs.WaitingLaws.{reports-waitingOf}
+use Rattle.waiting.proofs.OnLaws.{radios-onOf}
+use Rattle.sound_desk.specs.Views.{cellOf}
 use Rattle.sound_desk.specs.Sound.{onSound, reportWeight, waitingSound, missedTest, memoSound, fewSound, unmarkedSound, radiosSound, deskSound, shown, Tests, DeskTests, Shaped}
-use Rattle.sound_desk.proofs.PartLaws.{map-map, map-same, on-whole, radios-on, whole-on, waiting-whole, reports-waiting, whole-waiting, memo-whole, whole-memo-sound}
+use Rattle.sound_desk.proofs.PartLaws.{map-map, map-same, on-whole, whole-on, waiting-whole, whole-waiting, memo-whole, whole-memo-sound}
 
 -- ---- what a part that has passed gives to the tests after it
 
@@ -234,7 +237,7 @@ unfolding deskOf gridOf edgesSound tileSound fewSound unmarkedSound
 tested-desk s short t =
     let cuts = cuts-of (s .cuts) in
     let rects = rects-of (s .cells) in
-    let waits = reports-waiting (s .waiting) in
+    let waits = reports-waitingOf (s .waiting) in
     let names = slot-numbers (s .cells) in
     let few = leb-true (length (numbersOf (s .cells))) maxCells (t .few) in
     parts-desk (deskOf s) (record {
@@ -248,7 +251,7 @@ tested-desk s short t =
       waits = whole-waiting (s .waiting) (t .waiting) (t .places);
       heard = whole-on (s .on) (t .on);
       few = ap₂ fewTest cuts waits ∙ t .boxed;
-      unmarked = ap₂ unmarkedTest waits (radios-on (s .on)) ∙ t .unmarked;
+      unmarked = ap₂ unmarkedTest waits (radios-onOf (s .on)) ∙ t .unmarked;
       lines = whole-memo-sound (s .memo) short (t .memo) (t .missed) (t .lasts);
       tallied = t .tallied;
     })

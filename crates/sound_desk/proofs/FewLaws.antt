@@ -1,12 +1,11 @@
 -- Waiting reports against the cuts, by a table of memory cells.
-use mathlib.Core.Path.{_≡_, refl, sym, ap, _∙_}
+use mathlib.Core.Path.{_≡_, refl, sym, ap}
 use mathlib.Core.Bool.{true, false}
 use mathlib.Core.List.{List, [], _∷_, _++_}
 use Prim.Native.Nat.{ℕ, _+_, _-_, _≤_, _<_}
 use native.Mathlib.Omega.{arith}
-use native.Mathlib.Numerals.{add-one}
-use lib.ListN.{length, getD, set, take, replicate, length-map, List·getD-map}
-use lib.Seq.{take-suc, take-all, getD-take, length-take-le}
+use lib.ListN.{length, getD, set, take, replicate}
+use lib.Seq.{take-all}
 use Rattle.lists.specs.Rows.{Row, Rows}
 use Rattle.lists.specs.Tests.{one-if}
 use Rattle.lists.proofs.Cases.{by-cases}
@@ -24,12 +23,14 @@ use Rattle.mirror.specs.Waiting.{fewTest}
 use Rattle.mirror.proofs.WaitingLaws.{few-true, true-few}
 use Rattle.boxes.specs.Boxes.{tableSize, boxAt, Crowd}
 use Rattle.boxes.proofs.CrowdLaws.{few-cuts, box-in, in-box, none-wait, wait-last, crowd-start, crowd-here, crowd-turn}
-use Rattle.sound_desk.specs.Views.{reportRow, reportsOf}
+use Rattle.waiting.specs.Waiting.{rowOf, reportsOf}
+use Rattle.waiting.proofs.WaitingLaws.{length-reports, reports-next}
 use Rattle.sound_desk.specs.Sound.{fewSound}
 
 -- the reports up to i are counted at their memory cells, and none has 8
 pub record Few (easts norths : CutList) (w : Waiting) (i : ℕ) (crowd : List ℕ) : Type 0 where
-  pub fits : w .n ≤ length (w .rows)
+  pub size : length (w .rows) ≡ fullMemory
+  pub fits : w .n ≤ fullMemory
   pub east-cuts : easts .n ≤ maxCuts
   pub north-cuts : norths .n ≤ maxCuts
   pub so : Crowd (cutsBy easts norths) (take i (reportsOf w)) crowd
@@ -37,20 +38,13 @@ pub record Few (easts norths : CutList) (w : Waiting) (i : ℕ) (crowd : List �
 
 pub few-start : (easts norths : CutList) (w : Waiting) → length (w .rows) ≡ fullMemory → easts .n ≤ maxCuts → norths .n ≤ maxCuts → w .n ≤ fullMemory → Few easts norths w 0 (replicate tableSize 0)
 few-start easts norths w l h k f = record {
-  fits = omega arith;
+  size = l;
+  fits = f;
   east-cuts = h;
   north-cuts = k;
   so = crowd-start (cutsBy easts norths);
   few = λ m. omega (arith, none-wait (cutsBy easts norths) m);
 }
-
-length-reports : (w : Waiting) → w .n ≤ length (w .rows) → length (reportsOf w) ≡ w .n
-unfolding reportsOf
-length-reports w h = length-map (take (w .n) (w .rows)) reportRow ∙ length-take-le (w .n) (w .rows) h
-
-report-at : (w : Waiting) (i : ℕ) → i < w .n → getD (reportsOf w) i (reportRow noReport) ≡ reportRow (getD (w .rows) i noReport)
-unfolding reportsOf
-report-at w i h = List·getD-map reportRow (take (w .n) (w .rows)) i noReport ∙ ap reportRow (getD-take (w .n) (w .rows) i noReport h)
 
 wait-part : (cuts : Cuts) (ws : Rows StoreReport) (i : ℕ) (m : Box) → waitingIn cuts (take i ws) m ≤ waitingIn cuts ws m
 unfolding waitingIn
@@ -62,7 +56,7 @@ module _ {easts norths : CutList} {w : Waiting} {i : ℕ} {crowd : List ℕ} (r 
   cuts = cutsBy easts norths
 
   abbrev it : Row StoreReport
-  it = reportRow (getD (w .rows) i noReport)
+  it = rowOf (getD (w .rows) i noReport)
 
   abbrev its : Box
   its = boxOf cuts (it .val .place)
@@ -75,9 +69,7 @@ module _ {easts norths : CutList} {w : Waiting} {i : ℕ} {crowd : List ℕ} (r 
     few-north = few-cuts norths (r .north-cuts)
 
     next : take (i + 1) (reportsOf w) ≡ take i (reportsOf w) ++ (it ∷ [])
-    next =
-        rw (add-one i) (take-suc (reportsOf w) i (reportRow noReport) (omega (arith, length-reports w (r .fits)))
-        ∙ ap (λ (x : Row StoreReport). take i (reportsOf w) ++ (x ∷ [])) (report-at w i more))
+    next = reports-next w (r .size) (r .fits) i more
 
     one-more : (m : Box) → waitingIn cuts (take (i + 1) (reportsOf w)) m ≡ waitingIn cuts (take i (reportsOf w)) m + one-if (inBox cuts m it)
     one-more m = rw next (wait-last cuts (take i (reportsOf w)) it m)
@@ -103,6 +95,7 @@ module _ {easts norths : CutList} {w : Waiting} {i : ℕ} {crowd : List ℕ} (r 
 
       pub few-turn : Few easts norths w (i + 1) (set crowd k (getD crowd k 0 + 1))
       few-turn = record {
+        size = r .size;
         fits = r .fits;
         east-cuts = r .east-cuts;
         north-cuts = r .north-cuts;
@@ -113,5 +106,5 @@ module _ {easts norths : CutList} {w : Waiting} {i : ℕ} {crowd : List ℕ} (r 
   pub few-end : w .n ≤ i → true ≡ fewSound easts norths w
   unfolding fewSound
   few-end h =
-      let a : take i (reportsOf w) ≡ reportsOf w = take-all i (reportsOf w) (omega (arith, length-reports w (r .fits))) in
+      let a : take i (reportsOf w) ≡ reportsOf w = take-all i (reportsOf w) (omega (arith, length-reports w (r .size) (r .fits))) in
       sym (true-few cuts (reportsOf w) (rw a at (r .few)))

@@ -25,7 +25,7 @@ use Rattle.mirror.specs.Loops.{passing}
 use Rattle.mirror.specs.Radios.{onAt, unmarkedTest}
 use Rattle.mirror.proofs.LoopsLaws.{passing-cons}
 use Rattle.sound_grid.proofs.LoopLaws.{all-map, same-at, used-cons, used-none, Passes, pass-fails, pass-turn}
-use Rattle.sound_desk.specs.Views.{reportRow, reportsOf}
+use Rattle.waiting.specs.Waiting.{rowOf, reportsOf}
 use Rattle.sound_desk.specs.Sound.{markSlots, marked, unmarkedSound}
 
 -- ---- radios in a table
@@ -120,25 +120,26 @@ radios-below on u = u
 
 -- ---- reports that belong
 
-pub belong-new : (m : ℕ) (b : Bool) → m ≡ 1 → true ≡ either (eqb m 1) b
-belong-new m b e = sym (either-left b (eq-eqb m 1 e))
-
-pub belong-on : (m : ℕ) (b : Bool) → m ≢ 1 → b ≡ either (eqb m 1) b
+pub belong-new : (m : ℕ) (b : Bool) → m ≢ 0 → true ≡ either (not (eqb m 0)) b
 unfolding either
-belong-on m b e = rw (ne-eqb m 1 e)
+belong-new m b e = rw (ne-eqb m 0 e)
+
+pub belong-on : (m : ℕ) (b : Bool) → m ≡ 0 → b ≡ either (not (eqb m 0)) b
+unfolding either
+belong-on m b e = rw (eq-eqb m 0 e)
 
 -- marked new, or of a radio with a mark
 abbrev pub belongs : List Bool → Report → Bool
-belongs marks x = either (eqb (x .new) 1) (getD marks (x .radio) false)
+belongs marks x = either (not (eqb (x .new) 0)) (getD marks (x .radio) false)
 
 module _ (w : Waiting) (marks : List Bool) {i : ℕ} (r : Passes (belongs marks) (w .rows) (w .n) i) (more : i < w .n) where
   pub report-radio : UpTo maxRadio (reportsOf w) → getD (w .rows) i noReport .radio ≤ maxRadio
   unfolding reportsOf
-  report-radio u = row-below reportRow (w .rows) (w .n) i noReport (r .fits) more maxRadio u
+  report-radio u = row-below rowOf (w .rows) (w .n) i noReport (r .fits) more maxRadio u
 
-  module _ {k : ℕ} (e : k ≡ getD (w .rows) i noReport .radio) {b : Bool} (said : b ≡ either (eqb (getD (w .rows) i noReport .new) 1) (getD marks k false)) where
+  module _ {k : ℕ} (e : k ≡ getD (w .rows) i noReport .radio) {b : Bool} (said : b ≡ either (not (eqb (getD (w .rows) i noReport .new) 0)) (getD marks k false)) where
     told : b ≡ belongs marks (getD (w .rows) i noReport)
-    told = said ∙ ap (λ (q : ℕ). either (eqb (getD (w .rows) i noReport .new) 1) (getD marks q false)) e
+    told = said ∙ ap (λ (q : ℕ). either (not (eqb (getD (w .rows) i noReport .new) 0)) (getD marks q false)) e
 
     pub belong-fails : not b ≡ true → false ≡ all (belongs marks) (take (w .n) (w .rows))
     belong-fails f = pass-fails r more noReport told f
@@ -150,5 +151,5 @@ pub unmarked-all : (w : Waiting) (on : On) {marks : List Bool} {b : Bool} → Up
 unfolding unmarkedSound unmarkedTest reportsOf
 unmarked-all w on {marks} u e q =
     q
-    ∙ ap (λ (p : Report → Bool). all p (take (w .n) (w .rows))) (fun-ext (λ x. ap (either (eqb (x .new) 1)) (on-marked on u e (x .radio))))
-    ∙ sym (all-map (λ (y : Row StoreReport). either (y .val .new) (ltb 0 (onAt (y .key) (radiosOf on)))) reportRow (take (w .n) (w .rows)))
+    ∙ ap (λ (p : Report → Bool). all p (take (w .n) (w .rows))) (fun-ext (λ x. ap (either (not (eqb (x .new) 0))) (on-marked on u e (x .radio))))
+    ∙ sym (all-map (λ (y : Row StoreReport). either (y .val .new) (ltb 0 (onAt (y .key) (radiosOf on)))) rowOf (take (w .n) (w .rows)))

@@ -9,12 +9,11 @@ use Prim.Native.Nat.{ℕ, zero, suc, _-_, _*_, _≤_, _<_}
 use native.Mathlib.Omega.{arith}
 use lib.Dec.{eqb, leb, ltb}
 use lib.ListN.{length, take, length-map}
-use borrow.Author.Tests.{lt-ltb, le-ltb, le-leb, ltb-true, leb-true, eqb-true, eqb-false, eq-eqb, ne-eqb}
+use borrow.Author.Tests.{lt-ltb, le-ltb, le-leb, ltb-true, leb-true, eqb-true, eq-eqb, ne-eqb}
 use Rattle.terms.specs.Terms.{Place, maxRadio, maxOn}
 use Rattle.lists.specs.Rows.{Row, Rows}
 use Rattle.lists.specs.Sums.{sumBy}
 use Rattle.lists.specs.Tests.{one-if, both, either, all}
-use Rattle.lists.proofs.Cases.{by-cases}
 use Rattle.lists.proofs.TestsLaws.{both-left, both-right, both-intro, both-left-false, both-right-false, either-cases}
 use Rattle.rules.specs.Limits.{lastMetre, fullMemory}
 use Rattle.rules.specs.Store.{Report as StoreReport, Line as StoreLine}
@@ -26,7 +25,7 @@ use Rattle.desk.specs.declared.On.{On}
 use Rattle.desk.specs.Layout.{lineSlots, lineFields, slotted, reportOf, noReport, waitingOf, lineWith, lineOf, noLine, memoOf, onOf}
 use Rattle.desk.specs.Views.{linesIn, radioRow, radiosOf}
 use Rattle.desk.proofs.LinesLaws.{lines-laid, words-laid, length-lines-in}
-use Rattle.desk.proofs.UniqueLaws.{take-waiting, take-memo, take-on}
+use Rattle.desk.proofs.UniqueLaws.{take-waiting, take-memo}
 use Rattle.memo.specs.Memo.{lastOf, rowOf, linesOf}
 use Rattle.memo.proofs.MemoLaws.{lines-memo, count-memo}
 use Rattle.mirror.specs.Loops.{risesTo, keys}
@@ -37,7 +36,10 @@ use Rattle.mirror.proofs.LoopsLaws.{all-both}
 use Rattle.sound_grid.specs.Sound.{weighs, slotsTest, number}
 use Rattle.sound_grid.proofs.LoopLaws.{true-both, all-map, few-used, Weighed, weighed-end}
 use Rattle.sound_grid.proofs.SlotLaws.{slots-long, slots-heavy, slots-fit, slots-used, slots-slotted, slotted-slots}
-use Rattle.sound_desk.specs.Views.{placeOf, reportRow, reportsOf}
+use Rattle.waiting.specs.Waiting.{rowOf as reportRow, reportsOf}
+use Rattle.waiting.proofs.WaitingLaws.{report-row, reports-waitingOf}
+use Rattle.waiting.proofs.OnLaws.{radios-onOf}
+use Rattle.sound_desk.specs.Views.{placeOf}
 use Rattle.sound_desk.specs.Sound.{onSound, reportWeight, reportMarked, reportTest, waitingSound, lineWeight, lineMarked, missedTest, lineTest, memoSound}
 use Rattle.sound_desk.proofs.ClimbLaws.{climbs}
 
@@ -96,17 +98,13 @@ on-few : (l : Rows (Unit {0})) → onTest l ≡ true → length l ≤ maxOn
 unfolding onTest
 on-few l t = leb-true (length l) maxOn (both-left (leb (length l) maxOn) (risesTo maxRadio 0 (keys l)) t)
 
-pub radios-on : (l : Rows (Unit {0})) → radiosOf (onOf l) ≡ l
-unfolding radiosOf
-radios-on l = ap (map radioRow) (take-on l) ∙ map-map radioRow (λ x. x .key) l ∙ map-same (λ x. radioRow (x .key)) (λ x. refl) l
-
 on-slots : (l : Rows (Unit {0})) → length l ≤ maxOn → slotsTest number maxOn (onOf l .n) (onOf l .radios) ≡ true
 unfolding onOf
 on-slots l h = rw (← length-map l (λ x. x .key)) (slotted-slots number maxOn maxOn 0 (keys l) refl (rw (length-map l (λ x. x .key)) h))
 
 pub whole-on : (l : Rows (Unit {0})) → onTest l ≡ true → onSound (onOf l) ≡ true
 unfolding onSound
-whole-on l t = both-intro (on-slots l (on-few l t)) (ap onTest (radios-on l) ∙ t)
+whole-on l t = both-intro (on-slots l (on-few l t)) (ap onTest (radios-onOf l) ∙ t)
 
 -- ---- waiting reports
 
@@ -126,22 +124,12 @@ report-nothing x e =
     let m : x .new ≡ 0 = omega arith in
     λ i. record { radio = r i; east = a i; north = o i; new = m i }
 
-mark-back : (m : ℕ) → leb m 1 ≡ true → m ≡ one-if (eqb m 1)
-mark-back m t = by-cases (eqb m 1) (λ u. rw u (eqb-true m 1 u)) (λ u. rw u (omega (arith, leb-true m 1 t, eqb-false m 1 u)))
-
 report-back : (x : Report) → reportMarked x ≡ true → x ≡ reportOf (reportRow x)
-report-back x t = let m = mark-back (x .new) t in λ i. record { radio = x .radio; east = x .east; north = x .north; new = m i }
-
-mark-of : (b : Bool) → eqb (one-if b) 1 ≡ b
-mark-of true = refl
-mark-of false = refl
+report-back x t = sym (report-row x (leb-true (x .new) 1 t))
 
 mark-le : (b : Bool) → leb (one-if b) 1 ≡ true
 mark-le true = refl
 mark-le false = refl
-
-row-report : (x : Row StoreReport) → reportRow (reportOf x) ≡ x
-row-report x = let m = mark-of (x .val .new) in λ i. record { key = x .key; val = record { place = x .val .place; new = m i } }
 
 module _ (w : Waiting) where
   abbrev kept : List Report
@@ -191,10 +179,6 @@ waiting-few : (l : Rows StoreReport) → waitingTest l ≡ true → length l < f
 unfolding waitingTest
 waiting-few l t = ltb-true (length l) fullMemory (both-left (ltb (length l) fullMemory) (risesTo maxRadio 0 (keys l)) t)
 
-pub reports-waiting : (l : Rows StoreReport) → reportsOf (waitingOf l) ≡ l
-unfolding reportsOf
-reports-waiting l = ap (map reportRow) (take-waiting l) ∙ map-map reportRow reportOf l ∙ map-same (λ x. reportRow (reportOf x)) row-report l
-
 waiting-slots : (l : Rows StoreReport) → length l < fullMemory → slotsTest reportWeight (fullMemory - 1) (waitingOf l .n) (waitingOf l .rows) ≡ true
 unfolding waitingOf
 waiting-slots l h = rw (← length-map l reportOf) (slotted-slots reportWeight (fullMemory - 1) fullMemory noReport (map reportOf l) refl (rw (length-map l reportOf) (omega arith)))
@@ -208,7 +192,7 @@ pub whole-waiting : (l : Rows StoreReport) → waitingTest l ≡ true → places
 unfolding waitingSound
 whole-waiting l t u =
     both-intro (waiting-slots l (waiting-few l t))
-    (both-intro (ap waitingTest (reports-waiting l) ∙ t) (both-intro (ap (all reportMarked) (take-waiting l) ∙ reports-marked l) (ap placesTest (reports-waiting l) ∙ u)))
+    (both-intro (ap waitingTest (reports-waitingOf l) ∙ t) (both-intro (ap (all reportMarked) (take-waiting l) ∙ reports-marked l) (ap placesTest (reports-waitingOf l) ∙ u)))
 
 -- ---- the memo
 

@@ -28,7 +28,8 @@ use Rattle.mirror.specs.Radios.{onTest, unmarkedTest, memoTest, lastTest, lasts
 use Rattle.mirror.specs.Round.{tallyTest}
 use Rattle.mirror.specs.Waiting.{waitingTest, placesTest, fewTest}
 use Rattle.sound_grid.specs.Sound.{slotsTest, number, gridSound}
-use Rattle.sound_desk.specs.Views.{placeOf, reportsOf, cellOf}
+use Rattle.waiting.specs.Waiting.{reportsOf}
+use Rattle.sound_desk.specs.Views.{placeOf, cellOf}
 
 -- ---- who is on
 

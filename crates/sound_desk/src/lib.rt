@@ -1,4 +1,5 @@
 // The test of soundness as far as it looks at the desk alone. The desk may be in any condition: a count is tested before a slot is looked at.
+ghost use mathlib.Core.Bool.{not};
 ghost use mathlib.Core.Path.{_≡_};
 ghost use mathlib.Core.List.{map};
 ghost use Prim.Native.Nat.{_+_, _*_, _<_, _≤_};
@@ -11,7 +12,7 @@ ghost use Rattle.rules.specs.Limits.{maxCuts, fullMemory};
 ghost use Rattle.desk.specs.Layout.{lineSlots, lineFields};
 ghost use Rattle.desk.specs.Views.{radioRow, radiosOf};
 ghost use Rattle.sound_grid.specs.Sound.{mostField};
-ghost use Rattle.sound_desk.specs.Views.{reportsOf};
+ghost use Rattle.waiting.specs.Waiting.{reportsOf};
 ghost use Rattle.sound_desk.specs.Sound.{onSound, reportWeight, reportTest, waitingSound, lineTest, memoSound, fewSound, markSlots, marked, unmarkedSound, radiosSound, deskSound};
 use boxes::BOXES;
 use desk::CutList;
@@ -197,9 +198,9 @@ fn mark_radios(slots: &[u16], n: usize, marks: &mut [bool; RADIOS])
 
 // Whether a report is marked new, or belongs to a radio on.
 fn belongs(x: Report, on: bool) -> bool
-    ensures { λ r. ⌜ r ≡ either (eqb (x .new) 1) on ⌝ }
+    ensures { λ r. ⌜ r ≡ either (not (eqb (x .new) 0)) on ⌝ }
 {
-    if x.new == MARKED {
+    if x.new != UNMARKED {
         return true;
     }
     on

@@ -1,5 +1,6 @@
 -- Loops over radios on, waiting reports and memo lines: each row is added or written at its radio.
 use mathlib.Core.Path.{_≡_, refl, sym, ap, _∙_, subst}
+use mathlib.Core.Bool.{not}
 use mathlib.Core.List.{List, _∷_}
 use Prim.Native.Nat.{ℕ, _+_, _-_, _*_, _≤_, _<_, min}
 use native.Mathlib.Omega.{arith}
@@ -19,7 +20,7 @@ use Rattle.desk.specs.Layout.{noReport, lineSlots, lineFields, noLine}
 use Rattle.desk.specs.Views.{linesIn, radioRow, radiosOf}
 use Rattle.desk.proofs.LinesLaws.{length-lines-in}
 use Rattle.memo.specs.Memo.{lastOf, rowOf, linesOf}
-use Rattle.sound_desk.specs.Views.{reportRow, reportsOf}
+use Rattle.waiting.specs.Waiting.{rowOf as reportRow, reportsOf}
 use Rattle.sound_radios.specs.Tables.{fieldEnd, half, kindOf, codeOf, Spare, added, written, each, markNew, missedDue, lastKind, lastCode}
 use Rattle.sound_radios.proofs.TableLaws.{row-next, row-none, Adding, adding-end, adding-key, adding-room, adding-turn, spare-set}
 
@@ -62,8 +63,8 @@ module _ (w : Waiting) {t₀ : List ℕ} {i : ℕ} {t : List ℕ} (a : Adding 1 
     pub new-room : {k v : ℕ} → k ≡ getD (w .rows) i noReport .radio → v ≤ 1 → getD t k 0 + v < fieldEnd
     new-room {k} {v} e h = rw e (adding-room a new-next v h)
 
-    pub new-turn : {k v : ℕ} → k ≡ getD (w .rows) i noReport .radio → v ≡ one-if (eqb (getD (w .rows) i noReport .new) 1) → Adding 1 markNew t₀ (reportsOf w) (i + 1) (set t k (getD t k 0 + v))
-    new-turn e q = adding-turn a new-next e q (one-if-le (eqb (getD (w .rows) i noReport .new) 1))
+    pub new-turn : {k v : ℕ} → k ≡ getD (w .rows) i noReport .radio → v ≡ one-if (not (eqb (getD (w .rows) i noReport .new) 0)) → Adding 1 markNew t₀ (reportsOf w) (i + 1) (set t k (getD t k 0 + v))
+    new-turn e q = adding-turn a new-next e q (one-if-le (not (eqb (getD (w .rows) i noReport .new) 0)))
 
 -- ---- memo lines
 

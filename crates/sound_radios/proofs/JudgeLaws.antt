@@ -68,13 +68,7 @@ module _ (x : Line) where
   pub code-place : {c : ℕ} → x .placed ≢ 0 → c ≡ fieldEnd * x .east + x .north → c ≡ codeOf (lastOf x)
   code-place t q = rw (ne-eqb (x .placed) 0 t) q
 
--- ---- marks, differences
-
-pub mark-new : (x : ℕ) → x ≡ 1 → 1 ≡ one-if (eqb x 1)
-mark-new x t = rw t
-
-pub mark-old : (x : ℕ) → x ≢ 1 → 0 ≡ one-if (eqb x 1)
-mark-old x t = rw (ne-eqb x 1 t)
+-- ---- differences
 
 pub apart-same : (a b : ℕ) → a ≡ b → 0 ≡ one-if (not (eqb a b))
 apart-same a b t = rw (eq-eqb a b t)

@@ -23,7 +23,8 @@ use Rattle.mirror.specs.Radios.{lastTest, lastsTest}
 use Rattle.mirror.proofs.RadiosLaws.{on-true, memo-true, last-true}
 use Rattle.mirror.proofs.WaitingLaws.{waiting-true}
 use Rattle.sound_pages.specs.PagesSound.{PagesSound}
-use Rattle.sound_desk.specs.Views.{cellOf, reportsOf}
+use Rattle.waiting.specs.Waiting.{reportsOf}
+use Rattle.sound_desk.specs.Views.{cellOf}
 use Rattle.sound_desk.specs.Sound.{missedTest, deskSound, Shaped}
 use Rattle.sound_desk.proofs.DeskLaws.{desk-shown, desk-tested}
 use Rattle.sound_radios.specs.Entries.{rowsRead}

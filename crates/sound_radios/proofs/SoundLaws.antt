@@ -19,7 +19,7 @@ use Rattle.desk.specs.Views.{radiosOf}
 use Rattle.memo.specs.Memo.{linesOf}
 use Rattle.mirror.specs.Radios.{onAt, presentTest, linesTest}
 use Rattle.mirror.specs.Round.{staleCount, staleCounts, boundTest}
-use Rattle.sound_desk.specs.Views.{reportsOf}
+use Rattle.waiting.specs.Waiting.{reportsOf}
 use Rattle.sound_radios.specs.Entries.{rowsRead, entriesTest}
 use Rattle.sound_radios.specs.Tables.{half, Spare, Fits, added, written, lastKind, lastCode, judged, weigh, markNew, missedDue, each, staleSum, sameTables}
 use Rattle.sound_radios.proofs.KnownLaws.{Known}

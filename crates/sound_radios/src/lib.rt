@@ -18,7 +18,7 @@ ghost use Rattle.desk.specs.Views.{radiosOf};
 ghost use Rattle.memo.specs.Memo.{lastOf, linesOf};
 ghost use Rattle.mirror.specs.Round.{boundTest};
 ghost use Rattle.sound_pages.specs.PagesSound.{PagesSound};
-ghost use Rattle.sound_desk.specs.Views.{reportsOf};
+ghost use Rattle.waiting.specs.Waiting.{reportsOf};
 ghost use Rattle.sound_desk.specs.Sound.{deskSound};
 ghost use Rattle.sound_radios.specs.Entries.{entriesFrom, rowsRead, entriesTest};
 ghost use Rattle.sound_radios.specs.Tables.{tableSize, fieldEnd, half, Spare, added, written, Fits, sameTables, kindOf, codeOf, lastKind, lastCode, staleCode, judged, weigh, markNew, missedDue, each, staleSum};
@@ -49,7 +49,7 @@ const NO_PLACE: u8 = 1;
 
 const PLACE: u8 = 2;
 
-const MARKED: u16 = 1;
+const UNMARKED: u16 = 0;
 
 // ---- numbers
 
@@ -189,12 +189,6 @@ fn tally_cells<'a>(
     counts
 }
 
-fn mark(new: u16) -> u16
-    ensures { λ r. ⌜ (r ≡ one-if (eqb new 1)) × (r ≤ 1) ⌝ }
-{
-    if new == MARKED { 1 } else { 0 }
-}
-
 // Each waiting report marked new adds 1 to its radio's low half.
 fn tally_new<'a>(w: Waiting, found: &'a mut [u16; RADIOS])
     requires { ⌜ (w .n ≤ fullMemory) × Fits 1 (now found) (reportsOf w) ⌝ }
@@ -206,7 +200,7 @@ fn tally_new<'a>(w: Waiting, found: &'a mut [u16; RADIOS])
         let x = w.rows[i];
         let k = radio_index(x.radio);
         let before = found[k];
-        found[k] = before + mark(x.new);
+        found[k] = before + apart(x.new, UNMARKED);
         i += 1;
     }
 }

@@ -1,14 +1,15 @@
 -- The desk's waiting reports as rows: what stores and loops in their slots do to them, and what a search of them answers.
 use mathlib.Core.Bool.{Bool, true, false, not}
-use mathlib.Core.List.{List, [], _∷_, map}
+use mathlib.Core.List.{List, [], _∷_, _++_, map}
 use mathlib.Core.Logic.{_≢_}
 use mathlib.Core.Option.{Option, none, some}
 use mathlib.Core.Path.{_≡_, refl, sym, ap, _∙_}
 use Prim.Native.Nat.{ℕ, zero, suc, _+_, _-_, _/_, _≤_, _<_}
+use native.Mathlib.Numerals.{add-one}
 use native.Mathlib.Omega.{arith}
 use lib.Dec.{eqb}
 use lib.ListN.{length, getD, set, take, length-map, length-take}
-use lib.Seq.{getD-take}
+use lib.Seq.{take-suc, getD-take}
 use Rattle.lists.specs.Parts.{insertAt, removeAt}
 use Rattle.lists.specs.Rows.{Row, Rows, Rising, find, rank, alter, insert}
 use Rattle.lists.specs.Tests.{one-if}
@@ -41,7 +42,7 @@ mark-of zero h = refl
 mark-of (suc zero) h = refl
 mark-of (suc (suc n)) h = absurd (omega arith)
 
-report-row : (w : Report) → w .new ≤ 1 → reportOf (rowOf w) ≡ w
+pub report-row : (w : Report) → w .new ≤ 1 → reportOf (rowOf w) ≡ w
 report-row w h = let e = mark-of (w .new) h in λ i. record { radio = w .radio; east = w .east; north = w .north; new = e i }
 
 not-zero : (b : Bool) → not (eqb (one-if b) 0) ≡ b
@@ -78,6 +79,10 @@ module _ (w : Waiting) (size : length (w .rows) ≡ fullMemory) (fits : w .n ≤
   pub reports-get : (i : ℕ) → i < w .n → getD (reportsOf w) i noRow ≡ rowOf (getD (w .rows) i noReport)
   unfolding reportsOf
   reports-get i h = getD-mapped rowOf (take (w .n) (w .rows)) i noReport noRow (rw length-take (omega arith)) ∙ ap rowOf (getD-take (w .n) (w .rows) i noReport h)
+
+  pub reports-next : (i : ℕ) → i < w .n → take (i + 1) (reportsOf w) ≡ take i (reportsOf w) ++ (rowOf (getD (w .rows) i noReport) ∷ [])
+  reports-next i h =
+      rw (add-one i) (take-suc (reportsOf w) i noRow (rw length-reports h) ∙ ap (λ (x : Row StoreReport). take i (reportsOf w) ++ (x ∷ [])) (reports-get i h))
 
 abbrev pub InSlots : Rows StoreReport → ℕ → List Report → Type 0
 InSlots = Slots fullMemory noReport reportOf

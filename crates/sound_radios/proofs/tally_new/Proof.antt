@@ -4,7 +4,7 @@ use Prim.Native.Nat.{_-_, _≤_}
 use lib.ListN.{length}
 use Rattle.lists.proofs.ShiftLaws.{length-mapped}
 use Rattle.rules.specs.Limits.{fullMemory}
-use Rattle.sound_desk.specs.Views.{reportsOf}
+use Rattle.waiting.specs.Waiting.{reportsOf}
 use Rattle.sound_radios.specs.Tables.{markNew}
 use Rattle.sound_radios.proofs.TableLaws.{Adding, adding-start}
 use Rattle.sound_radios.proofs.DueLaws.{new-radio, new-room, new-turn, new-end}
@@ -36,8 +36,8 @@ mul-before c = search needs
 element-copy-out-before : tie.Need-element-copy-out-before Inv-loop μ-loop
 element-copy-out-before c = search needs
 
-mark-requires : tie.Need-mark-requires Inv-loop μ-loop
-mark-requires c κs = search needs
+apart-requires : tie.Need-apart-requires Inv-loop μ-loop
+apart-requires c κs = search needs
 
 add-found : tie.Need-add-found Inv-loop μ-loop
 add-found c = search new-room
@@ -72,7 +72,7 @@ tally-new-spec =
     radio-index-requires
     mul-before
     element-copy-out-before
-    mark-requires
+    apart-requires
     add-found
     mul-found
     element-write-found
