@@ -167,6 +167,9 @@ module _ {l : Rows (Option Place)} {s t : Entries} {m marks : List Bool} (b v : 
         let front : Ready l s (tab (i + 1) f) = ready-front (tab (i + 1) f) (tab k (λ j. f (i + 1 + j))) (subst (λ (x : Rows Place). Ready l s x) (tab-front (i + 1) k f) whole) in
         subst (λ (x : Row Place). Ready l s (tab i f ++ (x ∷ []))) (sym read) (subst (λ (x : Rows Place). Ready l s x) (tab-suc i f) front)
 
+    page-then : {r : Entries} {k : List Bool} → Sweeps l t marks (rowOf e ∷ []) r k → Sweeps l s m (tab (i + 1) (entryAt v)) r k
+    page-then g = rw (tab-suc i (entryAt v), ← read) (sweeps-then (tab i (entryAt v)) (rowOf e ∷ []) next done g)
+
 pub page-turn : (n : ℕ) (radios placed easts norths : List ℕ) {s : Entries} {m marks : List Bool} (b v : List ℕ) (p : ℕ) {c i k : ℕ} {all : List Entry}
     → length all ≡ maxOn → Ready (lastsIn n radios placed easts norths) s (entries (pageAt b p)) → v ≡ pageAt b p → c ≡ count v
     → Sweeps (lastsIn n radios placed easts norths) s m (tab i (entryAt v)) (record { n = k; all = all }) marks → i < c
