@@ -55,12 +55,6 @@ unfolding lastKey
 rising-climb low [] r u = climb-none low
 rising-climb low (e ∷ es) r u = climb-step low e es (r .0) (u .0) ∙ rising-climb (e .key) es (r .1) (u .1)
 
-pub rising-climbs : (low : ℕ) (es : Rows Place) → Rising low es → UpTo maxRadio es → climbs (climb low es) ≡ true
-rising-climbs low es r u = ap climbs (rising-climb low es r u)
-
-pub climb-to : (low : ℕ) (es : Rows Place) → climbs (climb low es) ≡ true → climb low es ≡ To (lastKey low es)
-climb-to low es h = let r = climb-rising low es h in rising-climb low es (r .0) (r .1)
-
 pub climb-append : (low : ℕ) (xs ys : Rows Place) {last : ℕ} → climb low xs ≡ To last → climb low (xs ++ ys) ≡ climb last ys
 unfolding climb
 climb-append low [] ys = λ e. cc
