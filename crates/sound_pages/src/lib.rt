@@ -151,9 +151,9 @@ fn no_marks() -> [bool; 128]
     [false; 128]
 }
 
-// One of the pages, and not met before.
-fn is_unmarked(marks: [bool; 128], p: usize) -> bool
-    ensures { λ r. ⌜ r ≡ unmarked marks p ⌝ }
+// One of the pages, and not met before. The marks are lent, for each page would get a copy of them.
+fn is_unmarked<'a>(marks: &'a [bool; 128], p: usize) -> bool
+    ensures { λ r. ⌜ r ≡ unmarked (now (marks .entry)) p ⌝ }
 {
     if PAGES <= p {
         return false;
@@ -193,7 +193,7 @@ fn walk_chain(pages: &[u8], s: Slot, marks: [bool; 128]) -> Walk
     let mut low: u16 = 0;
     let mut fuel: usize = PAGES;
     while 0 < fuel {
-        if !is_unmarked(m, p) {
+        if !is_unmarked(&m, p) {
             return Walk {
                 ok: false,
                 marks: m,
@@ -233,7 +233,7 @@ fn walk_free(pages: &[u8], marks: [bool; 128], front: u16) -> Walk
         if p == NO_PAGE as usize {
             return Walk { ok: true, marks: m };
         }
-        if !is_unmarked(m, p) {
+        if !is_unmarked(&m, p) {
             return Walk {
                 ok: false,
                 marks: m,

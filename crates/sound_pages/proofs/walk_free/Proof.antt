@@ -27,8 +27,9 @@ is-unmarked-requires c κs = search needs
 
 returns-2 : tie.Need-returns-2 Inv-loop μ-loop
 returns-2 c =
-    let l = c .before .before .before in
-    free-met _ _ _ _ (l .loop-test .taken) (l .before .loop .inv) (c .before .before .if1 .left) (c .before .is-unmarked .ensures) (c .if2 .taken)
+    let k = c .before .before .before in
+    let l = k .before in
+    free-met _ _ _ _ (l .loop-test .taken) (l .before .loop .inv) (k .if1 .left) (c .before .is-unmarked .ensures) (c .if2 .taken)
 
 page-at-requires : tie.Need-page-at-requires Inv-loop μ-loop
 page-at-requires c κs = (search unmarked-below, search unmarked-room)
@@ -39,8 +40,9 @@ is-page-requires c κs = search needs
 returns-3 : tie.Need-returns-3 Inv-loop μ-loop
 returns-3 c =
     let k = c .before .before .before in
-    let l = k .before .before .before in
-    free-wrong _ _ _ _ (l .loop-test .taken) (l .before .loop .inv) (k .before .before .if1 .left) (k .before .is-unmarked .ensures) (k .if2 .left) (c .before .before .page-at .ensures .0) (c .before .is-page .ensures) (c .if3 .taken)
+    let e = k .before .before .before in
+    let l = e .before in
+    free-wrong _ _ _ _ (l .loop-test .taken) (l .before .loop .inv) (e .if1 .left) (k .before .is-unmarked .ensures) (k .if2 .left) (c .before .before .page-at .ensures .0) (c .before .is-page .ensures) (c .if3 .taken)
 
 array-write-m : tie.Need-array-write-m Inv-loop μ-loop
 array-write-m c = search (unmarked-below, needs)
