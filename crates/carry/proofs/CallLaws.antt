@@ -18,8 +18,9 @@ use Rattle.rules.specs.Told.{toldList}
 use Rattle.rules.specs.WellFormed.{WellFormed, chains}
 use Rattle.rules.proofs.StepLaws.{step-well}
 use Rattle.desk.specs.declared.Desk.{Desk}
+use Rattle.desk.specs.declared.Parts.{Parts}
 use Rattle.desk.specs.Layout.{onOf}
-use Rattle.desk.specs.Views.{radiosOf}
+use Rattle.desk.specs.Views.{radiosOf, partsOf, deskWith}
 use Rattle.desk.specs.Sound.{Sound}
 use Rattle.desk.specs.Call.{Before, After, turnedDown, laidOut, Carried as CarriedOut, Answers}
 use Rattle.desk.proofs.PagesLaws.{PagesOnce, pages-laid}
@@ -35,6 +36,7 @@ use Rattle.range.specs.Range.{rectOf, foundIn}
 use Rattle.range.proofs.StoreLaws.{range-gives}
 use Rattle.effects.specs.Effects.{Stands, AskedOn, AskedReport, AskedOff, Carries}
 use Rattle.effects.proofs.EffectLaws.{on-held}
+use Rattle.carry.specs.declared.Told.{Told}
 use Rattle.carry.specs.declared.Carried.{Carried}
 use Rattle.carry.specs.Carry.{Lists}
 
@@ -48,7 +50,10 @@ laid-out : {desk : Desk} {b : List ℕ} (o : Outcome) → WellFormed (o .store) 
 unfolding laidOut
 laid-out o w x = ap₂ (λ (d : Desk) (p : List ℕ). record { number = o .number; count = o .count; desk = d; pages = p; buffer = o .buffer }) (x .held) (pages-laid (o .store) (well-once (o .store) w) _ (x .laid))
 
-module _ {desk : Desk} {b : List ℕ} (x : Sound desk b) where
+module _ (parts : Parts) (ws : List ℕ) {b : List ℕ} (x : Sound (deskWith parts ws) b) where
+  abbrev desk : Desk
+  desk = deskWith parts ws
+
   abbrev s : Store
   s = x .store
 
@@ -108,74 +113,88 @@ module _ {desk : Desk} {b : List ℕ} (x : Sound desk b) where
     unfolding carriedOut
     off-answers r e c = taken (signOff r) e (c .pick) (c .permitted) _ refl (c .stands)
 
-    pub range-answers : (rect : Rect) {r : Carried} {after : List ℕ} → o ≡ Range (rect .easts .low) (rect .easts .high) (rect .norths .low) (rect .norths .high) → Lists s rect desk buffer r after
-        → CarriedOut before x (record { number = r .answer .number; count = r .answer .count; desk = r .desk; pages = b; buffer = after })
+    range-answers : (rect : Rect) {r : Told} {after : List ℕ} → o ≡ Range (rect .easts .low) (rect .easts .high) (rect .norths .low) (rect .norths .high) → Lists s rect parts buffer r after
+        → CarriedOut before x (record { number = r .answer .number; count = r .answer .count; desk = deskWith (r .parts) ws; pages = b; buffer = after })
     unfolding carriedOut allowedIn
     range-answers rect {r = r} {after = after} e l =
-        taken (range rect) e 0 refl (record { number = r .answer .number; count = r .answer .count; buffer = after; store = s }) (sym (l .told)) (record { held = l .kept ∙ x .held; laid = x .laid })
+        taken (range rect) e 0 refl (record { number = r .answer .number; count = r .answer .count; buffer = after; store = s }) (sym (l .told)) (record { held = ap (λ (p : Parts). deskWith p ws) (l .kept) ∙ x .held; laid = x .laid })
 
     -- ---- the same, in the words of the calls
 
-    abbrev leaves : Carried → List ℕ → List ℕ → After
-    leaves r b′ after = record { number = r .answer .number; count = r .answer .count; desk = r .desk; pages = b′; buffer = after }
+    abbrev leaves : Told → List ℕ → List ℕ → List ℕ → After
+    leaves r ws′ b′ after = record { number = r .answer .number; count = r .answer .count; desk = deskWith (r .parts) ws′; pages = b′; buffer = after }
 
-    by-result : {r c : Carried} {b′ : List ℕ} → r ≡ c → CarriedOut before x (leaves c b′ buffer) → CarriedOut before x (leaves r b′ buffer)
-    by-result {b′ = b′} e = subst (λ (c : Carried). CarriedOut before x (leaves c b′ buffer)) (sym e)
+    by-result : {r c : Told} {ws′ b′ : List ℕ} → r ≡ c → CarriedOut before x (leaves c ws′ b′ buffer) → CarriedOut before x (leaves r ws′ b′ buffer)
+    by-result {ws′ = ws′} {b′ = b′} e = subst (λ (c : Told). CarriedOut before x (leaves c ws′ b′ buffer)) (sym e)
 
-    pub refused-returns : (n : ℕ) {r : Carried} → o ≡ Refused n → r ≡ record { desk = desk; answer = record { number = n; count = 0 } } → CarriedOut before x (leaves r b buffer)
+    pub refused-returns : (n : ℕ) {r : Told} → o ≡ Refused n → r ≡ record { parts = parts; answer = record { number = n; count = 0 } } → CarriedOut before x (leaves r ws b buffer)
     refused-returns n e g = by-result g (refused-answers n e)
 
-    pub on-returns : (r : ℕ) (p : Place) {d : Desk} {b′ : List ℕ} {c : Carried} → o ≡ SignOn r (p .east) (p .north) → ((y : AskedOn desk r p b) → Carries (y .sound .store) (signOn r p) d b′)
-        → c ≡ record { desk = d; answer = record { number = 0; count = 0 } } → CarriedOut before x (leaves c b′ buffer)
+    pub on-returns : (r : ℕ) (p : Place) {d : Parts} {ws′ b′ : List ℕ} {c : Told} → o ≡ SignOn r (p .east) (p .north) → ((y : AskedOn desk r p b) → Carries (y .sound .store) (signOn r p) (deskWith d ws′) b′)
+        → c ≡ record { parts = d; answer = record { number = 0; count = 0 } } → CarriedOut before x (leaves c ws′ b′ buffer)
     unfolding on-asked
     on-returns r p e l g = by-result g (on-answers r p e (l (on-asked r p e)))
 
-    pub report-returns : (r : ℕ) (p : Place) {d : Desk} {b′ : List ℕ} {c : Carried} → o ≡ Report r (p .east) (p .north) → ((y : AskedReport desk r p b) → Carries (y .sound .store) (report r p) d b′)
-        → c ≡ record { desk = d; answer = record { number = 0; count = 0 } } → CarriedOut before x (leaves c b′ buffer)
+    pub report-returns : (r : ℕ) (p : Place) {d : Parts} {ws′ b′ : List ℕ} {c : Told} → o ≡ Report r (p .east) (p .north) → ((y : AskedReport desk r p b) → Carries (y .sound .store) (report r p) (deskWith d ws′) b′)
+        → c ≡ record { parts = d; answer = record { number = 0; count = 0 } } → CarriedOut before x (leaves c ws′ b′ buffer)
     unfolding report-asked
     report-returns r p e l g = by-result g (report-answers r p e (l (report-asked r p e)))
 
-    pub off-returns : (r : ℕ) {d : Desk} {b′ : List ℕ} {c : Carried} → o ≡ SignOff r → ((y : AskedOff desk r b) → Carries (y .sound .store) (signOff r) d b′)
-        → c ≡ record { desk = d; answer = record { number = 0; count = 0 } } → CarriedOut before x (leaves c b′ buffer)
+    pub off-returns : (r : ℕ) {d : Parts} {ws′ b′ : List ℕ} {c : Told} → o ≡ SignOff r → ((y : AskedOff desk r b) → Carries (y .sound .store) (signOff r) (deskWith d ws′) b′)
+        → c ≡ record { parts = d; answer = record { number = 0; count = 0 } } → CarriedOut before x (leaves c ws′ b′ buffer)
     unfolding off-asked
     off-returns r e l g = by-result g (off-answers r e (l (off-asked r e)))
 
-    pub range-returns : (west east south north : ℕ) {c : Carried} {after : List ℕ} → o ≡ Range west east south north
-        → ((y : Sound desk b) → Lists (y .store) (record { easts = record { low = west; high = east }; norths = record { low = south; high = north } }) desk buffer c after) → CarriedOut before x (leaves c b after)
+    pub range-returns : (west east south north : ℕ) {c : Told} {after : List ℕ} → o ≡ Range west east south north
+        → ((y : Sound desk b) → Lists (y .store) (record { easts = record { low = west; high = east }; norths = record { low = south; high = north } }) parts buffer c after) → CarriedOut before x (leaves c ws b after)
     range-returns w e u n g l = range-answers _ g (l x)
 
 -- ---- numbers 1 and 2
 
-module _ (x : Before) where
-  abbrev keeps : Carried → After
-  keeps r = record { number = r .answer .number; count = r .answer .count; desk = r .desk; pages = x .pages; buffer = x .buffer }
+module _ (parts : Parts) (ws pages bytes buffer : List ℕ) where
+  abbrev x : Before
+  x = record { desk = deskWith parts ws; pages = pages; bytes = bytes; buffer = buffer }
 
-  turned : (n : ℕ) {r : Carried} → r ≡ record { desk = x .desk; answer = record { number = n; count = 0 } } → keeps r ≡ turnedDown n x
+  abbrev keeps : Told → After
+  keeps r = record { number = r .answer .number; count = r .answer .count; desk = deskWith (r .parts) ws; pages = pages; buffer = buffer }
+
+  turned : (n : ℕ) {r : Told} → r ≡ record { parts = parts; answer = record { number = n; count = 0 } } → keeps r ≡ turnedDown n x
   unfolding turnedDown
   turned n e = ap keeps e
 
-  pub size-answers : {r : Carried} → (length (x .pages) ≡ bufferBytes → ⊥) → r ≡ record { desk = x .desk; answer = record { number = 1; count = 0 } } → Answers x (keeps r)
+  pub size-answers : {r : Told} → (length pages ≡ bufferBytes → ⊥) → r ≡ record { parts = parts; answer = record { number = 1; count = 0 } } → Answers x (keeps r)
   size-answers n e = record { size = λ _. turned 1 e; unsound = λ l _. absurd (n l); sound = λ s. absurd (n (s .laid .size)) }
 
-  pub unsound-answers : {t : Bool} {r : Carried} → length (x .pages) ≡ bufferBytes → (Sound (x .desk) (x .pages) → t ≡ true) → not t ≡ true
-      → r ≡ record { desk = x .desk; answer = record { number = 2; count = 0 } } → Answers x (keeps r)
+  pub unsound-answers : {t : Bool} {r : Told} → length pages ≡ bufferBytes → (Sound (x .desk) pages → t ≡ true) → not t ≡ true
+      → r ≡ record { parts = parts; answer = record { number = 2; count = 0 } } → Answers x (keeps r)
   unsound-answers {t = t} l f n e = record { size = λ h. absurd (h l); unsound = λ _ _. turned 2 e; sound = λ s. false-true (sym (not-true t n) ∙ f s) }
 
-  pub sound-answers : {y : After} → Sound (x .desk) (x .pages) → ((s : Sound (x .desk) (x .pages)) → CarriedOut x s y) → Answers x y
+  pub sound-answers : {y : After} → Sound (x .desk) pages → ((s : Sound (x .desk) pages) → CarriedOut x s y) → Answers x y
   sound-answers s c = record { size = λ n. absurd (n (s .laid .size)); unsound = λ _ n. absurd (n s); sound = c }
 
 -- ---- the list
 
-pub lists-returns : {desk : Desk} {b : List ℕ} (x : Sound desk b) (area : Rectangle) (buffer : List ℕ) {told : Listed} {after : List ℕ} {r : Carried}
-    → record { number = told .number; count = told .count; buffer = after } ≡ toldList (foundIn b (rectOf area) (desk .grid .cells) (desk .waiting) (desk .memo) (desk .on)) buffer
-    → r ≡ record { desk = desk; answer = record { number = told .number; count = told .count } }
-    → Lists (x .store) (rectOf area) desk buffer r after
-lists-returns {desk = desk} {b = b} x area buffer {told = told} {after = after} e g = record {
-  kept = ap (λ (c : Carried). c .desk) g;
+pub lists-returns : (parts : Parts) (ws : List ℕ) {b : List ℕ} (x : Sound (deskWith parts ws) b) (area : Rectangle) (buffer : List ℕ) {told : Listed} {after : List ℕ} {r : Told}
+    → record { number = told .number; count = told .count; buffer = after } ≡ toldList (foundIn b (rectOf area) (parts .grid .cells) (parts .waiting) (record { n = parts .lines; words = ws }) (parts .on)) buffer
+    → r ≡ record { parts = parts; answer = record { number = told .number; count = told .count } }
+    → Lists (x .store) (rectOf area) parts buffer r after
+lists-returns parts ws {b = b} x area buffer {told = told} {after = after} e g = record {
+  kept = ap (λ (c : Told). c .parts) g;
   told =
-      ap (λ (c : Carried). record { number = c .answer .number; count = c .answer .count; buffer = after; store = x .store }) g
-      ∙ range-gives (x .store) b desk (x .well) (x .laid) (x .held) (rectOf area) buffer e;
+      ap (λ (c : Told). record { number = c .answer .number; count = c .answer .count; buffer = after; store = x .store }) g
+      ∙ range-gives (x .store) b (deskWith parts ws) (x .well) (x .laid) (x .held) (rectOf area) buffer e;
 }
+
+-- ---- the desk whole
+
+-- from a call on a desk's parts to one on the desk
+pub whole-answers : {parts : Parts} {told : Told} {desk d : Desk} {ws pages bytes buffer pages′ buffer′ : List ℕ} → parts ≡ partsOf desk
+    → Answers (record { desk = deskWith parts (desk .memo .words); pages = pages; bytes = bytes; buffer = buffer }) (record { number = told .answer .number; count = told .answer .count; desk = deskWith (told .parts) ws; pages = pages′; buffer = buffer′ })
+    → d ≡ deskWith (told .parts) ws
+    → Answers (record { desk = desk; pages = pages; bytes = bytes; buffer = buffer }) (record { number = told .answer .number; count = told .answer .count; desk = d; pages = pages′; buffer = buffer′ })
+whole-answers {told = told} {desk = desk} {ws = ws} {pages = pages} {bytes = bytes} {buffer = buffer} {pages′ = pages′} {buffer′ = buffer′} e a g =
+    subst (λ (z : Desk). Answers (record { desk = desk; pages = pages; bytes = bytes; buffer = buffer }) (record { number = told .answer .number; count = told .answer .count; desk = z; pages = pages′; buffer = buffer′ })) (sym g)
+    (subst (λ (p : Parts). Answers (record { desk = deskWith p (desk .memo .words); pages = pages; bytes = bytes; buffer = buffer }) (record { number = told .answer .number; count = told .answer .count; desk = deskWith (told .parts) ws; pages = pages′; buffer = buffer′ })) e a)
 
 -- the test passed
 pub sound-by : {desk : Desk} {b : List ℕ} (t : Bool) → (t ≡ true → Sound desk b) → not t ≡ false → Sound desk b

@@ -5,10 +5,10 @@ use Prim.Native.Nat.{ℕ}
 use Rattle.rules.specs.Grid.{Rect}
 use Rattle.rules.specs.Store.{Store}
 use Rattle.rules.specs.Carry.{found, answered}
-use Rattle.desk.specs.declared.Desk.{Desk}
-use Rattle.carry.specs.declared.Carried.{Carried}
+use Rattle.desk.specs.declared.Parts.{Parts}
+use Rattle.carry.specs.declared.Told.{Told}
 
 -- the list of a rectangle is answered; the desk stays
-pub record Lists (s : Store) (rect : Rect) (desk : Desk) (before : List ℕ) (r : Carried) (after : List ℕ) : Type 0 where
-  pub kept : r .desk ≡ desk
+pub record Lists (s : Store) (rect : Rect) (parts : Parts) (before : List ℕ) (r : Told) (after : List ℕ) : Type 0 where
+  pub kept : r .parts ≡ parts
   pub told : record { number = r .answer .number; count = r .answer .count; buffer = after; store = s } ≡ answered (found s rect) s before

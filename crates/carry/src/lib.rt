@@ -1,10 +1,15 @@
-// A record carried out on a sound store: by value for the desk, the pages and the answer buffer lent.
+// A record on a store in any condition: carried out, or turned down. The desk comes in its parts, with the memo's array, the pages and the answer buffer lent.
 ghost use mathlib.Core.Path.{_≡_};
+ghost use Prim.Native.Nat.{_*_};
+ghost use lib.ListN.{length};
 ghost use Rattle.desk.specs.Call.{Answers, Carried as CarriedOut};
+ghost use Rattle.desk.specs.Layout.{lineSlots, lineFields};
 ghost use Rattle.desk.specs.Sound.{Sound};
+ghost use Rattle.desk.specs.Views.{deskWith};
 ghost use Rattle.range.specs.Range.{rectOf};
 ghost use Rattle.carry.specs.Carry.{Lists};
 use desk::Desk;
+use desk::Parts;
 use fresh::Answer;
 use page::BUFFER_BYTES;
 use range::Rectangle;
@@ -18,77 +23,81 @@ const UNSOUND: u16 = 2;
 
 // ---- the answer
 
-// What a call answers, and the desk that it leaves.
-pub struct Carried {
-    pub desk: Desk,
+// What a call answers, and the parts of the desk that it leaves.
+pub struct Told {
+    pub parts: Parts,
     pub answer: Answer,
 }
 
 // Number 0: "An accepted record carries number 0 and, for a range, n, else 0."
-fn accepted(desk: Desk) -> Carried
-    ensures { λ r. ⌜ r ≡ record { desk = desk; answer = record { number = 0; count = 0 } } ⌝ }
+fn accepted(parts: Parts) -> Told
+    ensures { λ r. ⌜ r ≡ record { parts = parts; answer = record { number = 0; count = 0 } } ⌝ }
 {
-    answered(desk, 0, 0)
+    answered(parts, 0, 0)
 }
 
 // A number and a count.
-fn answered(desk: Desk, number: u16, count: u16) -> Carried
-    ensures { λ r. ⌜ r ≡ record { desk = desk; answer = record { number = number; count = count } } ⌝ }
+fn answered(parts: Parts, number: u16, count: u16) -> Told
+    ensures { λ r. ⌜ r ≡ record { parts = parts; answer = record { number = number; count = count } } ⌝ }
 {
-    Carried {
-        desk,
+    Told {
+        parts,
         answer: Answer { number, count },
     }
 }
 
 // "Range finds the radios on whose latest place .. lies in the rectangle": it alters the answer buffer alone.
-fn listed(desk: Desk, pages: &[u8], area: Rectangle, buffer: &mut [u8]) -> Carried
-    requires { ⌜ Sound desk (now pages) ⌝ }
-    ensures { λ r. ⌜ ((s : Sound desk (now (pages .entry))) → Lists (s .store) (rectOf area) desk (now (buffer .entry)) r (now (buffer .exit))) ⌝ }
+fn listed(
+    parts: Parts,
+    words: &[u16; Desk::MEMO_WORDS],
+    pages: &[u8],
+    area: Rectangle,
+    buffer: &mut [u8],
+) -> Told
+    requires { ⌜ (length (now words) ≡ lineFields * lineSlots) × Sound (deskWith parts (now words)) (now pages) ⌝ }
+    ensures { λ r. ⌜ ((s : Sound (deskWith parts (now (words .entry))) (now (pages .entry))) → Lists (s .store) (rectOf area) parts (now (buffer .entry)) r (now (buffer .exit))) ⌝ }
 {
-    let grid = desk.grid;
+    let grid = parts.grid;
     let cells = grid.cells;
-    let waiting = desk.waiting;
-    let on = desk.on;
-    let lines = desk.memo.n;
-    let told = range::list(
-        pages,
-        area,
-        cells,
-        waiting,
-        &desk.memo.words,
-        lines,
-        on,
-        buffer,
-    );
-    answered(desk, told.number, told.count)
+    let waiting = parts.waiting;
+    let on = parts.on;
+    let told = range::list(pages, area, cells, waiting, words, parts.lines, on, buffer);
+    answered(parts, told.number, told.count)
 }
 
 // ---- a record
 
 // One record on a sound store: carried out, or turned down under 3 to 11.
-fn carry_sound(desk: Desk, pages: &mut [u8], bytes: &[u8], buffer: &mut [u8]) -> Carried
-    requires { ⌜ Sound desk (now pages) ⌝ }
-    ensures { λ r. ⌜ ((s : Sound desk (now (pages .entry))) → CarriedOut (record { desk = desk; pages = now (pages .entry); bytes = now (bytes .entry); buffer = now (buffer .entry) }) s (record { number = r .answer .number; count = r .answer .count; desk = r .desk; pages = now (pages .exit); buffer = now (buffer .exit) })) ⌝ }
+fn carry_sound(
+    parts: Parts,
+    words: &mut [u16; Desk::MEMO_WORDS],
+    pages: &mut [u8],
+    bytes: &[u8],
+    buffer: &mut [u8],
+) -> Told
+    requires { ⌜ (length (now words) ≡ lineFields * lineSlots) × Sound (deskWith parts (now words)) (now pages) ⌝ }
+    ensures { λ r. ⌜ ((s : Sound (deskWith parts (now (words .entry))) (now (pages .entry))) → CarriedOut (record { desk = deskWith parts (now (words .entry)); pages = now (pages .entry); bytes = now (bytes .entry); buffer = now (buffer .entry) }) s (record { number = r .answer .number; count = r .answer .count; desk = deskWith (r .parts) (now (words .exit)); pages = now (pages .exit); buffer = now (buffer .exit) })) ⌝ }
 {
-    let on = desk.on;
+    let on = parts.on;
     match records::asked_by(bytes, on) {
-        Asked::Refused(number) => answered(desk, number, 0),
+        Asked::Refused(number) => answered(parts, number, 0),
         Asked::SignOn(radio, east, north) => accepted(effects::sign_on(
-            desk,
+            parts,
+            words,
             pages,
             radio,
             east,
             north,
         )),
         Asked::Report(radio, east, north) => accepted(effects::reported(
-            desk,
+            parts,
+            words,
             pages,
             radio,
             east,
             north,
         )),
-        Asked::SignOff(radio) => accepted(effects::sign_off(desk, pages, radio)),
+        Asked::SignOff(radio) => accepted(effects::sign_off(parts, words, pages, radio)),
         Asked::Range(west, east, south, north) => {
             let area = Rectangle {
                 west,
@@ -96,20 +105,48 @@ fn carry_sound(desk: Desk, pages: &mut [u8], bytes: &[u8], buffer: &mut [u8]) ->
                 south,
                 north,
             };
-            listed(desk, pages, area, buffer)
+            listed(parts, words, pages, area, buffer)
         }
     }
 }
 
 // One record, well formed or not, with a store in any condition: carried out, or turned down under one of eleven numbers with every byte kept.
+pub fn carry_lent<'a>(
+    parts: Parts,
+    words: &'a mut [u16; Desk::MEMO_WORDS],
+    pages: &mut [u8],
+    bytes: &[u8],
+    buffer: &mut [u8],
+) -> Told
+    requires { ⌜ length (now words) ≡ lineFields * lineSlots ⌝ }
+    ensures { λ r. ⌜ Answers (record { desk = deskWith parts (now (words .entry)); pages = now (pages .entry); bytes = now (bytes .entry); buffer = now (buffer .entry) }) (record { number = r .answer .number; count = r .answer .count; desk = deskWith (r .parts) (now (words .exit)); pages = now (pages .exit); buffer = now (buffer .exit) }) ⌝ }
+{
+    if pages.len() != BUFFER_BYTES {
+        return answered(parts, WRONG_SIZE, 0);
+    }
+    if !sound::parts_sound(parts, words, pages) {
+        return answered(parts, UNSOUND, 0);
+    }
+    carry_sound(parts, words, pages, bytes, buffer)
+}
+
+// What a call answers, and the desk that it leaves.
+pub struct Carried {
+    pub desk: Desk,
+    pub answer: Answer,
+}
+
+// The same with the desk whole and by value.
 pub fn carry(desk: Desk, pages: &mut [u8], bytes: &[u8], buffer: &mut [u8]) -> Carried
     ensures { λ r. ⌜ Answers (record { desk = desk; pages = now (pages .entry); bytes = now (bytes .entry); buffer = now (buffer .entry) }) (record { number = r .answer .number; count = r .answer .count; desk = r .desk; pages = now (pages .exit); buffer = now (buffer .exit) }) ⌝ }
 {
-    if pages.len() != BUFFER_BYTES {
-        return answered(desk, WRONG_SIZE, 0);
+    let memo = desk.memo;
+    let mut words = memo.words;
+    let told = carry_lent(desk.parts(), &mut words, pages, bytes, buffer);
+    let parts = told.parts;
+    let answer = told.answer;
+    Carried {
+        desk: parts.whole(&words),
+        answer,
     }
-    if !sound::sound(desk, pages) {
-        return answered(desk, UNSOUND, 0);
-    }
-    carry_sound(desk, pages, bytes, buffer)
 }

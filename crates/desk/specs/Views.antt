@@ -10,6 +10,8 @@ use Rattle.desk.specs.declared.Slot.{Slot}
 use Rattle.desk.specs.declared.Directory.{Directory}
 use Rattle.desk.specs.declared.Line.{Line}
 use Rattle.desk.specs.declared.On.{On}
+use Rattle.desk.specs.declared.Desk.{Desk}
+use Rattle.desk.specs.declared.Parts.{Parts}
 use Rattle.desk.specs.Layout.{slotted, noSlot, lineFields}
 
 -- the cuts of one direction, and of both
@@ -55,3 +57,10 @@ radioRow r = record { key = r; val = tt }
 
 unfoldable pub radiosOf : On → Rows (Unit {0})
 radiosOf on = map radioRow (take (on .n) (on .radios))
+
+-- a desk's parts but for the memo's array, and the desk of such parts and that array
+abbrev pub partsOf : Desk → Parts
+partsOf d = record { grid = d .grid; waiting = d .waiting; lines = d .memo .n; on = d .on; tally = d .tally }
+
+abbrev pub deskWith : Parts → List ℕ → Desk
+deskWith p ws = record { grid = p .grid; waiting = p .waiting; memo = record { n = p .lines; words = ws }; on = p .on; tally = p .tally }

@@ -4,7 +4,7 @@ ghost use Prim.Native.Nat.{_*_, _<_};
 ghost use lib.ListN.{length, getD, set};
 ghost use Rattle.rules.specs.Store.{fresh};
 ghost use Rattle.desk.specs.Layout.{deskOf, lineSlots, lineFields, noLine};
-ghost use Rattle.desk.specs.Views.{linesIn};
+ghost use Rattle.desk.specs.Views.{linesIn, partsOf, deskWith};
 
 // The cuts of one direction, rising.
 #[repr(C)]
@@ -89,6 +89,38 @@ pub struct Desk {
     pub tally: u16,
 }
 
+// The desk but for the memo's array, which is lent beside it: that is four fifths of the desk, and whoever gets the desk by value copies it.
+pub struct Parts {
+    pub grid: Grid,
+    pub waiting: Waiting,
+    // how many lines the memo has
+    pub lines: usize,
+    pub on: On,
+    pub tally: u16,
+}
+
+impl Parts {
+    // The desk of these parts and the memo's array.
+    pub fn whole<'a>(self, words: &'a [u16; Desk::MEMO_WORDS]) -> Desk
+        ensures { λ r. ⌜ r ≡ deskWith self (now (words .entry)) ⌝ }
+    {
+        let grid = self.grid;
+        let waiting = self.waiting;
+        let on = self.on;
+        let words = *words;
+        Desk {
+            grid,
+            waiting,
+            memo: Memo {
+                n: self.lines,
+                words,
+            },
+            on,
+            tally: self.tally,
+        }
+    }
+}
+
 impl Desk {
     pub const MAX_CELLS: usize = 64;
 
@@ -159,6 +191,22 @@ impl Desk {
                 radios: [0; 512],
             },
             tally: 0,
+        }
+    }
+
+    // The desk's parts but for the memo's array.
+    pub fn parts(self) -> Parts
+        ensures { λ r. ⌜ r ≡ partsOf self ⌝ }
+    {
+        let grid = self.grid;
+        let waiting = self.waiting;
+        let on = self.on;
+        Parts {
+            grid,
+            waiting,
+            lines: self.memo.n,
+            on,
+            tally: self.tally,
         }
     }
 }

@@ -2,7 +2,7 @@
 use mathlib.Core.Bool.{true, false, cond}
 use mathlib.Core.List.{List}
 use mathlib.Core.Option.{Option, none, some}
-use mathlib.Core.Path.{_≡_, refl}
+use mathlib.Core.Path.{_≡_, refl, sym, subst}
 use Prim.Native.Nat.{ℕ, _+_, _≤_, _<_}
 use lib.ListN.{length}
 use Rattle.terms.specs.Terms.{Place}
@@ -12,7 +12,7 @@ use Rattle.rules.specs.Grid.{Box, sameBox, boxOf}
 use Rattle.rules.specs.Store.{Report, Store}
 use Rattle.rules.specs.Sweep.{tick}
 use Rattle.rules.specs.Flush.{raised}
-use Rattle.rules.specs.Records.{signOn, report, signOff}
+use Rattle.rules.specs.Records.{Request, signOn, report, signOff}
 use Rattle.rules.specs.Carry.{wasNew, signedOn, reported, signedOff, waitingIn, allowedIn, carriedOut}
 use Rattle.rules.proofs.FlushLaws.{Staged}
 use Rattle.rules.proofs.StepLaws.{put-few, put-boxes, put-bounded, on-core, report-core, off-done}
@@ -63,6 +63,18 @@ report-put s w r p x =
 
 put-effect : {desk : Desk} {p : Place} {b : List ℕ} (s : Store) → Put s p → Stands s desk b → Effected desk p b
 put-effect s x h = record { store = s; early = x .early; staged = x .staged; few = x .few; others-few = x .others-few; stands = h }
+
+-- ---- the desk put together, and in its parts again
+
+-- what is told of a desk is told of one that is the same
+pub same-followed : {v w d : Desk} {p : Place} {b b′ : List ℕ} → w ≡ v → ((y : Effected w p b) → Followed (y .store) p d b′) → (y : Effected v p b) → Followed (y .store) p d b′
+same-followed {d = d} {p = p} {b = b} {b′ = b′} e = subst (λ (z : Desk). (y : Effected z p b) → Followed (y .store) p d b′) e
+
+pub same-effect : {v w : Desk} {p : Place} {b : List ℕ} → w ≡ v → Effected v p b → Effected w p b
+same-effect {p = p} {b = b} e = subst (λ (z : Desk). Effected z p b) (sym e)
+
+pub same-carries : {d d′ : Desk} {s : Store} {q : Request} {b : List ℕ} → d′ ≡ d → Carries s q d b → Carries s q d′ b
+same-carries {s = s} {q = q} {b = b} e = subst (λ (z : Desk). Carries s q z b) (sym e)
 
 -- ---- sign-on
 

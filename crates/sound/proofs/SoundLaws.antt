@@ -1,12 +1,14 @@
 -- What the three tests come to, one after the other: the contract of the whole.
 use mathlib.Core.Bool.{Bool, true, false, not}
 use mathlib.Core.List.{List}
-use mathlib.Core.Path.{_≡_, sym, ap, _∙_}
+use mathlib.Core.Path.{_≡_, sym, ap, _∙_, subst}
 use Prim.Native.Nat.{ℕ}
 use Rattle.lists.specs.Rows.{Rows}
 use Rattle.lists.proofs.Cases.{false-true}
 use Rattle.lists.proofs.TestsLaws.{not-true, not-false}
 use Rattle.desk.specs.declared.Desk.{Desk}
+use Rattle.desk.specs.declared.Parts.{Parts}
+use Rattle.desk.specs.Views.{partsOf, deskWith}
 use Rattle.desk.specs.Sound.{Sound}
 use Rattle.sound_desk.specs.Sound.{deskSound, shown, Shaped}
 use Rattle.sound_pages.specs.PagesSound.{PagesSound}
@@ -44,3 +46,7 @@ module _ (d : Desk) (b : List ℕ) where
           let desk = sym e ∙ not-false a f in
           let rows = q ∙ ap (λ (l : List (Rows Place)). entriesTest (shown d .memo) (shown d .waiting) (shown d .on) (d .tally) l) (rows-read pages-passed) in
           (λ t. radios-sound d b shape desk pages-passed (sym rows ∙ t), λ y. rows ∙ sound-radios d b shape desk pages-passed y)
+
+-- what is told of a desk's parts is told of the desk
+pub whole-says : (d : Desk) {p : Parts} {b : List ℕ} {r : Bool} → p ≡ partsOf d → (r ≡ true → Sound (deskWith p (d .memo .words)) b) × (Sound (deskWith p (d .memo .words)) b → r ≡ true) → (r ≡ true → Sound d b) × (Sound d b → r ≡ true)
+whole-says d {b = b} {r = r} e = subst (λ (p : Parts). (r ≡ true → Sound (deskWith p (d .memo .words)) b) × (Sound (deskWith p (d .memo .words)) b → r ≡ true)) e

@@ -1,19 +1,26 @@
 // The test of number 2: whether desk and pages are those of a sound store.
 ghost use mathlib.Core.Bool.{true};
 ghost use mathlib.Core.Path.{_≡_};
+ghost use Prim.Native.Nat.{_*_};
+ghost use lib.ListN.{length};
+ghost use Rattle.desk.specs.Layout.{lineSlots, lineFields};
+ghost use Rattle.desk.specs.Views.{deskWith};
 ghost use Rattle.desk.specs.Sound.{Sound};
 use desk::Desk;
+use desk::Parts;
 
-// Whether desk and pages, in any condition, are those of a sound store. First the desk, for it is the smallest; what reads the pages may then rely on it.
-pub fn sound(desk: Desk, pages: &[u8]) -> bool
-    ensures { λ r. ⌜ (r ≡ true → Sound desk (now (pages .entry))) × (Sound desk (now (pages .entry)) → r ≡ true) ⌝ }
+// Whether desk and pages, in any condition, are those of a sound store; the desk comes in its parts, with the memo's array lent. First the desk, for it is the smallest; what reads
+// the pages may then rely on it.
+pub fn parts_sound<'a>(parts: Parts, words: &'a [u16; Desk::MEMO_WORDS], pages: &'a [u8]) -> bool
+    requires { ⌜ length (now words) ≡ lineFields * lineSlots ⌝ }
+    ensures { λ r. ⌜ (r ≡ true → Sound (deskWith parts (now (words .entry))) (now (pages .entry))) × (Sound (deskWith parts (now (words .entry))) (now (pages .entry)) → r ≡ true) ⌝ }
 {
-    let grid = desk.grid;
-    let waiting = desk.waiting;
-    let on = desk.on;
-    let tally = desk.tally;
-    let n = desk.memo.n;
-    if !sound_desk::desk_sound(grid, waiting, &desk.memo.words, n, on, tally) {
+    let grid = parts.grid;
+    let waiting = parts.waiting;
+    let on = parts.on;
+    let tally = parts.tally;
+    let n = parts.lines;
+    if !sound_desk::desk_sound(grid, waiting, words, n, on, tally) {
         return false;
     }
     let cells = grid.cells;
@@ -21,5 +28,13 @@ pub fn sound(desk: Desk, pages: &[u8]) -> bool
     if !sound_pages::pages_sound(pages, cells, free) {
         return false;
     }
-    sound_radios::radios_sound(pages, grid, waiting, &desk.memo.words, n, on, tally)
+    sound_radios::radios_sound(pages, grid, waiting, words, n, on, tally)
+}
+
+// The same of a whole desk.
+pub fn sound(desk: Desk, pages: &[u8]) -> bool
+    ensures { λ r. ⌜ (r ≡ true → Sound desk (now (pages .entry))) × (Sound desk (now (pages .entry)) → r ≡ true) ⌝ }
+{
+    let parts = desk.parts();
+    parts_sound(parts, &desk.memo.words, pages)
 }

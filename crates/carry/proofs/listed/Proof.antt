@@ -1,5 +1,5 @@
-use Rattle.lists.proofs.ShiftLaws.{length-mapped}
 use borrow.Author.Needs.{needs}
+use Rattle.desk.specs.Views.{deskWith}
 use Rattle.range.proofs.StoreLaws.{range-asks}
 use Rattle.carry.proofs.CallLaws.{lists-returns}
 use Rattle.carry.proofs.listed.Statement.{statement}
@@ -7,9 +7,10 @@ use Rattle.carry.proofs.listed.Tie as tie
 
 list-requires : tie.Need-list-requires
 list-requires c κs =
-    let e = c .before .before .before .before .before .before .before .before .before in
-    let a = range-asks (e .pre .store) _ (e .args .t1) (e .pre .well) (e .pre .laid) (e .pre .held) in
-    (search (length-mapped, e .good .0 .1 .1 .1 .1 .0 .1 .1 .1 .0 .1 .0 .1), a .0, a .1, a .2)
+    let e = c .before .before .before .before .before .before .before in
+    let s = e .pre .1 in
+    let a = range-asks (s .store) _ (deskWith (e .args .parts) (e .args .words .now)) (s .well) (s .laid) (s .held) in
+    (e .pre .0, a .0, a .1, a .2)
 
 answered-requires : tie.Need-answered-requires
 answered-requires c κs = search needs
@@ -20,7 +21,8 @@ same-length c = search needs
 returns : tie.Need-returns
 returns c = λ x.
     let l = c .before .before .before in
-    lists-returns x (l .before .before .before .before .before .before .before .before .before .before .args .area) _ (l .list .ensures) (c .answered .ensures)
+    let e = l .before .before .before .before .before .before .before .before in
+    lists-returns (e .args .parts) (e .args .words .now) x (e .args .area) _ (l .list .ensures) (c .answered .ensures)
 
 pub listed-spec : {M : Type 1} → statement M
 listed-spec = tie.close (tie.spec list-requires answered-requires same-length returns)

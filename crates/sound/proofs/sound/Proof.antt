@@ -1,52 +1,17 @@
-use Rattle.lists.proofs.ShiftLaws.{length-mapped}
-use Rattle.sound.proofs.SoundLaws.{desk-unsound, pages-unsound, desk-passed, pages-passed, radios-say}
 use borrow.Author.Needs.{needs}
-use Rattle.sound_desk.specs.Sound.{Shaped}
+use Rattle.lists.proofs.ShiftLaws.{length-mapped}
+use Rattle.sound.proofs.SoundLaws.{whole-says}
 use Rattle.sound.proofs.sound.Statement.{statement}
 use Rattle.sound.proofs.sound.Tie as tie
 
-desk-sound-requires : tie.Need-desk-sound-requires
-desk-sound-requires c κs = search needs
+parts-requires : tie.Need-parts-requires
+parts-requires c κs = search needs
+
+parts-sound-requires : tie.Need-parts-sound-requires
+parts-sound-requires c κs = search (length-mapped, c .before .before .before .before .good .0 .1 .1 .1 .1 .0 .1 .1 .1 .0 .1 .0 .1)
 
 returns : tie.Need-returns
-returns c = desk-unsound _ _ (c .before .desk-sound .ensures) (c .if1 .taken)
-
-pages-sound-requires : tie.Need-pages-sound-requires
-pages-sound-requires c κs = search needs
-
-returns-2 : tie.Need-returns-2
-returns-2 c = pages-unsound _ _ (c .before .pages-sound .ensures) (c .if2 .taken)
-
-radios-sound-requires : tie.Need-radios-sound-requires
-radios-sound-requires c κs =
-    let start = c .before .before .before .before .before .before .before .before .before .before .before .before .before in
-    let memo = start .good .0 .1 .1 .1 .1 .0 .1 .1 .1 .0 .1 .0 .1 in
-    (search (length-mapped, memo), search desk-passed, pages-passed (start .args .t1) _ (c .before .before .before .pages-sound .ensures) (c .before .before .if2 .left))
-
--- the lengths of the desk's arrays are told field by field
-returns-3 : tie.Need-returns-3
-returns-3 c =
-    let k = c .before .before .before .before .before .before in
-    let start = k .before .before .before .before .before .before .before .before in
-    let d = start .good .0 .1 .1 in
-    let g = d .0 .1 .1 in
-    let shape : Shaped (start .args .t1) = record {
-      easts = search (length-mapped, g .0 .1 .1 .1 .0 .1 .0 .1);
-      norths = search (length-mapped, g .1 .0 .1 .1 .1 .0 .1 .0 .1);
-      cells = search (length-mapped, g .1 .1 .0 .1 .1 .1 .0 .1 .0 .1);
-      waiting = search (length-mapped, d .1 .0 .1 .1 .1 .0 .1 .0 .1);
-      memo = search (length-mapped, d .1 .1 .0 .1 .1 .1 .0 .1 .0 .1);
-      on = search (length-mapped, d .1 .1 .1 .0 .1 .1 .1 .0 .1 .0 .1);
-    } in
-    radios-say _ _ (c .before .before .before .before .pages-sound .ensures) (c .before .before .before .if2 .left) shape (k .before .desk-sound .ensures) (k .if1 .left) (c .radios-sound .ensures)
+returns c = whole-says _ (c .before .before .before .parts .ensures) (c .parts-sound .ensures)
 
 pub sound-spec : {M : Type 1} → statement M
-sound-spec =
-    tie.close
-    (tie.spec
-    desk-sound-requires
-    returns
-    pages-sound-requires
-    returns-2
-    radios-sound-requires
-    returns-3)
+sound-spec = tie.close (tie.spec parts-requires parts-sound-requires returns)
