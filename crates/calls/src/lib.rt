@@ -1,20 +1,31 @@
-// The desk's calls on a desk that is lent: thin functions over `carry` and `fresh::begin`, which take the desk by value and return it, and those for programs in Rust or C, with the test of soundness.
+// The desk's calls on a desk that is lent: thin functions over `carry_lent` and `fresh::begin`, and those for programs in Rust or C, with the test of soundness.
 ghost use mathlib.Core.Bool.{true};
 ghost use mathlib.Core.Path.{_≡_};
 ghost use Rattle.desk.specs.Call.{Answers};
 ghost use Rattle.desk.specs.Sound.{Sound};
 ghost use Rattle.fresh.specs.Begin.{Begins};
 use desk::Desk;
+use desk::Parts;
 use fresh::Answer;
 
-// `carry` on a desk that is lent and altered there.
+// `carry_lent` on a desk that is lent and altered there: its parts are copied out and stored back, and the memo's array is lent on.
 pub fn call(desk: &mut Desk, pages: &mut [u8], bytes: &[u8], buffer: &mut [u8]) -> Answer
     ensures { λ r. ⌜ Answers (record { desk = now (desk .entry); pages = now (pages .entry); bytes = now (bytes .entry); buffer = now (buffer .entry) }) (record { number = r .number; count = r .count; desk = now (desk .exit); pages = now (pages .exit); buffer = now (buffer .exit) }) ⌝ }
 {
-    let d = *desk;
-    let c = carry::carry(d, pages, bytes, buffer);
-    *desk = c.desk;
-    c.answer
+    let parts = Parts {
+        grid: desk.grid,
+        waiting: desk.waiting,
+        lines: desk.memo.n,
+        on: desk.on,
+        tally: desk.tally,
+    };
+    let told = carry::carry_lent(parts, &mut desk.memo.words, pages, bytes, buffer);
+    desk.grid = told.parts.grid;
+    desk.waiting = told.parts.waiting;
+    desk.memo.n = told.parts.lines;
+    desk.on = told.parts.on;
+    desk.tally = told.parts.tally;
+    told.answer
 }
 
 // `call`, for a serving program in Rust or C.
