@@ -64,7 +64,9 @@ fn fill_page(page: &mut [u8], kind: u16, next: u16, cell: u16, es: Entries, from
     );
     let mut i = 0;
     while i < n {
-        write_entry(page, HEAD_BYTES + ENTRY_BYTES * i, es.get(from + i));
+        let at = from + i;
+        let e = es.all[at];
+        write_entry(page, HEAD_BYTES + ENTRY_BYTES * i, e);
         i += 1;
     }
     clear(page, HEAD_BYTES + ENTRY_BYTES * n);

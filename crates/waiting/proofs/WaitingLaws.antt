@@ -189,13 +189,30 @@ one-if-le : (b : Bool) → one-if b ≤ 1
 one-if-le true = omega arith
 one-if-le false = omega arith
 
-pub mark-le : (w : Waiting) (r : ℕ) {m : ℕ} → m ≡ one-if (wasNew (find (reportsOf w) r)) → m ≤ 1
+mark-le : (w : Waiting) (r : ℕ) {m : ℕ} → m ≡ one-if (wasNew (find (reportsOf w) r)) → m ≤ 1
 mark-le w r e = rw e (one-if-le (wasNew (find (reportsOf w) r)))
 
-pub put-keeps : (w : Waiting) (r east north : ℕ) {m : ℕ} {v : Waiting} → Rising 0 (reportsOf w) → m ≡ one-if (wasNew (find (reportsOf w) r))
+put-keeps : (w : Waiting) (r east north : ℕ) {m : ℕ} {v : Waiting} → Rising 0 (reportsOf w) → m ≡ one-if (wasNew (find (reportsOf w) r))
     → v ≡ waitingOf (insert r (waits (record { radio = r; east = east; north = north; new = m })) (reportsOf w))
     → v ≡ waitingOf (alter (λ x. some (record { place = record { east = east; north = north }; new = wasNew x })) r (reportsOf w))
 put-keeps w r east north {m} a e f =
     let kept : Option StoreReport → Option StoreReport = λ x. some (record { place = record { east = east; north = north }; new = wasNew x }) in
     let q : not (eqb m 0) ≡ wasNew (find (reportsOf w) r) = ap (λ (n : ℕ). not (eqb n 0)) e ∙ not-zero (wasNew (find (reportsOf w) r)) in
     f ∙ ap waitingOf (alter-found _ kept 0 r (reportsOf w) a (ap (λ (b : Bool). some (record { place = record { east = east; north = north }; new = b })) q))
+
+-- the mark is kept where a report of the radio waits, and else there is none
+module _ (w : Waiting) (r : ℕ) {k : ℕ} {o : Standing} (whole : WholeWaiting w) (rising : Rising 0 (reportsOf w)) (told : o ≡ standing r (reportsOf w)) where
+  mark-at : o ≡ At k → getD (w .rows) k noReport .new ≡ one-if (wasNew (find (reportsOf w) r))
+  mark-at e = mark-found w r (report-found w r whole rising told e) refl
+
+  pub mark-at-le : o ≡ At k → getD (w .rows) k noReport .new ≤ 1
+  mark-at-le e = mark-le w r (mark-at e)
+
+  pub keep-at : (east north : ℕ) {v : Waiting} → o ≡ At k → v ≡ waitingOf (set (reportsOf w) k (rowOf (record { radio = r; east = east; north = north; new = getD (w .rows) k noReport .new })))
+      → v ≡ waitingOf (alter (λ x. some (record { place = record { east = east; north = north }; new = wasNew x })) r (reportsOf w))
+  keep-at east north e f = put-keeps w r east north rising (mark-at e) (put-at w (record { radio = r; east = east; north = north; new = getD (w .rows) k noReport .new }) rising told e f)
+
+  pub keep-before : (east north : ℕ) {v : Waiting} → o ≡ Before k → v ≡ waitingOf (insertAt (reportsOf w) k (rowOf (record { radio = r; east = east; north = north; new = 0 })))
+      → v ≡ waitingOf (alter (λ x. some (record { place = record { east = east; north = north }; new = wasNew x })) r (reportsOf w))
+  keep-before east north e f =
+      put-keeps w r east north rising (mark-missing w r (report-missing w r whole rising told e) refl) (put-before w (record { radio = r; east = east; north = north; new = 0 }) rising told e f)

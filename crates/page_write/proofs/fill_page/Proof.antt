@@ -1,9 +1,11 @@
 -- Behind the header stand the bytes of the entries passed; header, entries and zeros side by side are the whole page.
 use mathlib.Core.Path.{_≡_}
-use Prim.Native.Nat.{_-_}
+use Prim.Native.Nat.{_+_, _-_, _<_}
+use native.Mathlib.Omega.{arith}
 use lib.ListN.{length}
 use Rattle.lists.proofs.ShiftLaws.{length-mapped}
 use Rattle.entries.specs.Entries.{rowsOf}
+use Rattle.entries.proofs.TableLaws.{rows-get}
 use Rattle.page.specs.Page.{pageBytes}
 use Rattle.page_write.proofs.WriteLaws.{Writing, writing-start, writing-turn, writing-end}
 use borrow.Author.Needs.{needs}
@@ -11,10 +13,10 @@ use Rattle.page_write.proofs.fill_page.Statement.{statement}
 use Rattle.page_write.proofs.fill_page.Tie as tie
 
 abbrev Inv-loop : tie.InvT-loop
-Inv-loop page₀ kind next cell es from n used i₀ page i = (length page ≡ pageBytes) × Writing (rowsOf es) from n page₀ i page
+Inv-loop page₀ kind next cell from n es used i₀ page i = (length page ≡ pageBytes) × Writing (rowsOf es) from n page₀ i page
 
 abbrev μ-loop : tie.MeasureT-loop
-μ-loop page₀ kind next cell es from n used i₀ page i = n - i
+μ-loop page₀ kind next cell from n es used i₀ page i = n - i
 
 mul-used : tie.Need-mul-used Inv-loop μ-loop
 mul-used c = search needs
@@ -31,17 +33,20 @@ write-header-requires c κs = search needs
 loop-holds : tie.Need-loop-holds Inv-loop μ-loop
 loop-holds c = (search needs, writing-start _ _ _ _ (search length-mapped) (search needs) (search needs) (search needs) (search needs))
 
+add-at : tie.Need-add-at Inv-loop μ-loop
+add-at c = search needs
+
+mul-e : tie.Need-mul-e Inv-loop μ-loop
+mul-e c = search needs
+
+element-copy-out-e : tie.Need-element-copy-out-e Inv-loop μ-loop
+element-copy-out-e c = search needs
+
 mul-write-entry : tie.Need-mul-write-entry Inv-loop μ-loop
 mul-write-entry c = search needs
 
 add-write-entry : tie.Need-add-write-entry Inv-loop μ-loop
 add-write-entry c = search needs
-
-add-get : tie.Need-add-get Inv-loop μ-loop
-add-get c = search needs
-
-get-requires : tie.Need-get-requires Inv-loop μ-loop
-get-requires c κs = search needs
 
 write-entry-requires : tie.Need-write-entry-requires Inv-loop μ-loop
 write-entry-requires c κs = search needs
@@ -55,7 +60,9 @@ loop-less c = search needs
 loop-again : tie.Need-loop-again Inv-loop μ-loop
 loop-again c =
     let l = c .before .before .before .before .before in
-    (search needs, writing-turn (l .before .loop .inv .1) (l .loop-test .taken) (c .before .before .before .get .ensures) (c .before .before .write-entry .ensures))
+    let s = l .before .before .before .before .before .before .before in
+    let w : l .before .loop .i < s .args .n = omega arith in
+    (search needs, writing-turn (l .before .loop .inv .1) (l .loop-test .taken) (rows-get (s .args .t5) (s .args .from + l .before .loop .i) (omega (arith, s .pre .2))) (c .before .before .write-entry .ensures))
 
 mul-clear : tie.Need-mul-clear Inv-loop μ-loop
 mul-clear c = search needs
@@ -83,10 +90,11 @@ fill-page-spec =
     cast-used
     write-header-requires
     loop-holds
+    add-at
+    mul-e
+    element-copy-out-e
     mul-write-entry
     add-write-entry
-    add-get
-    get-requires
     write-entry-requires
     add-i
     loop-less
