@@ -2,16 +2,23 @@
 use mathlib.Core.Path.{_≡_, refl, sym, ap, _∙_, subst}
 use mathlib.Core.Bool.{not}
 use mathlib.Core.List.{List, _∷_}
-use Prim.Native.Nat.{ℕ, _+_, _-_, _*_, _≤_, _<_, min}
+use mathlib.Core.Option.{Option, none, some}
+use Prim.Native.Nat.{ℕ, suc, _+_, _-_, _*_, _≤_, _<_, min}
 use native.Mathlib.Omega.{arith}
+use native.Mathlib.Numerals.{add-one}
 use lib.Dec.{eqb}
-use lib.ListN.{length, getD, set, drop}
+use lib.ListN.{length, getD, set, drop, length-set}
+use lib.Seq.{getD-set-same, getD-set-other}
+use borrow.Author.Tests.{eqb-true, eqb-false}
 use Rattle.terms.specs.Terms.{maxRadio, maxOn}
-use Rattle.lists.specs.Rows.{Row, Rows, UpTo}
-use Rattle.lists.specs.Tests.{one-if}
+use Rattle.lists.specs.Rows.{Rows, Rising, UpTo, find}
+use Rattle.lists.specs.Tests.{one-if, orElse}
+use Rattle.lists.proofs.Cases.{by-cases}
+use Rattle.lists.proofs.RowsLaws.{rising-less, find-below}
 use Rattle.lists.proofs.TestsLaws.{one-if-le, each-drop}
 use Rattle.rules.specs.Limits.{fullMemory}
 use Rattle.rules.specs.Store.{Line as StoreLine}
+use Rattle.rules.specs.Sweep.{staleBy, stale}
 use Rattle.desk.specs.declared.Waiting.{Waiting}
 use Rattle.desk.specs.declared.Line.{Line}
 use Rattle.desk.specs.declared.Memo.{Memo}
@@ -19,10 +26,10 @@ use Rattle.desk.specs.declared.On.{On}
 use Rattle.desk.specs.Layout.{noReport, lineSlots, lineFields, noLine}
 use Rattle.desk.specs.Views.{linesIn, radioRow, radiosOf}
 use Rattle.desk.proofs.LinesLaws.{length-lines-in}
-use Rattle.memo.specs.Memo.{lastOf, rowOf, linesOf}
+use Rattle.memo.specs.Memo.{rowOf, linesOf}
 use Rattle.waiting.specs.Waiting.{rowOf as reportRow, reportsOf}
-use Rattle.sound_radios.specs.Tables.{fieldEnd, half, kindOf, codeOf, Spare, added, written, each, markNew, missedDue, lastKind, lastCode}
-use Rattle.sound_radios.proofs.TableLaws.{row-next, row-none, Adding, adding-end, adding-key, adding-room, adding-turn, spare-set}
+use Rattle.sound_radios.specs.Tables.{tableSize, fieldEnd, half, Blank, Spare, added, written, Named, lineNamed, judged, each, markNew, missedDue}
+use Rattle.sound_radios.proofs.TableLaws.{row-next, row-none, Adding, adding-end, adding-key, adding-room, adding-turn, getD-set-le, spare-set}
 
 -- ---- radios on
 
@@ -68,24 +75,37 @@ module _ (w : Waiting) {t₀ : List ℕ} {i : ℕ} {t : List ℕ} (a : Adding 1 
 
 -- ---- memo lines
 
--- the lines before i are written: with the rest it is the whole
-pub record LinesDue (m : Memo) (due₀ kinds₀ codes₀ : List ℕ) (i : ℕ) (due kinds codes : List ℕ) : Type 0 where
+-- the lines before i are written and named: with the rest it is the whole
+pub record LinesDue (m : Memo) (due₀ : List ℕ) (i : ℕ) (due lines : List ℕ) : Type 0 where
+  pub rise : Rising 0 (drop i (linesOf m))
   pub missed : written missedDue due (drop i (linesOf m)) ≡ written missedDue due₀ (linesOf m)
-  pub kind : written lastKind kinds (drop i (linesOf m)) ≡ written lastKind kinds₀ (linesOf m)
-  pub code : written lastCode codes (drop i (linesOf m)) ≡ written lastCode codes₀ (linesOf m)
   pub spare : Spare (half - 1) due
+  pub size : length lines ≡ tableSize
+  pub named : Named (m .words) lines
+  pub found : (q : ℕ) → orElse (find (drop i (linesOf m)) q) (lineNamed (m .words) (getD lines q 0)) ≡ find (linesOf m) q
 
-pub lines-start : (m : Memo) (due kinds codes : List ℕ) → Spare (half - 1) due → LinesDue m due kinds codes 0 due kinds codes
-lines-start m due kinds codes s = record { missed = refl; kind = refl; code = refl; spare = s }
+or-none : {A : Type 0} (o : Option A) → orElse o none ≡ o
+or-none none = refl
+or-none (some a) = refl
 
-written-last : (v : Row StoreLine → ℕ) (m : Memo) (t₀ : List ℕ) {i : ℕ} {t : List ℕ} → m .n ≤ i → written v t (drop i (linesOf m)) ≡ written v t₀ (linesOf m) → t ≡ written v t₀ (linesOf m)
-unfolding linesOf written
-written-last v m t₀ {i} {t} h e = ap (written v t) (sym (row-none rowOf (linesIn (m .words)) (m .n) i h)) ∙ e
+pub lines-start : (m : Memo) {due lines : List ℕ} → length (m .words) ≡ lineFields * lineSlots → Rising 0 (linesOf m) → Spare (half - 1) due → Blank lines → LinesDue m due 0 due lines
+lines-start m l r s z = record {
+  rise = r;
+  missed = refl;
+  spare = s;
+  size = z .size;
+  named = record { size = l; place = λ q. omega (arith, z .zeros q) };
+  found = λ q. ap (λ (k : ℕ). orElse (find (linesOf m) q) (lineNamed (m .words) k)) (z .zeros q) ∙ or-none (find (linesOf m) q);
+}
 
-module _ (m : Memo) {due₀ kinds₀ codes₀ : List ℕ} {i : ℕ} {due kinds codes : List ℕ} where
-  pub lines-end : LinesDue m due₀ kinds₀ codes₀ i due kinds codes → m .n ≤ i
-      → (due ≡ written missedDue due₀ (linesOf m)) × (kinds ≡ written lastKind kinds₀ (linesOf m)) × (codes ≡ written lastCode codes₀ (linesOf m)) × Spare (half - 1) due
-  lines-end l h = (written-last missedDue m due₀ h (l .missed), written-last lastKind m kinds₀ h (l .kind), written-last lastCode m codes₀ h (l .code), l .spare)
+module _ (m : Memo) {due₀ : List ℕ} {i : ℕ} {due lines : List ℕ} (l : LinesDue m due₀ i due lines) where
+  pub lines-end : m .n ≤ i → (due ≡ written missedDue due₀ (linesOf m)) × Spare (half - 1) due × Named (m .words) lines × (judged (m .words) lines ≡ stale (linesOf m))
+  unfolding linesOf written find judged
+  lines-end h =
+      let z = row-none rowOf (linesIn (m .words)) (m .n) i h in
+      let named : (q : ℕ) → lineNamed (m .words) (getD lines q 0) ≡ find (linesOf m) q = λ q.
+      ap (λ (t : Rows StoreLine). orElse (find t q) (lineNamed (m .words) (getD lines q 0))) (sym z) ∙ l .found q in
+      (ap (written missedDue due) (sym z) ∙ l .missed, l .spare, l .named, λ j e. staleBy (named (e .key) j) (e .val))
 
 module _ (m : Memo) {i : ℕ} (size : length (m .words) ≡ lineFields * lineSlots) (few : m .n ≤ lineSlots) (more : i < m .n) {line : Line} (read : line ≡ getD (linesIn (m .words)) i noLine) where
   line-next : drop i (linesOf m) ≡ rowOf line ∷ drop (i + 1) (linesOf m)
@@ -95,17 +115,33 @@ module _ (m : Memo) {i : ℕ} (size : length (m .words) ≡ lineFields * lineSlo
   pub line-radio : UpTo maxRadio (linesOf m) → line .radio ≤ maxRadio
   line-radio u = subst (λ (l : Rows StoreLine). UpTo maxRadio l) line-next (each-drop (λ x. x .key ≤ maxRadio) i (linesOf m) u) .0
 
-  written-next : (v : Row StoreLine → ℕ) (t₀ t : List ℕ) {k n : ℕ} → k ≡ line .radio → n ≡ v (rowOf line) → written v t (drop i (linesOf m)) ≡ written v t₀ (linesOf m)
-      → written v (set t k n) (drop (i + 1) (linesOf m)) ≡ written v t₀ (linesOf m)
-  unfolding written
-  written-next v t₀ t p q e = rw (p, q) (rw line-next at e)
+  module _ {due₀ due lines : List ℕ} (l : LinesDue m due₀ i due lines) {k : ℕ} (at : k ≡ line .radio) (inside : k < tableSize) where
+    rise-next : Rising (line .radio) (drop (i + 1) (linesOf m))
+    rise-next = subst (λ (t : Rows StoreLine). Rising 0 t) line-next (l .rise) .1
 
-  pub lines-turn : {due₀ kinds₀ codes₀ due kinds codes : List ℕ} {k a b c : ℕ} → LinesDue m due₀ kinds₀ codes₀ i due kinds codes → k ≡ line .radio
-      → a ≡ half * min (line .missed) (half - 1) → a + (half - 1) < fieldEnd → b ≡ kindOf (lastOf line) → c ≡ codeOf (lastOf line)
-      → LinesDue m due₀ kinds₀ codes₀ (i + 1) (set due k a) (set kinds k b) (set codes k c)
-  lines-turn {due₀} {kinds₀} {codes₀} {due} {kinds} {codes} {k} {a} {b} {c} l p q h r s = record {
-    missed = written-next missedDue due₀ due p q (l .missed);
-    kind = written-next lastKind kinds₀ kinds p r (l .kind);
-    code = written-next lastCode codes₀ codes p s (l .code);
-    spare = spare-set (half - 1) due k a (l .spare) h;
-  }
+    named-next : (q : ℕ) → orElse (find (drop (i + 1) (linesOf m)) q) (lineNamed (m .words) (getD (set lines k (i + 1)) q 0)) ≡ find (linesOf m) q
+    unfolding find
+    named-next q =
+        let rest = drop (i + 1) (linesOf m) in
+        let before : orElse (find (rowOf line ∷ rest) q) (lineNamed (m .words) (getD lines q 0)) ≡ find (linesOf m) q =
+        ap (λ (t : Rows StoreLine). orElse (find t q) (lineNamed (m .words) (getD lines q 0))) (sym line-next) ∙ l .found q in
+        by-cases (eqb q (line .radio))
+        (λ e.
+        let z : q ≡ k = eqb-true q (line .radio) e ∙ sym at in
+        let n : getD (set lines k (i + 1)) q 0 ≡ suc i = ap (λ (j : ℕ). getD (set lines k (i + 1)) j 0) z ∙ getD-set-same lines k (i + 1) 0 (omega (arith, l .size)) ∙ add-one i in
+        rw (find-below q (line .radio) rest (omega arith) rise-next, n, ← read) (rw e at before))
+        (λ e. rw (getD-set-other lines k q (i + 1) 0 (λ z. eqb-false q (line .radio) e (z ∙ at))) (rw e at before))
+
+    pub lines-turn : {a p : ℕ} → a ≡ half * min (line .missed) (half - 1) → a + (half - 1) < fieldEnd → p ≡ i + 1 → LinesDue m due₀ (i + 1) (set due k a) (set lines k p)
+    unfolding written
+    lines-turn {a} {p} q h e =
+        let before : written missedDue due (rowOf line ∷ drop (i + 1) (linesOf m)) ≡ written missedDue due₀ (linesOf m) = ap (written missedDue due) (sym line-next) ∙ l .missed in
+        rw e
+        (record {
+          rise = rising-less 0 (line .radio) (drop (i + 1) (linesOf m)) (omega arith) rise-next;
+          missed = rw (at, q) before;
+          spare = spare-set (half - 1) due k a (l .spare) h;
+          size = length-set lines k (i + 1) ∙ l .size;
+          named = record { size = size; place = λ j. getD-set-le lines k (i + 1) j lineSlots (l .named .place j) (omega arith) };
+          found = named-next;
+        })

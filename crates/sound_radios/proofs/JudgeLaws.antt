@@ -1,72 +1,56 @@
--- An entry judged by two numbers: they are those of the radio's line, and say of the entry what the memo says.
-use mathlib.Core.Path.{_≡_, ap, _∙_}
+-- An entry judged by a line: the line that the table names for its radio.
+use mathlib.Core.Path.{_≡_}
 use mathlib.Core.Bool.{not}
 use mathlib.Core.List.{List}
 use mathlib.Core.Logic.{_≢_}
-use Prim.Native.Nat.{ℕ, _+_, _*_, _/_, _%_, _<_}
+use Prim.Native.Nat.{ℕ, suc, _-_, _<_}
 use native.Mathlib.Omega.{arith}
 use lib.Dec.{eqb}
 use lib.ListN.{getD}
-use borrow.Author.Tests.{eqb-true, eq-eqb, ne-eqb}
+use borrow.Author.Tests.{eq-eqb, ne-eqb}
 use Rattle.lists.specs.Tests.{one-if, both}
-use Rattle.lists.proofs.Cases.{by-cases}
+use Rattle.rules.specs.Sweep.{isAt, staleBy}
 use Rattle.entries.specs.declared.Entry.{Entry}
 use Rattle.entries.specs.Entries.{rowOf, placeOf}
 use Rattle.desk.specs.declared.Line.{Line}
+use Rattle.desk.specs.Layout.{lineSlots, noLine}
+use Rattle.desk.specs.Views.{linesIn}
 use Rattle.memo.specs.Memo.{lastOf}
-use Rattle.sound_radios.specs.Tables.{fieldEnd, kindOf, codeOf, staleCode, judged}
+use Rattle.sound_radios.specs.Tables.{Named, lineNamed, judged}
 
 -- ---- judge: the sections grow with the tests passed
 
-module _ (kind was : ℕ) (e : Entry) where
-  pub judge-no-line : kind ≡ 0 → 0 ≡ one-if (staleCode kind was (placeOf e))
-  unfolding staleCode
-  judge-no-line t = rw t
+module _ (x : Line) (e : Entry) where
+  pub judge-none : x .placed ≡ 0 → 1 ≡ one-if (not (isAt (lastOf x) (placeOf e)))
+  judge-none t = rw t
 
-  module _ (line : kind ≢ 0) where
-    pub judge-none : kind ≡ 1 → 1 ≡ one-if (staleCode kind was (placeOf e))
-    unfolding staleCode
-    judge-none t = rw t
+  module _ (placed : x .placed ≢ 0) where
+    pub judge-east : x .east ≢ e .east → 1 ≡ one-if (not (isAt (lastOf x) (placeOf e)))
+    unfolding both
+    judge-east t = rw (ne-eqb (x .placed) 0 placed, ne-eqb (x .east) (e .east) t)
 
-    module _ (placed : kind ≢ 1) {c : ℕ} (coded : c ≡ fieldEnd * e .east + e .north) (low : e .north < fieldEnd) where
-      by-place : staleCode kind was (placeOf e) ≡ not (both (eqb (was / fieldEnd) (e .east)) (eqb (was % fieldEnd) (e .north)))
-      unfolding staleCode
-      by-place = rw (ne-eqb kind 0 line, ne-eqb kind 1 placed)
+    pub judge-north : {r : ℕ} → x .east ≡ e .east → r ≡ one-if (not (eqb (x .north) (e .north))) → r ≡ one-if (not (isAt (lastOf x) (placeOf e)))
+    unfolding both
+    judge-north t q = rw (ne-eqb (x .placed) 0 placed, eq-eqb (x .east) (e .east) t) q
 
-      pub judge-here : was ≡ c → 0 ≡ one-if (staleCode kind was (placeOf e))
-      unfolding both
-      judge-here t =
-          let a : was / fieldEnd ≡ e .east = omega arith in
-          let b : was % fieldEnd ≡ e .north = omega arith in
-          rw (by-place, eq-eqb (was / fieldEnd) (e .east) a, eq-eqb (was % fieldEnd) (e .north) b)
+-- ---- judge_entry
 
-      pub judge-away : was ≢ c → 1 ≡ one-if (staleCode kind was (placeOf e))
-      unfolding both
-      judge-away t =
-          by-cases (eqb (was / fieldEnd) (e .east))
-          (λ u. by-cases (eqb (was % fieldEnd) (e .north))
-          (λ v. absurd (t (omega (arith, eqb-true (was / fieldEnd) (e .east) u, eqb-true (was % fieldEnd) (e .north) v))))
-          (λ v. rw (by-place, u, v)))
-          (λ u. rw (by-place, u))
+module _ (words lines : List ℕ) (e : Entry) {k : ℕ} (at : k ≡ e .radio) where
+  judged-at : judged words lines (rowOf e) ≡ staleBy (lineNamed words (getD lines k 0)) (placeOf e)
+  unfolding judged
+  judged-at = rw at
 
-pub judge-in : (kinds codes : List ℕ) (e : Entry) {k r : ℕ} → k ≡ e .radio → r ≡ one-if (staleCode (getD kinds k 0) (getD codes k 0) (placeOf e)) → r ≡ one-if (judged kinds codes (rowOf e))
-unfolding judged
-judge-in kinds codes e z q = q ∙ ap (λ (j : ℕ). one-if (staleCode (getD kinds j 0) (getD codes j 0) (placeOf e))) z
+  pub judge-no-line : getD lines k 0 ≡ 0 → 0 ≡ one-if (judged words lines (rowOf e))
+  judge-no-line t = rw (judged-at, t)
 
--- ---- the numbers of a line
+  module _ (line : getD lines k 0 ≢ 0) {p : ℕ} (place : p ≡ getD lines k 0) where
+    pub judge-slot : Named words lines → p - 1 < lineSlots
+    judge-slot n = omega (arith, n .place k)
 
-module _ (x : Line) where
-  pub kind-none : x .placed ≡ 0 → 1 ≡ kindOf (lastOf x)
-  kind-none t = rw t
-
-  pub kind-place : x .placed ≢ 0 → 2 ≡ kindOf (lastOf x)
-  kind-place t = rw (ne-eqb (x .placed) 0 t)
-
-  pub code-none : x .placed ≡ 0 → 0 ≡ codeOf (lastOf x)
-  code-none t = rw t
-
-  pub code-place : {c : ℕ} → x .placed ≢ 0 → c ≡ fieldEnd * x .east + x .north → c ≡ codeOf (lastOf x)
-  code-place t q = rw (ne-eqb (x .placed) 0 t) q
+    pub judge-in : {x : Line} {r : ℕ} → x ≡ getD (linesIn words) (p - 1) noLine → r ≡ one-if (not (isAt (lastOf x) (placeOf e))) → r ≡ one-if (judged words lines (rowOf e))
+    judge-in {x} {r} f q =
+        let z : getD lines k 0 ≡ suc (p - 1) = omega arith in
+        rw (judged-at, z, ← f) q
 
 -- ---- differences
 

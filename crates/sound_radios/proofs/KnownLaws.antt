@@ -1,4 +1,4 @@
--- What the tests of desk and pages have shown: that each part fits the tables, and that lines rise, have a missed count, and a place in the square if any.
+-- What the tests of desk and pages have shown: that each part fits the tables, and that lines rise and have a missed count.
 use mathlib.Core.Path.{_≡_, sym, ap}
 use mathlib.Core.Bool.{true}
 use mathlib.Core.List.{List, map}
@@ -13,14 +13,12 @@ use Rattle.lists.specs.Sums.{concat}
 use Rattle.lists.specs.Tests.{Each}
 use Rattle.lists.proofs.TestsLaws.{all-each}
 use Rattle.rules.specs.Limits.{maxCells, fullMemory}
-use Rattle.rules.specs.WellFormed.{InSquareIf}
 use Rattle.desk.specs.declared.Desk.{Desk}
 use Rattle.desk.specs.Layout.{lineSlots, directoryOf, gridOf, waitingOf, memoOf, onOf, deskOf}
 use Rattle.desk.specs.Views.{linesIn, radiosOf, slotsIn}
 use Rattle.desk.proofs.LinesLaws.{length-lines-in}
 use Rattle.memo.specs.Memo.{linesOf}
-use Rattle.mirror.specs.Radios.{lastTest, lastsTest}
-use Rattle.mirror.proofs.RadiosLaws.{on-true, memo-true, last-true}
+use Rattle.mirror.proofs.RadiosLaws.{on-true, memo-true}
 use Rattle.mirror.proofs.WaitingLaws.{waiting-true}
 use Rattle.sound_pages.specs.PagesSound.{PagesSound}
 use Rattle.waiting.specs.Waiting.{reportsOf}
@@ -40,7 +38,6 @@ pub record Known (b : List ℕ) (d : Desk) : Type 0 where
   pub rise : Rising 0 (linesOf (d .memo))
   pub lines : UpTo maxRadio (linesOf (d .memo))
   pub missed : Each (λ l. 0 < l .val .missed) (linesOf (d .memo))
-  pub lasts : Each (λ l. InSquareIf (l .val .last)) (linesOf (d .memo))
   pub reports : UpTo maxRadio (reportsOf (d .waiting))
   pub radios : UpTo maxRadio (radiosOf (d .on))
   pub on-once : (q : ℕ) → keyed q (radiosOf (d .on)) ≤ 1
@@ -59,7 +56,7 @@ module _ (b : List ℕ) (d : Desk) (shape : Shaped d) (sound : deskSound d ≡ t
       (ap (λ (x : Desk). x .grid .cells .n) e, ap (λ (x : Desk). x .memo .n) e, ap (λ (x : Desk). x .on .n) e, ap (λ (x : Desk). x .waiting .n) e)
 
   pub known : Known b d
-  unfolding slotsIn linesOf radiosOf reportsOf missedTest lastsTest
+  unfolding slotsIn linesOf radiosOf reportsOf missedTest
   known =
       let t = desk-tested d shape sound in
       let m = memo-true (linesOf (d .memo)) (t .memo) in
@@ -74,7 +71,6 @@ module _ (b : List ℕ) (d : Desk) (shape : Shaped d) (sound : deskSound d ≡ t
         rise = m .0;
         lines = m .1;
         missed = all-each (λ l. ltb 0 (l .val .missed)) (λ l. 0 < l .val .missed) (linesOf (d .memo)) (λ l e. ltb-true 0 (l .val .missed) e) (t .missed);
-        lasts = all-each (λ l. lastTest (l .val .last)) (λ l. InSquareIf (l .val .last)) (linesOf (d .memo)) (λ l e. last-true (l .val .last) e) (t .lasts);
         reports = w .2;
         radios = o .2;
         on-once = λ q. one-row q (radiosOf (d .on)) (o .1);

@@ -6,7 +6,7 @@ use Prim.Native.Nat.{ℕ, _-_, _≤_}
 use native.Mathlib.Omega.{arith}
 use lib.ListN.{length, getD, take}
 use Rattle.terms.specs.Terms.{Place, maxRadio, maxOn}
-use Rattle.lists.specs.Rows.{Row, Rows, UpTo}
+use Rattle.lists.specs.Rows.{Row, Rows, Rising, UpTo}
 use Rattle.lists.specs.Sums.{concat}
 use Rattle.lists.specs.Tests.{both}
 use Rattle.lists.proofs.TestsLaws.{not-true, not-false}
@@ -21,9 +21,9 @@ use Rattle.mirror.specs.Radios.{onAt, presentTest, linesTest}
 use Rattle.mirror.specs.Round.{staleCount, staleCounts, boundTest}
 use Rattle.waiting.specs.Waiting.{reportsOf}
 use Rattle.sound_radios.specs.Entries.{rowsRead, entriesTest}
-use Rattle.sound_radios.specs.Tables.{half, Spare, Fits, added, written, lastKind, lastCode, judged, weigh, markNew, missedDue, each, staleSum, sameTables}
+use Rattle.sound_radios.specs.Tables.{half, Blank, Spare, Fits, added, written, Named, weigh, markNew, missedDue, each, staleSum, sameTables}
 use Rattle.sound_radios.proofs.KnownLaws.{Known}
-use Rattle.sound_radios.proofs.TestLaws.{Blank, judged-stale, passing-le, new-low, found-counts, due-counts, same-tests}
+use Rattle.sound_radios.proofs.TestLaws.{passing-le, new-low, found-counts, due-counts, same-tests}
 
 stops : (a b c : Bool) → both a b ≡ false → false ≡ both a (both b c)
 unfolding both
@@ -39,18 +39,20 @@ goes false false c e = cc
 module _ {b : List ℕ} {d : Desk} (k : Known b d) where
   -- ---- what the calls ask
 
-  pub lines-asks : {z : List ℕ} → Blank z → (d .memo .n ≤ lineSlots) × UpTo maxRadio (linesOf (d .memo)) × Spare (half - 1) z
-  lines-asks z = (k .few-lines, k .lines, record { room = λ q. omega (arith, z .zero q) })
+  pub lines-asks : {z : List ℕ} → Blank z → (d .memo .n ≤ lineSlots) × Rising 0 (linesOf (d .memo)) × UpTo maxRadio (linesOf (d .memo)) × Spare (half - 1) z × Blank z
+  lines-asks z = (k .few-lines, k .rise, k .lines, record { room = λ q. omega (arith, z .zeros q) }, z)
 
   pub on-asks : {t : List ℕ} → Spare (half - 1) t → (d .on .n ≤ maxOn) × Fits 1 t (radiosOf (d .on))
   on-asks s = (k .few-on, record { radios = k .radios; room = λ q. omega (arith, s .room q, k .on-once q) })
 
   pub new-asks : {z : List ℕ} → Blank z → (d .waiting .n ≤ fullMemory) × Fits 1 z (reportsOf (d .waiting))
-  new-asks z = (k .few-waiting, record { radios = k .reports; room = λ q. omega (arith, z .zero q, passing-le (λ _. true) q (reportsOf (d .waiting)), k .waits, k .few-waiting) })
+  new-asks z = (k .few-waiting, record { radios = k .reports; room = λ q. omega (arith, z .zeros q, passing-le (λ _. true) q (reportsOf (d .waiting)), k .waits, k .few-waiting) })
 
-  pub cells-asks : {z t : List ℕ} → Blank z → t ≡ added markNew z (reportsOf (d .waiting)) → (d .grid .cells .n ≤ maxCells) × Fits half t (concat (rowsRead b (d .grid .cells)))
-  cells-asks {z} {t} y e = (
+  pub cells-asks : {words lines z t : List ℕ} → Named words lines → Blank z → t ≡ added markNew z (reportsOf (d .waiting))
+      → (d .grid .cells .n ≤ maxCells) × Named words lines × Fits half t (concat (rowsRead b (d .grid .cells)))
+  cells-asks {words} {lines} {z} {t} n y e = (
     k .few-cells,
+    n,
     record {
       radios = k .entries;
       room = λ q. omega (arith, ap (λ (u : List ℕ). getD u q 0) e, new-low y (reportsOf (d .waiting)) (k .reports) q, k .waits, k .few-waiting, k .once q);
@@ -74,21 +76,18 @@ module _ {b : List ℕ} {d : Desk} (k : Known b d) where
   abbrev rows : List (Rows Place)
   rows = rowsRead b (d .grid .cells)
 
-  module _ {z z′ z″ z‴ missed kinds codes due new found : List ℕ} (counts : List ℕ) {same : Bool} (blank : Blank z) (blank′ : Blank z′) (blank″ : Blank z″) (blank‴ : Blank z‴)
-      (all-missed : missed ≡ written missedDue z (linesOf (d .memo))) (all-kinds : kinds ≡ written lastKind z′ (linesOf (d .memo))) (all-codes : codes ≡ written lastCode z″ (linesOf (d .memo)))
-      (all-due : due ≡ added each missed (radiosOf (d .on))) (all-new : new ≡ added markNew z‴ (reportsOf (d .waiting)))
-      (all-found : found ≡ added (weigh (judged kinds codes)) new (concat (rowsRead b (d .grid .cells))))
-      (all-stale : take (d .grid .cells .n) counts ≡ map (staleSum (judged kinds codes)) (rowsRead b (d .grid .cells)))
+  module _ {z z′ missed due new found : List ℕ} {old : Row Place → Bool} (counts : List ℕ) {same : Bool} (blank : Blank z) (blank′ : Blank z′)
+      (all-missed : missed ≡ written missedDue z (linesOf (d .memo))) (as-memo : old ≡ stale (linesOf (d .memo)))
+      (all-due : due ≡ added each missed (radiosOf (d .on))) (all-new : new ≡ added markNew z′ (reportsOf (d .waiting)))
+      (all-found : found ≡ added (weigh old) new (concat (rowsRead b (d .grid .cells))))
+      (all-stale : take (d .grid .cells .n) counts ≡ map (staleSum old) (rowsRead b (d .grid .cells)))
       (said : same ≡ sameTables due found) where
-    as-memo : judged kinds codes ≡ stale lines
-    as-memo = judged-stale lines (k .rise) (k .lines) (k .lasts) blank′ blank″ all-kinds all-codes
-
     tests : sameTables due found ≡ both (presentTest lines (concat rows) waits heard) (linesTest lines (concat rows))
     unfolding onAt
     tests =
         same-tests lines (concat rows) waits heard (k .once) (omega (arith, k .waits, k .few-waiting)) (k .on-once) due found
         (due-counts lines (k .rise) (k .lines) heard (k .radios) blank (all-due ∙ ap (λ (t : List ℕ). added each t heard) all-missed))
-        (found-counts lines (concat rows) waits (k .entries) (k .reports) blank‴
+        (found-counts lines (concat rows) waits (k .entries) (k .reports) blank′
         (all-found ∙ ap₂ (λ (old : Row Place → Bool) (t : List ℕ). added (weigh old) t (concat rows)) as-memo all-new))
         (k .rise) (k .lines) (k .missed)
 

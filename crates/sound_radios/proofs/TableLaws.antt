@@ -33,7 +33,7 @@ module _ {A B : Type 0} (f : A → B) (xs : List A) (n i : ℕ) where
 
 -- ---- one store
 
-getD-set-le : (t : List ℕ) (k v q b : ℕ) → getD t q 0 ≤ b → v ≤ b → getD (set t k v) q 0 ≤ b
+pub getD-set-le : (t : List ℕ) (k v q b : ℕ) → getD t q 0 ≤ b → v ≤ b → getD (set t k v) q 0 ≤ b
 getD-set-le [] k v q b h g = h
 getD-set-le (x ∷ t) zero v zero b h g = g
 getD-set-le (x ∷ t) zero v (suc q) b h g = h

@@ -1,9 +1,9 @@
 -- The theorem: what is found of every radio is what is due exactly if the tests of the entries pass, for each number holds two counts that do not meet.
-use mathlib.Core.Path.{_≡_, refl, sym, ap, ap₂, _∙_}
-use mathlib.Core.Bool.{Bool, true, false, not, cond}
+use mathlib.Core.Path.{_≡_, refl, sym, ap, _∙_}
+use mathlib.Core.Bool.{Bool, true, not, cond}
 use mathlib.Core.List.{List}
 use mathlib.Core.Option.{Option, none, some}
-use Prim.Native.Nat.{ℕ, zero, suc, _+_, _-_, _*_, _/_, _%_, _≤_, _<_, min}
+use Prim.Native.Nat.{ℕ, zero, suc, _+_, _-_, _*_, _≤_, _<_, min}
 use native.Mathlib.Omega.{arith}
 use lib.Dec.{eqb}
 use lib.ListN.{length, getD, replicate, length-replicate}
@@ -13,25 +13,20 @@ use Rattle.lists.specs.Rows.{Row, Rows, Rising, UpTo, find, countFound}
 use Rattle.lists.specs.Sums.{sumBy}
 use Rattle.lists.specs.Tests.{one-if, both, Each}
 use Rattle.lists.proofs.Cases.{by-cases}
-use Rattle.lists.proofs.RowsLaws.{sum-at-key, each-find, find-each}
+use Rattle.lists.proofs.RowsLaws.{sum-at-key, find-each}
 use Rattle.lists.proofs.SumsLaws.{sum-ext, sum-add, sum-times, sum-le, length-sum}
 use Rattle.lists.proofs.TestsLaws.{both-left, both-right, both-intro, one-if-le, each-map, each-all, each-zip}
 use Rattle.rules.specs.Limits.{maxCells, fullMemory}
 use Rattle.rules.specs.Store.{Report, Line}
-use Rattle.rules.specs.Sweep.{stale, staleBy, isAt}
-use Rattle.rules.specs.WellFormed.{InSquareIf}
+use Rattle.rules.specs.Sweep.{stale}
 use Rattle.mirror.specs.Loops.{passing}
 use Rattle.mirror.specs.Radios.{liveAt, staleAt, newAt, onAt, entriesAt, presentTest, lineTest, linesTest, missedAt}
 use Rattle.mirror.proofs.LoopsLaws.{bool-same, allTo-true, true-allTo}
 use Rattle.mirror.proofs.RadiosLaws.{stale-live, stale-missed}
-use Rattle.sound_radios.specs.Tables.{tableSize, fieldEnd, half, keyed, added, written, kindOf, codeOf, lastKind, lastCode, staleCode, judged, weigh, markNew, missedDue, each, sameTables}
+use Rattle.sound_radios.specs.Tables.{tableSize, half, Blank, keyed, added, written, weigh, markNew, missedDue, each, sameTables}
 use Rattle.sound_radios.proofs.TableLaws.{share, added-sum, foundOr, written-found, length-added, length-written}
 
 -- ---- a table of zeros
-
-pub record Blank (t : List ℕ) : Type 0 where
-  pub size : length t ≡ tableSize
-  pub zero : (q : ℕ) → getD t q 0 ≡ 0
 
 zero-at : (n q : ℕ) → getD (replicate {A = ℕ} n 0) q 0 ≡ 0
 zero-at zero q = refl
@@ -39,40 +34,10 @@ zero-at (suc n) zero = refl
 zero-at (suc n) (suc q) = zero-at n q
 
 pub blank-zeros : Blank (replicate {A = ℕ} tableSize 0)
-blank-zeros = record { size = length-replicate {A = ℕ} tableSize 0; zero = zero-at tableSize }
-
--- ---- the memo's judgement
-
--- the numbers of a line, or of none
-judge-line : (r : ℕ) (o : Option Line) (p : Place) → ((l : Line) → o ≡ some l → InSquareIf (l .last)) → staleCode (foundOr lastKind r 0 o) (foundOr lastCode r 0 o) p ≡ staleBy o p
-unfolding staleCode
-judge-line r none p h = refl
-judge-line r (some l) p h = judge (l .last) (h l refl)
-  where
-    judge : (o : Option Place) → InSquareIf o → cond (eqb (kindOf o) 0) false (cond (eqb (kindOf o) 1) true (not (both (eqb (codeOf o / fieldEnd) (p .east)) (eqb (codeOf o % fieldEnd) (p .north))))) ≡ not (isAt o p)
-    judge none k = refl
-    judge (some q) k =
-        let a : (fieldEnd * q .east + q .north) / fieldEnd ≡ q .east = omega (arith, k .1) in
-        let b : (fieldEnd * q .east + q .north) % fieldEnd ≡ q .north = omega (arith, k .1) in
-        ap₂ (λ (x y : ℕ). not (both (eqb x (p .east)) (eqb y (p .north)))) a b
+blank-zeros = record { size = length-replicate {A = ℕ} tableSize 0; zeros = zero-at tableSize }
 
 in-table : {Val : Type 0} (t : List ℕ) (l : Rows Val) → length t ≡ tableSize → UpTo maxRadio l → Each (λ x. x .key < length t) l
 in-table t l e u = each-map (λ x. x .key ≤ maxRadio) (λ x. x .key < length t) l (λ x h. omega (arith, e, h)) u
-
-module _ (memo : Rows Line) (rise : Rising 0 memo) (ends : UpTo maxRadio memo) where
-  -- a table that each line has written its number to
-  line-number : (v : Row Line → ℕ) {z t : List ℕ} → Blank z → t ≡ written v z memo → (q : ℕ) → getD t q 0 ≡ foundOr v q 0 (find memo q)
-  line-number v {z} {t} k e q =
-      ap (λ (y : List ℕ). getD y q 0) e ∙ written-found v z 0 memo q rise (in-table z memo (k .size) ends) ∙ ap (λ (n : ℕ). foundOr v q n (find memo q)) (k .zero q)
-
-  pub judged-stale : Each (λ l. InSquareIf (l .val .last)) memo → {z y kinds codes : List ℕ} → Blank z → Blank y → kinds ≡ written lastKind z memo → codes ≡ written lastCode y memo
-      → judged kinds codes ≡ stale memo
-  unfolding judged
-  judged-stale placed {z} {y} {kinds} {codes} a b e f =
-      let same : (x : Row Place) → judged kinds codes x ≡ stale memo x = λ x.
-      ap₂ (λ (k c : ℕ). staleCode k c (x .val)) (line-number lastKind a e (x .key)) (line-number lastCode b f (x .key))
-      ∙ judge-line (x .key) (find memo (x .key)) (x .val) (λ l g. each-find (λ _ l. InSquareIf (l .last)) (x .key) l memo placed g) in
-      λ i x. same x i
 
 -- ---- two counts in one number
 
@@ -97,7 +62,7 @@ share-weight old q es =
 -- ---- what is found
 
 pub new-low : {z : List ℕ} → Blank z → (ws : Rows Report) → UpTo maxRadio ws → (q : ℕ) → getD (added markNew z ws) q 0 ≤ length ws
-new-low {z} k ws u q = omega (arith, added-sum markNew z ws q (in-table z ws (k .size) u), k .zero q, share-one (λ w. w .val .new) q ws, passing-le (λ w. w .val .new) q ws)
+new-low {z} k ws u q = omega (arith, added-sum markNew z ws q (in-table z ws (k .size) u), k .zeros q, share-one (λ w. w .val .new) q ws, passing-le (λ w. w .val .new) q ws)
 
 module _ (memo : Rows Line) (es : Rows Place) (ws : Rows Report) (radios : UpTo maxRadio es) (reports : UpTo maxRadio ws) {z : List ℕ} (blank : Blank z) where
   pub found-counts : {t : List ℕ} → t ≡ added (weigh (stale memo)) (added markNew z ws) es → (q : ℕ) → getD t q 0 ≡ liveAt memo q es + newAt q ws + half * staleAt memo q es
@@ -110,7 +75,7 @@ module _ (memo : Rows Line) (es : Rows Place) (ws : Rows Report) (radios : UpTo 
         ap (λ (u : List ℕ). getD u q 0) e,
         added-sum (weigh (stale memo)) y es q (in-table y es l radios),
         added-sum markNew z ws q (in-table z ws (blank .size) reports),
-        blank .zero q,
+        blank .zeros q,
         share-one (λ w. w .val .new) q ws,
         share-weight (stale memo) q es,
       )
@@ -139,7 +104,8 @@ module _ (memo : Rows Line) (rise : Rising 0 memo) (ends : UpTo maxRadio memo) w
         arith,
         ap (λ (u : List ℕ). getD u q 0) e,
         added-sum each y on q (in-table y on l u),
-        line-number memo rise ends missedDue k refl q,
+        written-found missedDue z 0 memo q rise (in-table z memo (k .size) ends),
+        ap (λ (n : ℕ). foundOr missedDue q n (find memo q)) (k .zeros q),
         due-found q (find memo q),
         missed-found q,
         share-one (λ _. true) q on,

@@ -1,15 +1,20 @@
 -- Tables by radio, a number for each: what the code of the test keeps, and what it answers from them.
-use mathlib.Core.Bool.{Bool, true, false, not, cond}
+use mathlib.Core.Path.{_≡_}
+use mathlib.Core.Bool.{Bool, true, false}
 use mathlib.Core.List.{List, [], _∷_}
 use mathlib.Core.Option.{Option, none, some}
-use Prim.Native.Nat.{ℕ, suc, _+_, _-_, _*_, _/_, _%_, _<_, min}
+use Prim.Native.Nat.{ℕ, zero, suc, _+_, _-_, _*_, _≤_, _<_, min}
 use lib.Dec.{eqb}
-use lib.ListN.{getD, set}
+use lib.ListN.{length, getD, set}
 use Rattle.terms.specs.Terms.{Place, maxRadio}
 use Rattle.lists.specs.Rows.{Row, Rows, UpTo}
 use Rattle.lists.specs.Sums.{sumBy}
-use Rattle.lists.specs.Tests.{one-if, both}
+use Rattle.lists.specs.Tests.{one-if}
 use Rattle.rules.specs.Store.{Report, Line}
+use Rattle.rules.specs.Sweep.{staleBy}
+use Rattle.desk.specs.Layout.{lineSlots, lineFields, noLine}
+use Rattle.desk.specs.Views.{linesIn}
+use Rattle.memo.specs.Memo.{rowOf}
 use Rattle.mirror.specs.Loops.{allTo, passing}
 
 -- a number for each radio, and one for 0
@@ -19,6 +24,11 @@ tableSize = suc maxRadio
 -- the least number that 16 bits do not hold
 abbrev pub fieldEnd : ℕ
 fieldEnd = 65536
+
+-- a table of zeros
+pub record Blank (t : List ℕ) : Type 0 where
+  pub size : length t ≡ tableSize
+  pub zeros : (q : ℕ) → getD t q 0 ≡ 0
 
 -- each number of the table may grow by n and still has room in 16 bits
 pub record Spare (n : ℕ) (t : List ℕ) : Type 0 where
@@ -48,31 +58,21 @@ module _ {Val : Type 0} where
 unfoldable pub sameTables : List ℕ → List ℕ → Bool
 sameTables a b = allTo tableSize (λ q. eqb (getD a q 0) (getD b q 0))
 
--- ---- a line's place as numbers
+-- ---- an entry, judged by its radio's line
 
--- of a line with "none", and of one with a place; 0 is for no line
-abbrev pub kindOf : Option Place → ℕ
-kindOf none = 1
-kindOf (some p) = 2
+-- the line at a place in the memo that counts from 1; 0 is for no line
+abbrev pub lineNamed : List ℕ → ℕ → Option Line
+lineNamed words zero = none
+lineNamed words (suc k) = some (rowOf (getD (linesIn words) k noLine) .val)
 
--- both coordinates in one number
-abbrev pub codeOf : Option Place → ℕ
-codeOf none = 0
-codeOf (some p) = fieldEnd * p .east + p .north
+-- each number of the table is such a place
+pub record Named (words lines : List ℕ) : Type 0 where
+  pub size : length words ≡ lineFields * lineSlots
+  pub place : (q : ℕ) → getD lines q 0 ≤ lineSlots
 
-abbrev pub lastKind : Row Line → ℕ
-lastKind l = kindOf (l .val .last)
-
-abbrev pub lastCode : Row Line → ℕ
-lastCode l = codeOf (l .val .last)
-
--- stale by these two numbers: there is a line "with another place or none"
-unfoldable pub staleCode : ℕ → ℕ → Place → Bool
-staleCode kind code p = cond (eqb kind 0) false (cond (eqb kind 1) true (not (both (eqb (code / fieldEnd) (p .east)) (eqb (code % fieldEnd) (p .north)))))
-
--- the same of an entry, by its radio's numbers in the tables
+-- stale by the line that the table names: there is one "with another place or none"
 unfoldable pub judged : List ℕ → List ℕ → Row Place → Bool
-judged kinds codes e = staleCode (getD kinds (e .key) 0) (getD codes (e .key) 0) (e .val)
+judged words lines e = staleBy (lineNamed words (getD lines (e .key) 0)) (e .val)
 
 -- ---- what is found of a radio, and what is due: two counts in one number
 

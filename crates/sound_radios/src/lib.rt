@@ -7,12 +7,13 @@ ghost use Prim.Native.Nat.{_+_, _-_, _*_, _<_, _≤_, min};
 ghost use lib.Dec.{eqb};
 ghost use lib.ListN.{length, take};
 ghost use Rattle.terms.specs.Terms.{maxRadio, maxOn, pageEntries};
-ghost use Rattle.lists.specs.Rows.{UpTo};
+ghost use Rattle.lists.specs.Rows.{Rising, UpTo};
 ghost use Rattle.lists.specs.Sums.{concat};
 ghost use Rattle.lists.specs.Tests.{one-if};
 ghost use Rattle.entries.specs.Entries.{rowOf, placeOf};
 ghost use Rattle.page.specs.Page.{pageBytes, entries};
 ghost use Rattle.rules.specs.Limits.{maxCells, fullMemory, sweepEvery};
+ghost use Rattle.rules.specs.Sweep.{isAt, stale};
 ghost use Rattle.desk.specs.Layout.{lineSlots, lineFields};
 ghost use Rattle.desk.specs.Views.{radiosOf};
 ghost use Rattle.memo.specs.Memo.{lastOf, linesOf};
@@ -21,7 +22,7 @@ ghost use Rattle.sound_pages.specs.PagesSound.{PagesSound};
 ghost use Rattle.waiting.specs.Waiting.{reportsOf};
 ghost use Rattle.sound_desk.specs.Sound.{deskSound};
 ghost use Rattle.sound_radios.specs.Entries.{entriesFrom, rowsRead, entriesTest};
-ghost use Rattle.sound_radios.specs.Tables.{tableSize, fieldEnd, half, Spare, added, written, Fits, sameTables, kindOf, codeOf, lastKind, lastCode, staleCode, judged, weigh, markNew, missedDue, each, staleSum};
+ghost use Rattle.sound_radios.specs.Tables.{tableSize, fieldEnd, half, Blank, Spare, added, written, Fits, sameTables, Named, judged, weigh, markNew, missedDue, each, staleSum};
 use desk::Desk;
 use desk::Directory;
 use desk::Grid;
@@ -40,24 +41,12 @@ const CELLS: usize = Desk::MAX_CELLS;
 // What counts in the high half of a number by radio.
 const HALF: u16 = 256;
 
-// East counts so much in a place's code.
-const FIELD: u32 = 65536;
-
-const NO_LINE: u8 = 0;
-
-const NO_PLACE: u8 = 1;
-
-const PLACE: u8 = 2;
+// Where a radio's line stands in the memo counts from 1.
+const NO_LINE: u16 = 0;
 
 const UNMARKED: u16 = 0;
 
 // ---- numbers
-
-fn wide(x: u16) -> u32
-    ensures { λ r. ⌜ (r ≡ x) × (r < fieldEnd) ⌝ }
-{
-    x as u32
-}
 
 fn long(x: u16) -> usize
     ensures { λ r. ⌜ (r ≡ x) × (r < fieldEnd) ⌝ }
@@ -74,36 +63,30 @@ fn radio_index(radio: u16) -> usize
 
 // ---- an entry, judged
 
-// Both coordinates in one number.
-fn code(east: u16, north: u16) -> u32
-    ensures { λ r. ⌜ (r ≡ fieldEnd * east + north) × (north < fieldEnd) ⌝ }
+// 1 if a line has another place than the entry or none, else 0.
+fn judge(x: Line, e: Entry) -> u16
+    ensures { λ r. ⌜ (r ≡ one-if (not (isAt (lastOf x) (placeOf e)))) × (r ≤ 1) ⌝ }
 {
-    FIELD * wide(east) + wide(north)
-}
-
-// 1 if an entry is stale by its radio's numbers, else 0.
-fn judge(kind: u8, was: u32, e: Entry) -> u16
-    ensures { λ r. ⌜ (r ≡ one-if (staleCode kind was (placeOf e))) × (r ≤ 1) ⌝ }
-{
-    if kind == NO_LINE {
-        return 0;
-    }
-    if kind == NO_PLACE {
+    if x.placed == 0 {
         return 1;
     }
-    if was == code(e.east, e.north) {
-        return 0;
+    if x.east != e.east {
+        return 1;
     }
-    1
+    apart(x.north, e.north)
 }
 
-// 1 if an entry is stale by the tables, else 0.
-fn judge_entry<'a>(e: Entry, kinds: &'a [u8; RADIOS], codes: &'a [u32; RADIOS]) -> u16
-    requires { ⌜ e .radio ≤ maxRadio ⌝ }
-    ensures { λ r. ⌜ (r ≡ one-if (judged (now (kinds .entry)) (now (codes .entry)) (rowOf e))) × (r ≤ 1) ⌝ }
+// 1 if an entry is stale by the line that the table names, else 0.
+fn judge_entry<'a>(e: Entry, words: &'a [u16; Desk::MEMO_WORDS], lines: &'a [u16; RADIOS]) -> u16
+    requires { ⌜ (e .radio ≤ maxRadio) × Named (now words) (now lines) ⌝ }
+    ensures { λ r. ⌜ (r ≡ one-if (judged (now (words .entry)) (now (lines .entry)) (rowOf e))) × (r ≤ 1) ⌝ }
 {
     let k = radio_index(e.radio);
-    judge(kinds[k], codes[k], e)
+    let place = lines[k];
+    if place == NO_LINE {
+        return 0;
+    }
+    judge(desk::line_at(words, long(place) - 1), e)
 }
 
 // ---- what is found
@@ -119,19 +102,19 @@ fn weight(stale: u16) -> u16
 // The entries of a page are added to what is found; how many of them are stale.
 fn tally_page<'a>(
     page: &'a [u8],
-    kinds: &'a [u8; RADIOS],
-    codes: &'a [u32; RADIOS],
+    words: &'a [u16; Desk::MEMO_WORDS],
+    lines: &'a [u16; RADIOS],
     found: &'a mut [u16; RADIOS],
 ) -> u16
-    requires { ⌜ (length (now page) ≡ pageBytes) × Fits half (now found) (entries (now page)) ⌝ }
-    ensures { λ r. ⌜ (now (found .exit) ≡ added (weigh (judged (now (kinds .entry)) (now (codes .entry)))) (now (found .entry)) (entries (now (page .entry)))) × (r ≡ staleSum (judged (now (kinds .entry)) (now (codes .entry))) (entries (now (page .entry)))) × (r ≤ pageEntries) ⌝ }
+    requires { ⌜ (length (now page) ≡ pageBytes) × Named (now words) (now lines) × Fits half (now found) (entries (now page)) ⌝ }
+    ensures { λ r. ⌜ (now (found .exit) ≡ added (weigh (judged (now (words .entry)) (now (lines .entry)))) (now (found .entry)) (entries (now (page .entry)))) × (r ≡ staleSum (judged (now (words .entry)) (now (lines .entry))) (entries (now (page .entry)))) × (r ≤ pageEntries) ⌝ }
 {
     let n = page::entry_count(page);
     let mut sum: u16 = 0;
     let mut i: usize = 0;
     while i < n {
         let e = page::read_entry(page, i);
-        let stale = judge_entry(e, kinds, codes);
+        let stale = judge_entry(e, words, lines);
         let k = radio_index(e.radio);
         let before = found[k];
         found[k] = before + weight(stale);
@@ -145,12 +128,12 @@ fn tally_page<'a>(
 fn tally_chain<'a>(
     pages: &'a [u8],
     first: u16,
-    kinds: &'a [u8; RADIOS],
-    codes: &'a [u32; RADIOS],
+    words: &'a [u16; Desk::MEMO_WORDS],
+    lines: &'a [u16; RADIOS],
     found: &'a mut [u16; RADIOS],
 ) -> u16
-    requires { ⌜ Fits half (now found) (entriesFrom (now pages) first) ⌝ }
-    ensures { λ r. ⌜ (now (found .exit) ≡ added (weigh (judged (now (kinds .entry)) (now (codes .entry)))) (now (found .entry)) (entriesFrom (now (pages .entry)) first)) × (r ≡ staleSum (judged (now (kinds .entry)) (now (codes .entry))) (entriesFrom (now (pages .entry)) first)) ⌝ }
+    requires { ⌜ Named (now words) (now lines) × Fits half (now found) (entriesFrom (now pages) first) ⌝ }
+    ensures { λ r. ⌜ (now (found .exit) ≡ added (weigh (judged (now (words .entry)) (now (lines .entry)))) (now (found .entry)) (entriesFrom (now (pages .entry)) first)) × (r ≡ staleSum (judged (now (words .entry)) (now (lines .entry))) (entriesFrom (now (pages .entry)) first)) ⌝ }
 {
     let mut sum: u16 = 0;
     let mut p = first;
@@ -160,7 +143,7 @@ fn tally_chain<'a>(
             return sum;
         }
         let page = page::page_at(pages, long(p));
-        sum = sum + tally_page(page, kinds, codes, found);
+        sum = sum + tally_page(page, words, lines, found);
         p = page::next_page(pages, p);
         fuel -= 1;
     }
@@ -171,19 +154,19 @@ fn tally_chain<'a>(
 fn tally_cells<'a>(
     pages: &'a [u8],
     cells: Directory,
-    kinds: &'a [u8; RADIOS],
-    codes: &'a [u32; RADIOS],
+    words: &'a [u16; Desk::MEMO_WORDS],
+    lines: &'a [u16; RADIOS],
     found: &'a mut [u16; RADIOS],
 ) -> [u16; CELLS]
-    requires { ⌜ (cells .n ≤ maxCells) × Fits half (now found) (concat (rowsRead (now pages) cells)) ⌝ }
-    ensures { λ r. ⌜ (now (found .exit) ≡ added (weigh (judged (now (kinds .entry)) (now (codes .entry)))) (now (found .entry)) (concat (rowsRead (now (pages .entry)) cells))) × (take (cells .n) r ≡ map (staleSum (judged (now (kinds .entry)) (now (codes .entry)))) (rowsRead (now (pages .entry)) cells)) ⌝ }
+    requires { ⌜ (cells .n ≤ maxCells) × Named (now words) (now lines) × Fits half (now found) (concat (rowsRead (now pages) cells)) ⌝ }
+    ensures { λ r. ⌜ (now (found .exit) ≡ added (weigh (judged (now (words .entry)) (now (lines .entry)))) (now (found .entry)) (concat (rowsRead (now (pages .entry)) cells))) × (take (cells .n) r ≡ map (staleSum (judged (now (words .entry)) (now (lines .entry)))) (rowsRead (now (pages .entry)) cells)) ⌝ }
 {
     let mut counts = [0u16; CELLS];
     let n = cells.n;
     let mut i: usize = 0;
     while i < n {
         let s = cells.slots[i];
-        counts[i] = tally_chain(pages, s.first, kinds, codes, found);
+        counts[i] = tally_chain(pages, s.first, words, lines, found);
         i += 1;
     }
     counts
@@ -221,39 +204,29 @@ fn missed_due(x: Line) -> u16
     HALF * clipped(x.missed)
 }
 
-fn kind_of(x: Line) -> u8
-    ensures { λ r. ⌜ r ≡ kindOf (lastOf x) ⌝ }
+fn place_from_one(i: usize) -> u16
+    requires { ⌜ i < lineSlots ⌝ }
+    ensures { λ r. ⌜ r ≡ i + 1 ⌝ }
 {
-    if x.placed == 0 { NO_PLACE } else { PLACE }
+    (i + 1) as u16
 }
 
-fn code_of(x: Line) -> u32
-    ensures { λ r. ⌜ r ≡ codeOf (lastOf x) ⌝ }
-{
-    if x.placed == 0 {
-        return 0;
-    }
-    code(x.east, x.north)
-}
-
-// Each line writes its missed count, and its place in two numbers.
+// Each line writes its missed count, and where it stands.
 fn lines_due<'a>(
     words: &'a [u16; Desk::MEMO_WORDS],
     n: usize,
     due: &'a mut [u16; RADIOS],
-    kinds: &'a mut [u8; RADIOS],
-    codes: &'a mut [u32; RADIOS],
+    lines: &'a mut [u16; RADIOS],
 )
-    requires { ⌜ (length (now words) ≡ lineFields * lineSlots) × (n ≤ lineSlots) × UpTo maxRadio (linesOf (record { n = n; words = now words })) × Spare (half - 1) (now due) ⌝ }
-    ensures { λ _. ⌜ (now (due .exit) ≡ written missedDue (now (due .entry)) (linesOf (record { n = n; words = now (words .entry) }))) × (now (kinds .exit) ≡ written lastKind (now (kinds .entry)) (linesOf (record { n = n; words = now (words .entry) }))) × (now (codes .exit) ≡ written lastCode (now (codes .entry)) (linesOf (record { n = n; words = now (words .entry) }))) × Spare (half - 1) (now (due .exit)) ⌝ }
+    requires { ⌜ (length (now words) ≡ lineFields * lineSlots) × (n ≤ lineSlots) × Rising 0 (linesOf (record { n = n; words = now words })) × UpTo maxRadio (linesOf (record { n = n; words = now words })) × Spare (half - 1) (now due) × Blank (now lines) ⌝ }
+    ensures { λ _. ⌜ (now (due .exit) ≡ written missedDue (now (due .entry)) (linesOf (record { n = n; words = now (words .entry) }))) × Spare (half - 1) (now (due .exit)) × Named (now (words .entry)) (now (lines .exit)) × (judged (now (words .entry)) (now (lines .exit)) ≡ stale (linesOf (record { n = n; words = now (words .entry) }))) ⌝ }
 {
     let mut i: usize = 0;
     while i < n {
         let x = desk::line_at(words, i);
         let k = radio_index(x.radio);
         due[k] = missed_due(x);
-        kinds[k] = kind_of(x);
-        codes[k] = code_of(x);
+        lines[k] = place_from_one(i);
         i += 1;
     }
 }
@@ -333,14 +306,13 @@ pub fn radios_sound<'a>(
     ensures { λ r. ⌜ r ≡ entriesTest (linesOf (record { n = n; words = now (words .entry) })) (reportsOf waiting) (radiosOf on) tally (rowsRead (now (pages .entry)) (grid .cells)) ⌝ }
 {
     let mut due = [0u16; RADIOS];
-    let mut kinds = [0u8; RADIOS];
-    let mut codes = [0u32; RADIOS];
-    lines_due(words, n, &mut due, &mut kinds, &mut codes);
+    let mut lines = [0u16; RADIOS];
+    lines_due(words, n, &mut due, &mut lines);
     on_due(on, &mut due);
     let mut found = [0u16; RADIOS];
     tally_new(waiting, &mut found);
     let cells = grid.cells;
-    let counts = tally_cells(pages, cells, &kinds, &codes, &mut found);
+    let counts = tally_cells(pages, cells, words, &lines, &mut found);
     if !same(&due, &found) {
         return false;
     }

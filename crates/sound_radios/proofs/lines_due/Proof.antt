@@ -1,4 +1,4 @@
--- The lines so far are written (`LinesDue`).
+-- The lines so far are written and named (`LinesDue`).
 use Prim.Native.Nat.{_-_, _≤_}
 use Rattle.sound_radios.proofs.DueLaws.{LinesDue, lines-start, line-radio, lines-turn, lines-end}
 use borrow.Author.Needs.{needs}
@@ -6,10 +6,10 @@ use Rattle.sound_radios.proofs.lines_due.Statement.{statement}
 use Rattle.sound_radios.proofs.lines_due.Tie as tie
 
 abbrev Inv-loop : tie.InvT-loop
-Inv-loop words n due₀ kinds₀ codes₀ i₀ due kinds codes i = (i ≤ n) × LinesDue (record { n = n; words = words }) due₀ kinds₀ codes₀ i due kinds codes
+Inv-loop words n due₀ lines₀ i₀ due lines i = (i ≤ n) × LinesDue (record { n = n; words = words }) due₀ i due lines
 
 abbrev μ-loop : tie.MeasureT-loop
-μ-loop words n due₀ kinds₀ codes₀ i₀ due kinds codes i = n - i
+μ-loop words n due₀ lines₀ i₀ due lines i = n - i
 
 loop-holds : tie.Need-loop-holds Inv-loop μ-loop
 loop-holds c = (search needs, search lines-start)
@@ -29,20 +29,14 @@ mul-due c = search needs
 element-write-due : tie.Need-element-write-due Inv-loop μ-loop
 element-write-due c = search needs
 
-kind-of-requires : tie.Need-kind-of-requires Inv-loop μ-loop
-kind-of-requires c κs = search needs
+place-from-one-requires : tie.Need-place-from-one-requires Inv-loop μ-loop
+place-from-one-requires c κs = search needs
 
-element-write-kinds : tie.Need-element-write-kinds Inv-loop μ-loop
-element-write-kinds c = search needs
+mul-lines : tie.Need-mul-lines Inv-loop μ-loop
+mul-lines c = search needs
 
-code-of-requires : tie.Need-code-of-requires Inv-loop μ-loop
-code-of-requires c κs = search needs
-
-mul-codes : tie.Need-mul-codes Inv-loop μ-loop
-mul-codes c = search needs
-
-element-write-codes : tie.Need-element-write-codes Inv-loop μ-loop
-element-write-codes c = search needs
+element-write-lines : tie.Need-element-write-lines Inv-loop μ-loop
+element-write-lines c = search needs
 
 add-i : tie.Need-add-i Inv-loop μ-loop
 add-i c = search needs
@@ -68,11 +62,9 @@ lines-due-spec =
     missed-due-requires
     mul-due
     element-write-due
-    kind-of-requires
-    element-write-kinds
-    code-of-requires
-    mul-codes
-    element-write-codes
+    place-from-one-requires
+    mul-lines
+    element-write-lines
     add-i
     loop-less
     loop-again

@@ -20,16 +20,19 @@ shown : (s : lts.Start (lines-due-reads.Asked, lines-due-reads.Learnt, on-due-re
 shown s = known (s .args .pages .now) (record { grid = s .args .grid; waiting = s .args .waiting; memo = record { n = s .args .n; words = s .args .words .now }; on = s .args .on; tally = s .args .tally }) (record { easts = search needs; norths = search needs; cells = search length-mapped; waiting = search length-mapped; memo = s .pre .0; on = search needs }) (s .pre .1) (s .pre .2)
 
 lines-due-requires : tie.Need-lines-due-requires
-lines-due-requires c κs = let start = c .before .before .before .before in let a = lines-asks (shown start) blank-zeros in (start .pre .0, a .0, a .1, a .2)
+lines-due-requires c κs = let start = c .before .before .before in let a = lines-asks (shown start) blank-zeros in (start .pre .0, a .0, a .1, a .2, a .3, a .4)
 
 on-due-requires : tie.Need-on-due-requires
-on-due-requires c κs = let l = c .before in on-asks (shown (l .before .before .before .before .before)) (l .lines-due .ensures .3)
+on-due-requires c κs = let l = c .before in on-asks (shown (l .before .before .before .before)) (l .lines-due .ensures .1)
 
 tally-new-requires : tie.Need-tally-new-requires
-tally-new-requires c κs = new-asks (shown (c .before .before .before .before .before .before .before .before)) blank-zeros
+tally-new-requires c κs = new-asks (shown (c .before .before .before .before .before .before .before)) blank-zeros
 
 tally-cells-requires : tie.Need-tally-cells-requires
-tally-cells-requires c κs = let n = c .before .before .before .before in cells-asks (shown (n .before .before .before .before .before .before .before .before .before)) blank-zeros (n .tally-new .ensures)
+tally-cells-requires c κs =
+    let n = c .before .before .before in
+    let l = n .before .before .before .before in
+    cells-asks (shown (l .before .before .before .before)) (l .lines-due .ensures .2) blank-zeros (n .tally-new .ensures)
 
 same-requires : tie.Need-same-requires
 same-requires c κs = search needs
@@ -37,23 +40,23 @@ same-requires c κs = search needs
 returns : tie.Need-returns
 returns c =
     let t = c .before .before .before .before in
-    let n = t .before .before .before .before .before in
+    let n = t .before .before .before .before in
     let o = n .before .before in
     let l = o .before .before in
     let e = l .lines-due .ensures in
-    radios-fail (shown (l .before .before .before .before .before)) _ blank-zeros blank-zeros blank-zeros blank-zeros (e .0) (e .1) (e .2) (o .on-due .ensures) (n .tally-new .ensures) (t .tally-cells .ensures .0) (t .tally-cells .ensures .1) (c .before .same .ensures) (c .if1 .taken)
+    radios-fail (shown (l .before .before .before .before)) _ blank-zeros blank-zeros (e .0) (e .3) (o .on-due .ensures) (n .tally-new .ensures) (t .tally-cells .ensures .0) (t .tally-cells .ensures .1) (c .before .same .ensures) (c .if1 .taken)
 
 bound-ok-requires : tie.Need-bound-ok-requires
-bound-ok-requires c κs = bound-asks (shown (c .before .before .before .before .before .before .before .before .before .before .before .before .before .before .before .before .before .before))
+bound-ok-requires c κs = bound-asks (shown (c .before .before .before .before .before .before .before .before .before .before .before .before .before .before .before .before))
 
 returns-2 : tie.Need-returns-2
 returns-2 c =
     let t = c .before .before .before .before .before in
-    let n = t .before .before .before .before .before in
+    let n = t .before .before .before .before in
     let o = n .before .before in
     let l = o .before .before in
     let e = l .lines-due .ensures in
-    radios-bound (shown (l .before .before .before .before .before)) _ blank-zeros blank-zeros blank-zeros blank-zeros (e .0) (e .1) (e .2) (o .on-due .ensures) (n .tally-new .ensures) (t .tally-cells .ensures .0) (t .tally-cells .ensures .1) (c .before .before .same .ensures) (c .before .if1 .left) (c .bound-ok .ensures)
+    radios-bound (shown (l .before .before .before .before)) _ blank-zeros blank-zeros (e .0) (e .3) (o .on-due .ensures) (n .tally-new .ensures) (t .tally-cells .ensures .0) (t .tally-cells .ensures .1) (c .before .before .same .ensures) (c .before .if1 .left) (c .bound-ok .ensures)
 
 pub radios-sound-spec : {M : Type 1} → statement M
 radios-sound-spec =

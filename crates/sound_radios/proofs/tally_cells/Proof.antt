@@ -11,10 +11,10 @@ use Rattle.sound_radios.proofs.tally_cells.Statement.{statement}
 use Rattle.sound_radios.proofs.tally_cells.Tie as tie
 
 abbrev Inv-loop : tie.InvT-loop
-Inv-loop pages kinds codes found₀ cells counts₀ n i₀ found counts i = (i ≤ cells .n) × (length (cells .slots) ≡ maxCells) × Cells (judged kinds codes) pages cells found₀ found counts i
+Inv-loop pages words lines found₀ cells counts₀ n i₀ found counts i = (i ≤ cells .n) × (length (cells .slots) ≡ maxCells) × Cells (judged words lines) pages cells found₀ found counts i
 
 abbrev μ-loop : tie.MeasureT-loop
-μ-loop pages kinds codes found₀ cells counts₀ n i₀ found counts i = cells .n - i
+μ-loop pages words lines found₀ cells counts₀ n i₀ found counts i = cells .n - i
 
 loop-holds : tie.Need-loop-holds Inv-loop μ-loop
 loop-holds c = (search needs, search length-mapped, search (cells-start, needs))
@@ -26,7 +26,7 @@ element-copy-out-s : tie.Need-element-copy-out-s Inv-loop μ-loop
 element-copy-out-s c = search needs
 
 tally-chain-requires : tie.Need-tally-chain-requires Inv-loop μ-loop
-tally-chain-requires c κs = search cells-fits
+tally-chain-requires c κs = (search needs, search cells-fits)
 
 mul-counts : tie.Need-mul-counts Inv-loop μ-loop
 mul-counts c = search needs

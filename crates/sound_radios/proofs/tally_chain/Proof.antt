@@ -9,10 +9,10 @@ use Rattle.sound_radios.proofs.tally_chain.Statement.{statement}
 use Rattle.sound_radios.proofs.tally_chain.Tie as tie
 
 abbrev Inv-loop : tie.InvT-loop
-Inv-loop pages first kinds codes found₀ sum₀ p₀ fuel₀ found sum p fuel = (sum + pageEntries * fuel ≤ pageEntries * sheets) × Chaining (judged kinds codes) pages first found₀ found sum p fuel
+Inv-loop pages first words lines found₀ sum₀ p₀ fuel₀ found sum p fuel = (sum + pageEntries * fuel ≤ pageEntries * sheets) × Chaining (judged words lines) pages first found₀ found sum p fuel
 
 abbrev μ-loop : tie.MeasureT-loop
-μ-loop pages first kinds codes found₀ sum₀ p₀ fuel₀ found sum p fuel = fuel
+μ-loop pages first words lines found₀ sum₀ p₀ fuel₀ found sum p fuel = fuel
 
 loop-holds : tie.Need-loop-holds Inv-loop μ-loop
 loop-holds c = (search needs, search chaining-start)
@@ -30,7 +30,7 @@ page-at-requires : tie.Need-page-at-requires Inv-loop μ-loop
 page-at-requires c κs = page-asks _ _ (c .long .ensures .0) (c .before .before .is-there .ensures) (c .before .if1 .left)
 
 tally-page-requires : tie.Need-tally-page-requires Inv-loop μ-loop
-tally-page-requires c κs = (search needs, search chaining-fits)
+tally-page-requires c κs = (search needs, search needs, search chaining-fits)
 
 add-sum : tie.Need-add-sum Inv-loop μ-loop
 add-sum c = search needs

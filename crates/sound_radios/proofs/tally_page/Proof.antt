@@ -8,10 +8,10 @@ use Rattle.sound_radios.proofs.tally_page.Statement.{statement}
 use Rattle.sound_radios.proofs.tally_page.Tie as tie
 
 abbrev Inv-loop : tie.InvT-loop
-Inv-loop page kinds codes found₀ n sum₀ i₀ found sum i = (i ≤ n) × (sum ≤ i) × Tallying (judged kinds codes) found₀ (entries page) i found sum
+Inv-loop page words lines found₀ n sum₀ i₀ found sum i = (i ≤ n) × (sum ≤ i) × Tallying (judged words lines) found₀ (entries page) i found sum
 
 abbrev μ-loop : tie.MeasureT-loop
-μ-loop page kinds codes found₀ n sum₀ i₀ found sum i = n - i
+μ-loop page words lines found₀ n sum₀ i₀ found sum i = n - i
 
 entry-count-requires : tie.Need-entry-count-requires Inv-loop μ-loop
 entry-count-requires c κs = search needs
@@ -23,7 +23,7 @@ read-entry-requires : tie.Need-read-entry-requires Inv-loop μ-loop
 read-entry-requires c κs = search needs
 
 judge-entry-requires : tie.Need-judge-entry-requires Inv-loop μ-loop
-judge-entry-requires c κs = search page-radio
+judge-entry-requires c κs = (search page-radio, search needs)
 
 radio-index-requires : tie.Need-radio-index-requires Inv-loop μ-loop
 radio-index-requires c κs = search page-radio
