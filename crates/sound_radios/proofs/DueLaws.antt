@@ -1,9 +1,9 @@
 -- Loops over radios on, waiting reports and memo lines: each row is added or written at its radio.
 use mathlib.Core.Path.{_≡_, refl, sym, ap, _∙_, subst}
 use mathlib.Core.Bool.{not}
-use mathlib.Core.List.{List, _∷_}
+use mathlib.Core.List.{List, [], _∷_}
 use mathlib.Core.Option.{Option, none, some}
-use Prim.Native.Nat.{ℕ, suc, _+_, _-_, _*_, _≤_, _<_, min}
+use Prim.Native.Nat.{ℕ, zero, suc, _+_, _-_, _*_, _%_, _≤_, _<_, min}
 use native.Mathlib.Omega.{arith}
 use native.Mathlib.Numerals.{add-one}
 use lib.Dec.{eqb}
@@ -15,46 +15,42 @@ use Rattle.lists.specs.Rows.{Rows, Rising, UpTo, find}
 use Rattle.lists.specs.Tests.{one-if, orElse}
 use Rattle.lists.proofs.Cases.{by-cases}
 use Rattle.lists.proofs.RowsLaws.{rising-less, find-below}
-use Rattle.lists.proofs.TestsLaws.{one-if-le, each-drop}
+use Rattle.lists.proofs.TestsLaws.{each-drop}
 use Rattle.rules.specs.Limits.{fullMemory}
 use Rattle.rules.specs.Store.{Line as StoreLine}
 use Rattle.rules.specs.Sweep.{staleBy, stale}
 use Rattle.desk.specs.declared.Waiting.{Waiting}
 use Rattle.desk.specs.declared.Line.{Line}
 use Rattle.desk.specs.declared.Memo.{Memo}
-use Rattle.desk.specs.declared.On.{On}
 use Rattle.desk.specs.Layout.{noReport, lineSlots, lineFields, noLine}
 use Rattle.desk.specs.Views.{linesIn, radioRow, radiosOf}
 use Rattle.desk.proofs.LinesLaws.{length-lines-in}
 use Rattle.memo.specs.Memo.{rowOf, linesOf}
 use Rattle.waiting.specs.Waiting.{rowOf as reportRow, reportsOf}
-use Rattle.sound_radios.specs.Tables.{tableSize, fieldEnd, half, Blank, Spare, added, written, Named, lineNamed, judged, each, markNew, missedDue}
-use Rattle.sound_radios.proofs.TableLaws.{row-next, row-none, Adding, adding-end, adding-key, adding-room, adding-turn, getD-set-le, spare-set}
+use Rattle.sound_radios.specs.Tables.{tableSize, fieldEnd, half, Blank, added, written, Named, lineNamed, judged, markNew, missedOff, oneOff}
+use Rattle.sound_radios.proofs.TableLaws.{row-next, row-none, Adding, adding-end, adding-key, adding-turn}
 
 -- ---- radios on
 
-module _ (on : On) {t₀ : List ℕ} {i : ℕ} {t : List ℕ} (a : Adding 1 each t₀ (radiosOf on) i t) where
-  pub on-end : on .n ≤ i → t ≡ added each t₀ (radiosOf on)
+module _ (radios : List ℕ) (n : ℕ) {t₀ : List ℕ} {i : ℕ} {t : List ℕ} (a : Adding oneOff t₀ (radiosOf (record { n = n; radios = radios })) i t) where
+  pub on-end : n ≤ i → t ≡ added oneOff t₀ (radiosOf (record { n = n; radios = radios }))
   unfolding radiosOf
-  on-end h = adding-end a (row-none radioRow (on .radios) (on .n) i h)
+  on-end h = adding-end a (row-none radioRow radios n i h)
 
-  module _ (size : length (on .radios) ≡ maxOn) (few : on .n ≤ maxOn) (more : i < on .n) where
-    on-next : drop i (radiosOf on) ≡ radioRow (getD (on .radios) i 0) ∷ drop (i + 1) (radiosOf on)
+  module _ (size : length radios ≡ maxOn) (few : n ≤ maxOn) (more : i < n) where
+    on-next : drop i (radiosOf (record { n = n; radios = radios })) ≡ radioRow (getD radios i 0) ∷ drop (i + 1) (radiosOf (record { n = n; radios = radios }))
     unfolding radiosOf
-    on-next = row-next radioRow (on .radios) (on .n) i 0 (omega arith) more
+    on-next = row-next radioRow radios n i 0 (omega arith) more
 
-    pub on-radio : getD (on .radios) i 0 ≤ maxRadio
+    pub on-radio : getD radios i 0 ≤ maxRadio
     on-radio = adding-key a on-next
 
-    pub on-room : {k : ℕ} → k ≡ getD (on .radios) i 0 → getD t k 0 + 1 < fieldEnd
-    on-room e = rw e (adding-room a on-next 1 (omega arith))
-
-    pub on-turn : {k : ℕ} → k ≡ getD (on .radios) i 0 → Adding 1 each t₀ (radiosOf on) (i + 1) (set t k (getD t k 0 + 1))
-    on-turn e = adding-turn a on-next e refl (omega arith)
+    pub on-turn : {k v : ℕ} → k ≡ getD radios i 0 → v ≡ (getD t k 0 + (fieldEnd - 1)) % fieldEnd → Adding oneOff t₀ (radiosOf (record { n = n; radios = radios })) (i + 1) (set t k v)
+    on-turn e q = adding-turn a on-next e q
 
 -- ---- waiting reports
 
-module _ (w : Waiting) {t₀ : List ℕ} {i : ℕ} {t : List ℕ} (a : Adding 1 markNew t₀ (reportsOf w) i t) where
+module _ (w : Waiting) {t₀ : List ℕ} {i : ℕ} {t : List ℕ} (a : Adding markNew t₀ (reportsOf w) i t) where
   pub new-end : w .n ≤ i → t ≡ added markNew t₀ (reportsOf w)
   unfolding reportsOf
   new-end h = adding-end a (row-none reportRow (w .rows) (w .n) i h)
@@ -67,45 +63,48 @@ module _ (w : Waiting) {t₀ : List ℕ} {i : ℕ} {t : List ℕ} (a : Adding 1 
     pub new-radio : getD (w .rows) i noReport .radio ≤ maxRadio
     new-radio = adding-key a new-next
 
-    pub new-room : {k v : ℕ} → k ≡ getD (w .rows) i noReport .radio → v ≤ 1 → getD t k 0 + v < fieldEnd
-    new-room {k} {v} e h = rw e (adding-room a new-next v h)
-
-    pub new-turn : {k v : ℕ} → k ≡ getD (w .rows) i noReport .radio → v ≡ one-if (not (eqb (getD (w .rows) i noReport .new) 0)) → Adding 1 markNew t₀ (reportsOf w) (i + 1) (set t k (getD t k 0 + v))
-    new-turn e q = adding-turn a new-next e q (one-if-le (not (eqb (getD (w .rows) i noReport .new) 0)))
+    pub new-turn : {k m v : ℕ} → k ≡ getD (w .rows) i noReport .radio → m ≡ one-if (not (eqb (getD (w .rows) i noReport .new) 0)) → v ≡ (getD t k 0 + m) % fieldEnd
+        → Adding markNew t₀ (reportsOf w) (i + 1) (set t k v)
+    new-turn {k} e q r = adding-turn a new-next e (r ∙ ap (λ (n : ℕ). (getD t k 0 + n) % fieldEnd) q)
 
 -- ---- memo lines
 
 -- the lines before i are written and named: with the rest it is the whole
-pub record LinesDue (m : Memo) (due₀ : List ℕ) (i : ℕ) (due lines : List ℕ) : Type 0 where
+pub record LinesDue (m : Memo) (t₀ : List ℕ) (i : ℕ) (t lines : List ℕ) : Type 0 where
   pub rise : Rising 0 (drop i (linesOf m))
-  pub missed : written missedDue due (drop i (linesOf m)) ≡ written missedDue due₀ (linesOf m)
-  pub spare : Spare (half - 1) due
+  pub missed : written missedOff t (drop i (linesOf m)) ≡ written missedOff t₀ (linesOf m)
   pub size : length lines ≡ tableSize
   pub named : Named (m .words) lines
   pub found : (q : ℕ) → orElse (find (drop i (linesOf m)) q) (lineNamed (m .words) (getD lines q 0)) ≡ find (linesOf m) q
+
+getD-set-le : (t : List ℕ) (k v q b : ℕ) → getD t q 0 ≤ b → v ≤ b → getD (set t k v) q 0 ≤ b
+getD-set-le [] k v q b h g = h
+getD-set-le (x ∷ t) zero v zero b h g = g
+getD-set-le (x ∷ t) zero v (suc q) b h g = h
+getD-set-le (x ∷ t) (suc k) v zero b h g = h
+getD-set-le (x ∷ t) (suc k) v (suc q) b h g = getD-set-le t k v q b h g
 
 or-none : {A : Type 0} (o : Option A) → orElse o none ≡ o
 or-none none = refl
 or-none (some a) = refl
 
-pub lines-start : (m : Memo) {due lines : List ℕ} → length (m .words) ≡ lineFields * lineSlots → Rising 0 (linesOf m) → Spare (half - 1) due → Blank lines → LinesDue m due 0 due lines
-lines-start m l r s z = record {
+pub lines-start : (m : Memo) {t lines : List ℕ} → length (m .words) ≡ lineFields * lineSlots → Rising 0 (linesOf m) → Blank lines → LinesDue m t 0 t lines
+lines-start m l r z = record {
   rise = r;
   missed = refl;
-  spare = s;
   size = z .size;
   named = record { size = l; place = λ q. omega (arith, z .zeros q) };
   found = λ q. ap (λ (k : ℕ). orElse (find (linesOf m) q) (lineNamed (m .words) k)) (z .zeros q) ∙ or-none (find (linesOf m) q);
 }
 
-module _ (m : Memo) {due₀ : List ℕ} {i : ℕ} {due lines : List ℕ} (l : LinesDue m due₀ i due lines) where
-  pub lines-end : m .n ≤ i → (due ≡ written missedDue due₀ (linesOf m)) × Spare (half - 1) due × Named (m .words) lines × (judged (m .words) lines ≡ stale (linesOf m))
+module _ (m : Memo) {t₀ : List ℕ} {i : ℕ} {t lines : List ℕ} (l : LinesDue m t₀ i t lines) where
+  pub lines-end : m .n ≤ i → (t ≡ written missedOff t₀ (linesOf m)) × Named (m .words) lines × (judged (m .words) lines ≡ stale (linesOf m))
   unfolding linesOf written find judged
   lines-end h =
       let z = row-none rowOf (linesIn (m .words)) (m .n) i h in
       let named : (q : ℕ) → lineNamed (m .words) (getD lines q 0) ≡ find (linesOf m) q = λ q.
-      ap (λ (t : Rows StoreLine). orElse (find t q) (lineNamed (m .words) (getD lines q 0))) (sym z) ∙ l .found q in
-      (ap (written missedDue due) (sym z) ∙ l .missed, l .spare, l .named, λ j e. staleBy (named (e .key) j) (e .val))
+      ap (λ (y : Rows StoreLine). orElse (find y q) (lineNamed (m .words) (getD lines q 0))) (sym z) ∙ l .found q in
+      (ap (written missedOff t) (sym z) ∙ l .missed, l .named, λ j e. staleBy (named (e .key) j) (e .val))
 
 module _ (m : Memo) {i : ℕ} (size : length (m .words) ≡ lineFields * lineSlots) (few : m .n ≤ lineSlots) (more : i < m .n) {line : Line} (read : line ≡ getD (linesIn (m .words)) i noLine) where
   line-next : drop i (linesOf m) ≡ rowOf line ∷ drop (i + 1) (linesOf m)
@@ -115,16 +114,16 @@ module _ (m : Memo) {i : ℕ} (size : length (m .words) ≡ lineFields * lineSlo
   pub line-radio : UpTo maxRadio (linesOf m) → line .radio ≤ maxRadio
   line-radio u = subst (λ (l : Rows StoreLine). UpTo maxRadio l) line-next (each-drop (λ x. x .key ≤ maxRadio) i (linesOf m) u) .0
 
-  module _ {due₀ due lines : List ℕ} (l : LinesDue m due₀ i due lines) {k : ℕ} (at : k ≡ line .radio) (inside : k < tableSize) where
+  module _ {t₀ t lines : List ℕ} (l : LinesDue m t₀ i t lines) {k : ℕ} (at : k ≡ line .radio) (inside : k < tableSize) where
     rise-next : Rising (line .radio) (drop (i + 1) (linesOf m))
-    rise-next = subst (λ (t : Rows StoreLine). Rising 0 t) line-next (l .rise) .1
+    rise-next = subst (λ (y : Rows StoreLine). Rising 0 y) line-next (l .rise) .1
 
     named-next : (q : ℕ) → orElse (find (drop (i + 1) (linesOf m)) q) (lineNamed (m .words) (getD (set lines k (i + 1)) q 0)) ≡ find (linesOf m) q
     unfolding find
     named-next q =
         let rest = drop (i + 1) (linesOf m) in
         let before : orElse (find (rowOf line ∷ rest) q) (lineNamed (m .words) (getD lines q 0)) ≡ find (linesOf m) q =
-        ap (λ (t : Rows StoreLine). orElse (find t q) (lineNamed (m .words) (getD lines q 0))) (sym line-next) ∙ l .found q in
+        ap (λ (y : Rows StoreLine). orElse (find y q) (lineNamed (m .words) (getD lines q 0))) (sym line-next) ∙ l .found q in
         by-cases (eqb q (line .radio))
         (λ e.
         let z : q ≡ k = eqb-true q (line .radio) e ∙ sym at in
@@ -132,15 +131,14 @@ module _ (m : Memo) {i : ℕ} (size : length (m .words) ≡ lineFields * lineSlo
         rw (find-below q (line .radio) rest (omega arith) rise-next, n, ← read) (rw e at before))
         (λ e. rw (getD-set-other lines k q (i + 1) 0 (λ z. eqb-false q (line .radio) e (z ∙ at))) (rw e at before))
 
-    pub lines-turn : {a p : ℕ} → a ≡ half * min (line .missed) (half - 1) → a + (half - 1) < fieldEnd → p ≡ i + 1 → LinesDue m due₀ (i + 1) (set due k a) (set lines k p)
+    pub lines-turn : {a p : ℕ} → a ≡ (fieldEnd - half * min (line .missed) (half - 1)) % fieldEnd → p ≡ i + 1 → LinesDue m t₀ (i + 1) (set t k a) (set lines k p)
     unfolding written
-    lines-turn {a} {p} q h e =
-        let before : written missedDue due (rowOf line ∷ drop (i + 1) (linesOf m)) ≡ written missedDue due₀ (linesOf m) = ap (written missedDue due) (sym line-next) ∙ l .missed in
+    lines-turn {a} {p} q e =
+        let before : written missedOff t (rowOf line ∷ drop (i + 1) (linesOf m)) ≡ written missedOff t₀ (linesOf m) = ap (written missedOff t) (sym line-next) ∙ l .missed in
         rw e
         (record {
           rise = rising-less 0 (line .radio) (drop (i + 1) (linesOf m)) (omega arith) rise-next;
           missed = rw (at, q) before;
-          spare = spare-set (half - 1) due k a (l .spare) h;
           size = length-set lines k (i + 1) ∙ l .size;
           named = record { size = size; place = λ j. getD-set-le lines k (i + 1) j lineSlots (l .named .place j) (omega arith) };
           found = named-next;

@@ -2,9 +2,9 @@
 use mathlib.Core.Path.{_≡_, refl, sym, ap, ap₂, _∙_}
 use mathlib.Core.Bool.{Bool, true, false, not}
 use mathlib.Core.List.{List, map}
-use Prim.Native.Nat.{ℕ, _-_, _≤_}
+use Prim.Native.Nat.{ℕ, _≤_}
 use native.Mathlib.Omega.{arith}
-use lib.ListN.{length, getD, take}
+use lib.ListN.{length, take}
 use Rattle.terms.specs.Terms.{Place, maxRadio, maxOn}
 use Rattle.lists.specs.Rows.{Row, Rows, Rising, UpTo}
 use Rattle.lists.specs.Sums.{concat}
@@ -21,9 +21,9 @@ use Rattle.mirror.specs.Radios.{onAt, presentTest, linesTest}
 use Rattle.mirror.specs.Round.{staleCount, staleCounts, boundTest}
 use Rattle.waiting.specs.Waiting.{reportsOf}
 use Rattle.sound_radios.specs.Entries.{rowsRead, entriesTest}
-use Rattle.sound_radios.specs.Tables.{half, Blank, Spare, Fits, added, written, Named, weigh, markNew, missedDue, each, staleSum, sameTables}
+use Rattle.sound_radios.specs.Tables.{Blank, added, written, Named, weigh, markNew, missedOff, oneOff, staleSum, allSettled}
 use Rattle.sound_radios.proofs.KnownLaws.{Known}
-use Rattle.sound_radios.proofs.TestLaws.{passing-le, new-low, found-counts, due-counts, same-tests}
+use Rattle.sound_radios.proofs.TestLaws.{balance-counts, settled-tests}
 
 stops : (a b c : Bool) → both a b ≡ false → false ≡ both a (both b c)
 unfolding both
@@ -39,25 +39,17 @@ goes false false c e = cc
 module _ {b : List ℕ} {d : Desk} (k : Known b d) where
   -- ---- what the calls ask
 
-  pub lines-asks : {z : List ℕ} → Blank z → (d .memo .n ≤ lineSlots) × Rising 0 (linesOf (d .memo)) × UpTo maxRadio (linesOf (d .memo)) × Spare (half - 1) z × Blank z
-  lines-asks z = (k .few-lines, k .rise, k .lines, record { room = λ q. omega (arith, z .zeros q) }, z)
+  pub lines-asks : {z : List ℕ} → Blank z → (d .memo .n ≤ lineSlots) × Rising 0 (linesOf (d .memo)) × UpTo maxRadio (linesOf (d .memo)) × Blank z
+  lines-asks z = (k .few-lines, k .rise, k .lines, z)
 
-  pub on-asks : {t : List ℕ} → Spare (half - 1) t → (d .on .n ≤ maxOn) × Fits 1 t (radiosOf (d .on))
-  on-asks s = (k .few-on, record { radios = k .radios; room = λ q. omega (arith, s .room q, k .on-once q) })
+  pub on-asks : (d .on .n ≤ maxOn) × UpTo maxRadio (radiosOf (d .on))
+  on-asks = (k .few-on, k .radios)
 
-  pub new-asks : {z : List ℕ} → Blank z → (d .waiting .n ≤ fullMemory) × Fits 1 z (reportsOf (d .waiting))
-  new-asks z = (k .few-waiting, record { radios = k .reports; room = λ q. omega (arith, z .zeros q, passing-le (λ _. true) q (reportsOf (d .waiting)), k .waits, k .few-waiting) })
+  pub new-asks : (d .waiting .n ≤ fullMemory) × UpTo maxRadio (reportsOf (d .waiting))
+  new-asks = (k .few-waiting, k .reports)
 
-  pub cells-asks : {words lines z t : List ℕ} → Named words lines → Blank z → t ≡ added markNew z (reportsOf (d .waiting))
-      → (d .grid .cells .n ≤ maxCells) × Named words lines × Fits half t (concat (rowsRead b (d .grid .cells)))
-  cells-asks {words} {lines} {z} {t} n y e = (
-    k .few-cells,
-    n,
-    record {
-      radios = k .entries;
-      room = λ q. omega (arith, ap (λ (u : List ℕ). getD u q 0) e, new-low y (reportsOf (d .waiting)) (k .reports) q, k .waits, k .few-waiting, k .once q);
-    },
-  )
+  pub cells-asks : {words lines : List ℕ} → Named words lines → (d .grid .cells .n ≤ maxCells) × Named words lines × UpTo maxRadio (concat (rowsRead b (d .grid .cells)))
+  cells-asks n = (k .few-cells, n, k .entries)
 
   pub bound-asks : (d .grid .cells .n ≤ maxCells) × (d .waiting .n ≤ fullMemory)
   bound-asks = (k .few-cells, k .few-waiting)
@@ -76,33 +68,37 @@ module _ {b : List ℕ} {d : Desk} (k : Known b d) where
   abbrev rows : List (Rows Place)
   rows = rowsRead b (d .grid .cells)
 
-  module _ {z z′ missed due new found : List ℕ} {old : Row Place → Bool} (counts : List ℕ) {same : Bool} (blank : Blank z) (blank′ : Blank z′)
-      (all-missed : missed ≡ written missedDue z (linesOf (d .memo))) (as-memo : old ≡ stale (linesOf (d .memo)))
-      (all-due : due ≡ added each missed (radiosOf (d .on))) (all-new : new ≡ added markNew z′ (reportsOf (d .waiting)))
-      (all-found : found ≡ added (weigh old) new (concat (rowsRead b (d .grid .cells))))
+  module _ {z t₁ t₂ t₃ t₄ : List ℕ} {old : Row Place → Bool} (counts : List ℕ) {settled : Bool} (blank : Blank z)
+      (all-missed : t₁ ≡ written missedOff z (linesOf (d .memo))) (as-memo : old ≡ stale (linesOf (d .memo)))
+      (all-on : t₂ ≡ added oneOff t₁ (radiosOf (d .on))) (all-new : t₃ ≡ added markNew t₂ (reportsOf (d .waiting)))
+      (all-found : t₄ ≡ added (weigh old) t₃ (concat (rowsRead b (d .grid .cells))))
       (all-stale : take (d .grid .cells .n) counts ≡ map (staleSum old) (rowsRead b (d .grid .cells)))
-      (said : same ≡ sameTables due found) where
-    tests : sameTables due found ≡ both (presentTest lines (concat rows) waits heard) (linesTest lines (concat rows))
+      (said : settled ≡ allSettled t₄) where
+    balance : t₄ ≡ added (weigh (stale lines)) (added markNew (added oneOff (written missedOff z lines) heard) waits) (concat rows)
+    balance =
+        all-found
+        ∙ ap₂ (λ (o : Row Place → Bool) (t : List ℕ). added (weigh o) t (concat rows)) as-memo
+        (all-new ∙ ap (λ (t : List ℕ). added markNew t waits) (all-on ∙ ap (λ (t : List ℕ). added oneOff t heard) all-missed))
+
+    tests : allSettled t₄ ≡ both (presentTest lines (concat rows) waits heard) (linesTest lines (concat rows))
     unfolding onAt
     tests =
-        same-tests lines (concat rows) waits heard (k .once) (omega (arith, k .waits, k .few-waiting)) (k .on-once) due found
-        (due-counts lines (k .rise) (k .lines) heard (k .radios) blank (all-due ∙ ap (λ (t : List ℕ). added each t heard) all-missed))
-        (found-counts lines (concat rows) waits (k .entries) (k .reports) blank′
-        (all-found ∙ ap₂ (λ (old : Row Place → Bool) (t : List ℕ). added (weigh old) t (concat rows)) as-memo all-new))
+        settled-tests lines (concat rows) waits heard (k .once) (omega (arith, k .waits, k .few-waiting)) (k .on-once) t₄
+        (balance-counts lines (k .rise) (k .lines) blank (concat rows) waits heard (k .entries) (k .reports) (k .radios) balance)
         (k .rise) (k .lines) (k .missed)
 
     counted : take (d .grid .cells .n) counts ≡ staleCounts lines rows
     unfolding staleSum staleCount
     counted = all-stale ∙ ap (λ (old : Row Place → Bool). map (staleSum old) rows) as-memo
 
-    pub radios-fail : not same ≡ true → false ≡ entriesTest (linesOf (d .memo)) (reportsOf (d .waiting)) (radiosOf (d .on)) (d .tally) (rowsRead b (d .grid .cells))
+    pub radios-fail : not settled ≡ true → false ≡ entriesTest (linesOf (d .memo)) (reportsOf (d .waiting)) (radiosOf (d .on)) (d .tally) (rowsRead b (d .grid .cells))
     unfolding entriesTest
     radios-fail t =
-        stops (presentTest lines (concat rows) waits heard) (linesTest lines (concat rows)) (boundTest (staleCounts lines rows) (length waits) (d .tally)) (sym tests ∙ sym said ∙ not-true same t)
+        stops (presentTest lines (concat rows) waits heard) (linesTest lines (concat rows)) (boundTest (staleCounts lines rows) (length waits) (d .tally)) (sym tests ∙ sym said ∙ not-true settled t)
 
-    pub radios-bound : not same ≡ false → {r : Bool} → r ≡ boundTest (take (d .grid .cells .n) counts) (d .waiting .n) (d .tally)
+    pub radios-bound : not settled ≡ false → {r : Bool} → r ≡ boundTest (take (d .grid .cells .n) counts) (d .waiting .n) (d .tally)
         → r ≡ entriesTest (linesOf (d .memo)) (reportsOf (d .waiting)) (radiosOf (d .on)) (d .tally) (rowsRead b (d .grid .cells))
     unfolding entriesTest
     radios-bound t {r} e =
         e ∙ ap₂ (λ (l : List ℕ) (n : ℕ). boundTest l n (d .tally)) counted (sym (k .waits))
-        ∙ goes (presentTest lines (concat rows) waits heard) (linesTest lines (concat rows)) (boundTest (staleCounts lines rows) (length waits) (d .tally)) (sym tests ∙ sym said ∙ not-false same t)
+        ∙ goes (presentTest lines (concat rows) waits heard) (linesTest lines (concat rows)) (boundTest (staleCounts lines rows) (length waits) (d .tally)) (sym tests ∙ sym said ∙ not-false settled t)

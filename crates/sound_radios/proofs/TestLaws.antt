@@ -3,7 +3,7 @@ use mathlib.Core.Path.{_≡_, refl, sym, ap, _∙_}
 use mathlib.Core.Bool.{Bool, true, not, cond}
 use mathlib.Core.List.{List}
 use mathlib.Core.Option.{Option, none, some}
-use Prim.Native.Nat.{ℕ, zero, suc, _+_, _-_, _*_, _≤_, _<_, min}
+use Prim.Native.Nat.{ℕ, zero, suc, _+_, _-_, _*_, _%_, _≤_, _<_, min}
 use native.Mathlib.Omega.{arith}
 use lib.Dec.{eqb}
 use lib.ListN.{length, getD, replicate, length-replicate}
@@ -23,8 +23,8 @@ use Rattle.mirror.specs.Loops.{passing}
 use Rattle.mirror.specs.Radios.{liveAt, staleAt, newAt, onAt, entriesAt, presentTest, lineTest, linesTest, missedAt}
 use Rattle.mirror.proofs.LoopsLaws.{bool-same, allTo-true, true-allTo}
 use Rattle.mirror.proofs.RadiosLaws.{stale-live, stale-missed}
-use Rattle.sound_radios.specs.Tables.{tableSize, half, Blank, keyed, added, written, weigh, markNew, missedDue, each, sameTables}
-use Rattle.sound_radios.proofs.TableLaws.{share, added-sum, foundOr, written-found, length-added, length-written}
+use Rattle.sound_radios.specs.Tables.{tableSize, fieldEnd, half, Blank, keyed, added, written, weigh, markNew, missedOff, oneOff, allSettled}
+use Rattle.sound_radios.proofs.TableLaws.{Comes, share, added-comes, foundOr, written-found, length-added, length-written}
 
 -- ---- a table of zeros
 
@@ -42,13 +42,19 @@ in-table t l e u = each-map (λ x. x .key ≤ maxRadio) (λ x. x .key < length t
 -- ---- two counts in one number
 
 module _ {Val : Type 0} where
-  pub passing-le : (t : Row Val → Bool) (q : ℕ) (l : Rows Val) → passing t q l ≤ length l
+  passing-le : (t : Row Val → Bool) (q : ℕ) (l : Rows Val) → passing t q l ≤ length l
   unfolding passing
   passing-le t q l = omega (arith, sum-le (λ x. one-if (both (eqb q (x .key)) (t x))) (λ _. 1) l (λ x. one-if-le (both (eqb q (x .key)) (t x))), length-sum l)
 
   share-one : (t : Row Val → Bool) (q : ℕ) (l : Rows Val) → sumBy (share (λ x. one-if (t x)) q) l ≡ passing t q l
   unfolding passing both
   share-one t q l = sum-ext (share (λ x. one-if (t x)) q) (λ x. one-if (both (eqb q (x .key)) (t x))) l (λ x. by-cases (eqb q (x .key)) (λ e. rw e) (λ e. rw e))
+
+  share-each : (n q : ℕ) (l : Rows Val) → sumBy (share (λ _. n) q) l ≡ n * keyed q l
+  unfolding passing both
+  share-each n q l =
+      let f : Row Val → ℕ = λ x. one-if (both (eqb q (x .key)) true) in
+      sum-ext (share (λ _. n) q) (λ x. n * f x) l (λ x. by-cases (eqb q (x .key)) (λ e. rw e (omega arith)) (λ e. rw e (omega arith))) ∙ sum-times n f l
 
 share-weight : (old : Row Place → Bool) (q : ℕ) (es : Rows Place) → sumBy (share (weigh old) q) es ≡ passing (λ x. not (old x)) q es + half * passing old q es
 unfolding passing both
@@ -59,28 +65,11 @@ share-weight old q es =
     (λ x. by-cases (eqb q (x .key)) (λ e. rw e (by-cases (old x) (λ t. rw t) (λ t. rw t))) (λ e. rw e))
     ∙ sum-add f (λ x. half * g x) es ∙ ap (λ (n : ℕ). sumBy f es + n) (sum-times half g es)
 
--- ---- what is found
+-- ---- what is found, less what is due
 
-pub new-low : {z : List ℕ} → Blank z → (ws : Rows Report) → UpTo maxRadio ws → (q : ℕ) → getD (added markNew z ws) q 0 ≤ length ws
-new-low {z} k ws u q = omega (arith, added-sum markNew z ws q (in-table z ws (k .size) u), k .zeros q, share-one (λ w. w .val .new) q ws, passing-le (λ w. w .val .new) q ws)
-
-module _ (memo : Rows Line) (es : Rows Place) (ws : Rows Report) (radios : UpTo maxRadio es) (reports : UpTo maxRadio ws) {z : List ℕ} (blank : Blank z) where
-  pub found-counts : {t : List ℕ} → t ≡ added (weigh (stale memo)) (added markNew z ws) es → (q : ℕ) → getD t q 0 ≡ liveAt memo q es + newAt q ws + half * staleAt memo q es
-  unfolding liveAt newAt staleAt
-  found-counts {t} e q =
-      let y = added markNew z ws in
-      let l : length y ≡ tableSize = length-added markNew z ws ∙ blank .size in
-      omega (
-        arith,
-        ap (λ (u : List ℕ). getD u q 0) e,
-        added-sum (weigh (stale memo)) y es q (in-table y es l radios),
-        added-sum markNew z ws q (in-table z ws (blank .size) reports),
-        blank .zeros q,
-        share-one (λ w. w .val .new) q ws,
-        share-weight (stale memo) q es,
-      )
-
--- ---- what is due
+-- of each radio: with its missed count it comes to what is found, less 1 where it is on
+abbrev Balance : Rows Line → Rows Place → Rows Report → Rows (Unit {0}) → List ℕ → Type 0
+Balance memo es ws on t = (q : ℕ) → Comes t q (half * min (missedAt q memo) (half - 1)) ((fieldEnd - 1) * onAt q on + (liveAt memo q es + newAt q ws + half * staleAt memo q es))
 
 module _ (memo : Rows Line) (rise : Rising 0 memo) (ends : UpTo maxRadio memo) where
   missed-found : (q : ℕ) → missedAt q memo ≡ countFound (λ _ l. l .missed) q (find memo q)
@@ -91,25 +80,33 @@ module _ (memo : Rows Line) (rise : Rising 0 memo) (ends : UpTo maxRadio memo) w
       here none = refl
       here (some l) = rw (eq-eqb q q refl)
 
-  due-found : (q : ℕ) (o : Option Line) → foundOr missedDue q 0 o ≡ half * min (countFound (λ _ l. l .missed) q o) (half - 1)
-  due-found q none = refl
-  due-found q (some l) = refl
+  -- a line's missed count is taken off
+  off-found : (q : ℕ) (o : Option Line) → (foundOr missedOff q 0 o < fieldEnd) × ((foundOr missedOff q 0 o + half * min (countFound (λ _ l. l .missed) q o) (half - 1)) % fieldEnd ≡ 0)
+  off-found q none = (omega arith, refl)
+  off-found q (some l) = (omega arith, omega arith)
 
-  pub due-counts : (on : Rows (Unit {0})) → UpTo maxRadio on → {z t : List ℕ} → Blank z → t ≡ added each (written missedDue z memo) on → (q : ℕ) → getD t q 0 ≡ onAt q on + half * min (missedAt q memo) (half - 1)
-  unfolding onAt
-  due-counts on u {z} {t} k e q =
-      let y = written missedDue z memo in
-      let l : length y ≡ tableSize = length-written missedDue z memo ∙ k .size in
-      omega (
-        arith,
-        ap (λ (u : List ℕ). getD u q 0) e,
-        added-sum each y on q (in-table y on l u),
-        written-found missedDue z 0 memo q rise (in-table z memo (k .size) ends),
-        ap (λ (n : ℕ). foundOr missedDue q n (find memo q)) (k .zeros q),
-        due-found q (find memo q),
-        missed-found q,
-        share-one (λ _. true) q on,
-      )
+  module _ {z : List ℕ} (blank : Blank z) where
+    off-missed : (q : ℕ) → Comes (written missedOff z memo) q (half * min (missedAt q memo) (half - 1)) 0
+    off-missed q =
+        rw (written-found missedOff z 0 memo q rise (in-table z memo (blank .size) ends), blank .zeros q, missed-found q) (off-found q (find memo q))
+
+    module _ (es : Rows Place) (ws : Rows Report) (on : Rows (Unit {0})) (radios : UpTo maxRadio es) (reports : UpTo maxRadio ws) (heard : UpTo maxRadio on) where
+      pub balance-counts : {t : List ℕ} → t ≡ added (weigh (stale memo)) (added markNew (added oneOff (written missedOff z memo) on) ws) es → Balance memo es ws on t
+      unfolding liveAt newAt staleAt onAt
+      balance-counts {t} e q =
+          let t₁ = written missedOff z memo in
+          let t₂ = added oneOff t₁ on in
+          let t₃ = added markNew t₂ ws in
+          let l₁ : length t₁ ≡ tableSize = length-written missedOff z memo ∙ blank .size in
+          let l₂ : length t₂ ≡ tableSize = length-added oneOff t₁ on ∙ l₁ in
+          let l₃ : length t₃ ≡ tableSize = length-added markNew t₂ ws ∙ l₂ in
+          let c = half * min (missedAt q memo) (half - 1) in
+          let k₂ = added-comes oneOff t₁ on q c 0 (in-table t₁ on l₁ heard) (off-missed q) in
+          let k₃ = added-comes markNew t₂ ws q c _ (in-table t₂ ws l₂ reports) k₂ in
+          let k₄ = added-comes (weigh (stale memo)) t₃ es q c _ (in-table t₃ es l₃ radios) k₃ in
+          let n : 0 + sumBy (share oneOff q) on + sumBy (share markNew q) ws + sumBy (share (weigh (stale memo)) q) es ≡ (fieldEnd - 1) * onAt q on + (liveAt memo q es + newAt q ws + half * staleAt memo q es) =
+          omega (arith, share-each (fieldEnd - 1) q on, share-one (λ w. w .val .new) q ws, share-weight (stale memo) q es) in
+          rw (e, ← n) k₄
 
   -- ---- the lines' test, radio by radio
 
@@ -124,10 +121,14 @@ module _ (memo : Rows Line) (rise : Rising 0 memo) (ends : UpTo maxRadio memo) w
         (λ l a f. h (l .key) (omega arith) ∙ missed-found (l .key) ∙ ap (countFound (λ _ k. k .missed) (l .key)) f) ends
         (find-each (λ r l. find memo r ≡ some l) 0 memo rise (λ r l f. f))))
 
--- ---- the tables are the same exactly if both tests pass
+-- ---- the table is settled exactly if both tests pass
 
-module _ (memo : Rows Line) (es : Rows Place) (ws : Rows Report) (on : Rows (Unit {0})) (once : (q : ℕ) → keyed q es ≤ maxCells) (few : length ws ≤ fullMemory) (on-once : (q : ℕ) → onAt q on ≤ 1) (due found : List ℕ)
-    (is-due : (q : ℕ) → getD due q 0 ≡ onAt q on + half * min (missedAt q memo) (half - 1)) (is-found : (q : ℕ) → getD found q 0 ≡ liveAt memo q es + newAt q ws + half * staleAt memo q es) where
+-- what is due and what is found are less than 16 bits hold
+in-full : (o d f n : ℕ) → o ≤ 1 → d < fieldEnd - 1 → f < fieldEnd → n ≡ 0 → (n + d) % fieldEnd ≡ ((fieldEnd - 1) * o + f) % fieldEnd → o + d ≡ f
+in-full o d f n h j k e g = omega arith
+
+module _ (memo : Rows Line) (es : Rows Place) (ws : Rows Report) (on : Rows (Unit {0})) (once : (q : ℕ) → keyed q es ≤ maxCells) (few : length ws ≤ fullMemory) (on-once : (q : ℕ) → onAt q on ≤ 1) (t : List ℕ)
+    (balance : Balance memo es ws on t) where
   -- no count reaches what the high half counts
   low-entries : (q : ℕ) → staleAt memo q es + liveAt memo q es ≤ maxCells
   unfolding entriesAt
@@ -138,32 +139,34 @@ module _ (memo : Rows Line) (es : Rows Place) (ws : Rows Report) (on : Rows (Uni
   low-new q = omega (arith, passing-le (λ w. w .val .new) q ws)
 
   -- of one radio
-  apart : (q : ℕ) → getD due q 0 ≡ getD found q 0 → (liveAt memo q es + newAt q ws ≡ onAt q on) × (staleAt memo q es ≡ missedAt q memo)
+  apart : (q : ℕ) → getD t q 0 ≡ 0 → (liveAt memo q es + newAt q ws ≡ onAt q on) × (staleAt memo q es ≡ missedAt q memo)
   apart q e =
-      let a : onAt q on ≡ liveAt memo q es + newAt q ws = omega (arith, is-due q, is-found q, low-entries q, low-new q, on-once q) in
-      (sym a, omega (arith, a, is-due q, is-found q, low-entries q))
+      let s : onAt q on + half * min (missedAt q memo) (half - 1) ≡ liveAt memo q es + newAt q ws + half * staleAt memo q es =
+      in-full (onAt q on) (half * min (missedAt q memo) (half - 1)) (liveAt memo q es + newAt q ws + half * staleAt memo q es) (getD t q 0) (on-once q) (omega arith) (omega (arith, low-entries q, low-new q)) e (balance q .1) in
+      let a : onAt q on ≡ liveAt memo q es + newAt q ws = omega (arith, s, low-entries q, low-new q, on-once q) in
+      (sym a, omega (arith, a, s, low-entries q))
 
-  together : (q : ℕ) → liveAt memo q es + newAt q ws ≡ onAt q on → staleAt memo q es ≡ missedAt q memo → getD due q 0 ≡ getD found q 0
-  together q e f = omega (arith, is-due q, is-found q, low-entries q)
+  together : (q : ℕ) → liveAt memo q es + newAt q ws ≡ onAt q on → staleAt memo q es ≡ missedAt q memo → getD t q 0 ≡ 0
+  together q e f = omega (arith, balance q .0, balance q .1, low-entries q)
 
   module _ (rise : Rising 0 memo) (ends : UpTo maxRadio memo) (counted : Each (λ l. 0 < l .val .missed) memo) where
-    same-passes : sameTables due found ≡ true → both (presentTest memo es ws on) (linesTest memo es) ≡ true
-    unfolding sameTables presentTest
-    same-passes t =
+    settled-passes : allSettled t ≡ true → both (presentTest memo es ws on) (linesTest memo es) ≡ true
+    unfolding allSettled presentTest
+    settled-passes e =
         let radio : (q : ℕ) → q < tableSize → (liveAt memo q es + newAt q ws ≡ onAt q on) × (staleAt memo q es ≡ missedAt q memo) = λ q h.
-        apart q (eqb-true (getD due q 0) (getD found q 0) (allTo-true tableSize (λ q. eqb (getD due q 0) (getD found q 0)) t q h)) in
+        apart q (eqb-true (getD t q 0) 0 (allTo-true tableSize (λ q. eqb (getD t q 0) 0) e q h)) in
         both-intro
         (true-allTo tableSize (λ q. eqb (liveAt memo q es + newAt q ws) (onAt q on)) (λ q h. eq-eqb (liveAt memo q es + newAt q ws) (onAt q on) (radio q h .0)))
         (true-lines memo rise ends es counted (λ q h. radio q h .1))
 
-    passes-same : both (presentTest memo es ws on) (linesTest memo es) ≡ true → sameTables due found ≡ true
-    unfolding sameTables presentTest
-    passes-same t =
-        let p = both-left (presentTest memo es ws on) (linesTest memo es) t in
-        let l = both-right (presentTest memo es ws on) (linesTest memo es) t in
-        true-allTo tableSize (λ q. eqb (getD due q 0) (getD found q 0))
-        (λ q h. eq-eqb (getD due q 0) (getD found q 0)
+    passes-settled : both (presentTest memo es ws on) (linesTest memo es) ≡ true → allSettled t ≡ true
+    unfolding allSettled presentTest
+    passes-settled e =
+        let p = both-left (presentTest memo es ws on) (linesTest memo es) e in
+        let l = both-right (presentTest memo es ws on) (linesTest memo es) e in
+        true-allTo tableSize (λ q. eqb (getD t q 0) 0)
+        (λ q h. eq-eqb (getD t q 0) 0
         (together q (eqb-true (liveAt memo q es + newAt q ws) (onAt q on) (allTo-true tableSize (λ q. eqb (liveAt memo q es + newAt q ws) (onAt q on)) p q h)) (stale-missed memo es rise l q)))
 
-    pub same-tests : sameTables due found ≡ both (presentTest memo es ws on) (linesTest memo es)
-    same-tests = bool-same (sameTables due found) (both (presentTest memo es ws on) (linesTest memo es)) same-passes passes-same
+    pub settled-tests : allSettled t ≡ both (presentTest memo es ws on) (linesTest memo es)
+    settled-tests = bool-same (allSettled t) (both (presentTest memo es ws on) (linesTest memo es)) settled-passes passes-settled

@@ -1,4 +1,4 @@
--- The verdict: two tables are the same, and the inequality holds from the last place of the round to the first.
+-- The verdict: the table is settled, and the inequality holds from the last place of the round to the first.
 use mathlib.Core.Path.{_≡_, refl, sym, ap, _∙_}
 use mathlib.Core.Bool.{Bool, true, false, not}
 use mathlib.Core.List.{List}
@@ -18,21 +18,21 @@ use Rattle.mirror.specs.Loops.{allTo}
 use Rattle.mirror.specs.Round.{fromPlace, boundTest}
 use Rattle.mirror.proofs.LoopsLaws.{allTo-zero, allTo-suc}
 use Rattle.mirror.proofs.RoundLaws.{from-end, from-step}
-use Rattle.sound_radios.specs.Tables.{tableSize, sameTables}
+use Rattle.sound_radios.specs.Tables.{tableSize, allSettled}
 
--- ---- same
+-- ---- all_settled
 
--- how many numbers below i differ
-abbrev pub differing : List ℕ → List ℕ → ℕ → ℕ
-differing a b i = sumTo i (λ q. one-if (not (eqb (getD a q 0) (getD b q 0))))
+-- how many numbers below i are not settled
+abbrev pub unsettled : List ℕ → ℕ → ℕ
+unsettled t i = sumTo i (λ q. one-if (not (eqb (getD t q 0) 0)))
 
-pub differ-start : (a b : List ℕ) → 0 ≡ differing a b 0
+pub settled-start : (t : List ℕ) → 0 ≡ unsettled t 0
 unfolding sumTo
-differ-start a b = refl
+settled-start t = refl
 
-pub differ-turn : (a b : List ℕ) (i : ℕ) {n r : ℕ} → n ≡ differing a b i → r ≡ one-if (not (eqb (getD a i 0) (getD b i 0))) → n + r ≡ differing a b (i + 1)
+pub settled-turn : (t : List ℕ) (i : ℕ) {n r : ℕ} → n ≡ unsettled t i → r ≡ one-if (not (eqb (getD t i 0) 0)) → n + r ≡ unsettled t (i + 1)
 unfolding sumTo
-differ-turn a b i e f = rw (add-one i, e, f)
+settled-turn t i e f = rw (add-one i, e, f)
 
 none-fail : (n : ℕ) (p : ℕ → Bool) → eqb (sumTo n (λ q. one-if (not (p q)))) 0 ≡ allTo n p
 unfolding sumTo
@@ -44,11 +44,11 @@ none-fail (suc n) p =
     (λ t. rw (allTo-suc n p, t) (ap (λ (m : ℕ). eqb m 0) z ∙ none-fail n p ∙ sym (both-true (allTo n p))))
     (λ t. rw (allTo-suc n p, t) (ne-eqb (s + 1) 0 (λ z. absurd (omega arith)) ∙ sym (both-right-false (allTo n p) refl)))
 
-pub differ-end : (a b : List ℕ) {i n : ℕ} → n ≡ differing a b i → i ≤ tableSize → tableSize ≤ i → eqb n 0 ≡ sameTables a b
-unfolding sameTables
-differ-end a b {i} {n} e h k =
+pub settled-end : (t : List ℕ) {i n : ℕ} → n ≡ unsettled t i → i ≤ tableSize → tableSize ≤ i → eqb n 0 ≡ allSettled t
+unfolding allSettled
+settled-end t {i} {n} e h k =
     let z : i ≡ tableSize = omega arith in
-    ap (λ (m : ℕ). eqb m 0) (e ∙ ap (differing a b) z) ∙ none-fail tableSize (λ q. eqb (getD a q 0) (getD b q 0))
+    ap (λ (m : ℕ). eqb m 0) (e ∙ ap (unsettled t) z) ∙ none-fail tableSize (λ q. eqb (getD t q 0) 0)
 
 -- ---- the inequality
 

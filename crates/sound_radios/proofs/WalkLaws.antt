@@ -2,7 +2,7 @@
 use mathlib.Core.Path.{_≡_, refl, sym, ap, _∙_, subst}
 use mathlib.Core.Bool.{Bool, true, false, not}
 use mathlib.Core.List.{List, [], _∷_, _++_, append-assoc, append-nil, map}
-use Prim.Native.Nat.{ℕ, zero, suc, _+_, _-_, _*_, _≤_, _<_}
+use Prim.Native.Nat.{ℕ, zero, suc, _+_, _-_, _*_, _%_, _≤_, _<_}
 use native.Mathlib.Omega.{arith}
 use native.Mathlib.Numerals.{add-one}
 use borrow.Author.Tests.{eqb-true, eqb-false}
@@ -11,13 +11,13 @@ use lib.ListN.{length, getD, set, take, drop, drop-of-length-le, length-set}
 use lib.Seq.{drop-cons, take-suc-set}
 use Rattle.terms.specs.Terms.{Place, maxRadio, pages, pageEntries, noPage}
 use Rattle.lists.specs.Parts.{tab}
-use Rattle.lists.specs.Rows.{Row, Rows}
+use Rattle.lists.specs.Rows.{Row, Rows, UpTo}
 use Rattle.lists.specs.Sums.{concat}
 use Rattle.lists.specs.Tests.{one-if}
 use Rattle.lists.proofs.PartsLaws.{length-tab, getD-tab}
 use Rattle.lists.proofs.Cases.{by-cases}
 use Rattle.lists.proofs.SumsLaws.{sum-nil, sum-cons, sum-append, sum-le, length-sum}
-use Rattle.lists.proofs.TestsLaws.{one-if-le, not-true}
+use Rattle.lists.proofs.TestsLaws.{one-if-le, not-true, each-split}
 use Rattle.entries.specs.declared.Entry.{Entry}
 use Rattle.entries.specs.Entries.{rowOf, noRow}
 use Rattle.page.specs.Page.{pageBytes, next, count, entryAt, entries}
@@ -30,18 +30,14 @@ use Rattle.desk.specs.Layout.{noSlot}
 use Rattle.desk.specs.Views.{slotsIn}
 use Rattle.sweep.specs.Sweep.{entriesOn}
 use Rattle.sound_radios.specs.Entries.{entriesFrom, rowsRead}
-use Rattle.sound_radios.specs.Tables.{fieldEnd, half, added, Fits, weight, weigh, staleSum}
-use Rattle.sound_radios.proofs.TableLaws.{row-next, row-none, added-append, Adding, adding-start, adding-end, adding-key, adding-room, adding-turn, fits-front, fits-then}
+use Rattle.sound_radios.specs.Tables.{fieldEnd, half, added, weight, weigh, staleSum}
+use Rattle.sound_radios.proofs.TableLaws.{row-next, row-none, added-append, Adding, adding-start, adding-end, adding-key, adding-turn}
 
 -- ---- one entry
 
 pub weight-is : (b : Bool) → weight b ≡ 1 + (half - 1) * one-if b
 weight-is true = refl
 weight-is false = refl
-
-pub weight-le : (b : Bool) → weight b ≤ half
-weight-le true = omega arith
-weight-le false = omega arith
 
 pub stale-nil : (old : Row Place → Bool) → staleSum old [] ≡ 0
 unfolding staleSum
@@ -61,11 +57,11 @@ stale-le old es = omega (arith, sum-le (λ e. one-if (old e)) (λ _. 1) es (λ e
 
 -- the entries before i are added, and sum of them are stale: with the rest it is the whole
 pub record Tallying (old : Row Place → Bool) (t₀ : List ℕ) (es : Rows Place) (i : ℕ) (t : List ℕ) (sum : ℕ) : Type 0 where
-  pub adding : Adding half (weigh old) t₀ es i t
+  pub adding : Adding (weigh old) t₀ es i t
   pub stale : sum + staleSum old (drop i es) ≡ staleSum old es
 
-pub tally-start : (old : Row Place → Bool) {t : List ℕ} {es : Rows Place} → Fits half t es → Tallying old t es 0 t 0
-tally-start old f = record { adding = adding-start (weigh old) f; stale = omega arith }
+pub tally-start : (old : Row Place → Bool) {t : List ℕ} {es : Rows Place} → UpTo maxRadio es → Tallying old t es 0 t 0
+tally-start old u = record { adding = adding-start (weigh old) u; stale = omega arith }
 
 -- ---- the entries of a page
 
@@ -87,18 +83,14 @@ module _ {old : Row Place → Bool} {t₀ : List ℕ} (v : List ℕ) {i : ℕ} {
     pub page-radio : e .radio ≤ maxRadio
     page-radio = adding-key (a .adding) opened
 
-    module _ {s k w : ℕ} (at : k ≡ e .radio) (said : s ≡ one-if (old (rowOf e))) (weighs : w ≡ 1 + (half - 1) * s) where
-      weighed : w ≡ weigh old (rowOf e)
-      weighed = omega (arith, weight-is (old (rowOf e)))
-
-      pub page-room : getD t k 0 + w < fieldEnd
-      page-room = rw (at, weighed) (adding-room (a .adding) opened (weigh old (rowOf e)) (weight-le (old (rowOf e))))
-
-      pub page-turn : Tallying old t₀ (entries v) (i + 1) (set t k (getD t k 0 + w)) (sum + s)
-      page-turn = record {
-        adding = adding-turn (a .adding) opened at weighed (weight-le (old (rowOf e)));
-        stale = omega (arith, a .stale, ap (staleSum old) opened, stale-cons old (rowOf e) (drop (i + 1) (entries v)));
-      }
+    pub page-turn : {s k w b : ℕ} → k ≡ e .radio → s ≡ one-if (old (rowOf e)) → w ≡ 1 + (half - 1) * s → b ≡ (getD t k 0 + w) % fieldEnd
+        → Tallying old t₀ (entries v) (i + 1) (set t k b) (sum + s)
+    page-turn {s} {k} {w} at said weighs q =
+        let z : w ≡ weigh old (rowOf e) = omega (arith, weight-is (old (rowOf e))) in
+        record {
+          adding = adding-turn (a .adding) opened at (q ∙ ap (λ (n : ℕ). (getD t k 0 + n) % fieldEnd) z);
+          stale = omega (arith, a .stale, ap (staleSum old) opened, stale-cons old (rowOf e) (drop (i + 1) (entries v)));
+        }
 
 -- ---- the pages of a chain
 
@@ -119,13 +111,13 @@ page-asks b p e t f = rw e (there-bounds b p (was-there b p t f))
 
 -- the entries read are added, and sum of them are stale: with those of the rest of the chain it is the whole
 pub record Chaining (old : Row Place → Bool) (b : List ℕ) (first : ℕ) (t₀ t : List ℕ) (sum p fuel : ℕ) : Type 0 where
-  pub fits : Fits half t (entriesOn b (chainFrom fuel b p))
+  pub radios : UpTo maxRadio (entriesOn b (chainFrom fuel b p))
   pub same : added (weigh old) t (entriesOn b (chainFrom fuel b p)) ≡ added (weigh old) t₀ (entriesFrom b first)
   pub stale : sum + staleSum old (entriesOn b (chainFrom fuel b p)) ≡ staleSum old (entriesFrom b first)
 
-pub chaining-start : (old : Row Place → Bool) (b : List ℕ) {first : ℕ} {t : List ℕ} → Fits half t (entriesFrom b first) → Chaining old b first t t 0 first pages
+pub chaining-start : (old : Row Place → Bool) (b : List ℕ) {first : ℕ} {t : List ℕ} → UpTo maxRadio (entriesFrom b first) → Chaining old b first t t 0 first pages
 unfolding entriesFrom
-chaining-start old b f = record { fits = f; same = refl; stale = omega arith }
+chaining-start old b u = record { radios = u; same = refl; stale = omega arith }
 
 module _ {old : Row Place → Bool} {b : List ℕ} {first : ℕ} {t₀ t : List ℕ} {sum p fuel : ℕ} (a : Chaining old b first t₀ t sum p fuel) where
   stops : chainFrom fuel b p ≡ [] → (t ≡ added (weigh old) t₀ (entriesFrom b first)) × (sum ≡ staleSum old (entriesFrom b first))
@@ -147,11 +139,11 @@ module _ {old : Row Place → Bool} {b : List ℕ} {first : ℕ} {t₀ t : List 
         ap (λ (n : ℕ). entriesOn b (chainFrom n b p)) z ∙ ap (entriesOn b) (chain-there b p (fuel - 1) (was-there b p e f) .0)
         ∙ on-cons b p (chainFrom (fuel - 1) b (next (pageAt b p))) ∙ ap (λ (y : List ℕ). entries y ++ entriesOn b (chainFrom (fuel - 1) b (next (pageAt b p)))) (sym (page ∙ ap (pageAt b) at))
 
-    fits-both : Fits half t (entries v ++ entriesOn b (chainFrom (fuel - 1) b (next (pageAt b p))))
-    fits-both = subst (λ (es : Rows Place). Fits half t es) after (a .fits)
+    radios-both : UpTo maxRadio (entries v) × UpTo maxRadio (entriesOn b (chainFrom (fuel - 1) b (next (pageAt b p))))
+    radios-both = each-split (λ x. x .key ≤ maxRadio) (entries v) (entriesOn b (chainFrom (fuel - 1) b (next (pageAt b p)))) (subst (λ (es : Rows Place). UpTo maxRadio es) after (a .radios))
 
-    pub chaining-fits : Fits half t (entries v)
-    chaining-fits = fits-front half t (entries v) (entriesOn b (chainFrom (fuel - 1) b (next (pageAt b p)))) fits-both
+    pub chaining-radios : UpTo maxRadio (entries v)
+    chaining-radios = radios-both .0
 
     module _ {s : ℕ} (said : s ≡ staleSum old (entries v)) where
       both-stale : sum + s + staleSum old (entriesOn b (chainFrom (fuel - 1) b (next (pageAt b p)))) ≡ staleSum old (entriesFrom b first)
@@ -161,7 +153,7 @@ module _ {old : Row Place → Bool} {b : List ℕ} {first : ℕ} {t₀ t : List 
       chaining-turn {u} {q} g h =
           let rest = entriesOn b (chainFrom (fuel - 1) b (next (pageAt b p))) in
           let c : Chaining old b first t₀ (added (weigh old) t (entries v)) (sum + s) (next (pageAt b p)) (fuel - 1) = record {
-            fits = fits-then half (weigh old) (λ x. weight-le (old x)) t (entries v) rest fits-both;
+            radios = radios-both .1;
             same = sym (added-append (weigh old) t (entries v) rest) ∙ ap (added (weigh old) t) (sym after) ∙ a .same;
             stale = both-stale;
           } in
@@ -179,13 +171,13 @@ concat-cons l ls = refl
 
 -- the entries of the cells before i are added, and the stale ones of each counted: with the rest it is the whole
 pub record Cells (old : Row Place → Bool) (b : List ℕ) (d : Directory) (t₀ t counts : List ℕ) (i : ℕ) : Type 0 where
-  pub fits : Fits half t (concat (drop i (rowsRead b d)))
+  pub radios : UpTo maxRadio (concat (drop i (rowsRead b d)))
   pub same : added (weigh old) t (concat (drop i (rowsRead b d))) ≡ added (weigh old) t₀ (concat (rowsRead b d))
   pub counted : take i counts ++ map (staleSum old) (drop i (rowsRead b d)) ≡ map (staleSum old) (rowsRead b d)
   pub size : length counts ≡ maxCells
 
-pub cells-start : (old : Row Place → Bool) (b : List ℕ) (d : Directory) {t counts : List ℕ} → Fits half t (concat (rowsRead b d)) → length counts ≡ maxCells → Cells old b d t t counts 0
-cells-start old b d f l = record { fits = f; same = refl; counted = refl; size = l }
+pub cells-start : (old : Row Place → Bool) (b : List ℕ) (d : Directory) {t counts : List ℕ} → UpTo maxRadio (concat (rowsRead b d)) → length counts ≡ maxCells → Cells old b d t t counts 0
+cells-start old b d u l = record { radios = u; same = refl; counted = refl; size = l }
 
 module _ {old : Row Place → Bool} {b : List ℕ} (d : Directory) {t₀ t counts : List ℕ} {i : ℕ} (a : Cells old b d t₀ t counts i) where
   pub cells-end : i ≤ d .n → d .n ≤ i → (t ≡ added (weigh old) t₀ (concat (rowsRead b d))) × (take (d .n) counts ≡ map (staleSum old) (rowsRead b d))
@@ -209,11 +201,11 @@ module _ {old : Row Place → Bool} {b : List ℕ} (d : Directory) {t₀ t count
     all-next : concat (drop i (rowsRead b d)) ≡ here ++ concat (drop (i + 1) (rowsRead b d))
     all-next = ap concat rows-next ∙ concat-cons here (drop (i + 1) (rowsRead b d))
 
-    fits-here : Fits half t (here ++ concat (drop (i + 1) (rowsRead b d)))
-    fits-here = subst (λ (es : Rows Place). Fits half t es) all-next (a .fits)
+    radios-here : UpTo maxRadio here × UpTo maxRadio (concat (drop (i + 1) (rowsRead b d)))
+    radios-here = each-split (λ x. x .key ≤ maxRadio) here (concat (drop (i + 1) (rowsRead b d))) (subst (λ (es : Rows Place). UpTo maxRadio es) all-next (a .radios))
 
-    pub cells-fits : Fits half t (entriesFrom b (getD (d .slots) i noSlot .first))
-    cells-fits = fits-front half t here (concat (drop (i + 1) (rowsRead b d))) fits-here
+    pub cells-radios : UpTo maxRadio (entriesFrom b (getD (d .slots) i noSlot .first))
+    cells-radios = radios-here .0
 
     pub cells-turn : {u : List ℕ} {s : ℕ} → u ≡ added (weigh old) t (entriesFrom b (getD (d .slots) i noSlot .first)) → s ≡ staleSum old (entriesFrom b (getD (d .slots) i noSlot .first))
         → Cells old b d t₀ u (set counts i s) (i + 1)
@@ -224,7 +216,7 @@ module _ {old : Row Place → Bool} {b : List ℕ} (d : Directory) {t₀ t count
         let cut : take (i + 1) (set counts i s) ≡ take i counts ++ (s ∷ []) = rw add-one (take-suc-set counts i s (omega arith)) in
         rw g
         (record {
-          fits = fits-then half (weigh old) (λ x. weight-le (old x)) t here (concat rest) fits-here;
+          radios = radios-here .1;
           same = sym (added-append (weigh old) t here (concat rest)) ∙ ap (added (weigh old) t) (sym all-next) ∙ a .same;
           counted =
               ap (λ (z : List ℕ). z ++ map f rest) cut

@@ -3,11 +3,11 @@ use mathlib.Core.Path.{_≡_}
 use mathlib.Core.Bool.{Bool, true, false}
 use mathlib.Core.List.{List, [], _∷_}
 use mathlib.Core.Option.{Option, none, some}
-use Prim.Native.Nat.{ℕ, zero, suc, _+_, _-_, _*_, _≤_, _<_, min}
+use Prim.Native.Nat.{ℕ, zero, suc, _+_, _-_, _*_, _%_, _≤_, min}
 use lib.Dec.{eqb}
 use lib.ListN.{length, getD, set}
 use Rattle.terms.specs.Terms.{Place, maxRadio}
-use Rattle.lists.specs.Rows.{Row, Rows, UpTo}
+use Rattle.lists.specs.Rows.{Row, Rows}
 use Rattle.lists.specs.Sums.{sumBy}
 use Rattle.lists.specs.Tests.{one-if}
 use Rattle.rules.specs.Store.{Report, Line}
@@ -21,7 +21,7 @@ use Rattle.mirror.specs.Loops.{allTo, passing}
 abbrev pub tableSize : ℕ
 tableSize = suc maxRadio
 
--- the least number that 16 bits do not hold
+-- the least number that 16 bits do not hold: numbers by radio go round there
 abbrev pub fieldEnd : ℕ
 fieldEnd = 65536
 
@@ -30,15 +30,11 @@ pub record Blank (t : List ℕ) : Type 0 where
   pub size : length t ≡ tableSize
   pub zeros : (q : ℕ) → getD t q 0 ≡ 0
 
--- each number of the table may grow by n and still has room in 16 bits
-pub record Spare (n : ℕ) (t : List ℕ) : Type 0 where
-  pub room : (q : ℕ) → getD t q 0 + n < fieldEnd
-
 module _ {Val : Type 0} where
-  -- each row adds its weight at its key
+  -- each row adds its weight at its key, in 16 bits
   unfoldable pub added : (Row Val → ℕ) → List ℕ → Rows Val → List ℕ
   added w t [] = t
-  added w t (x ∷ xs) = added w (set t (x .key) (getD t (x .key) 0 + w x)) xs
+  added w t (x ∷ xs) = added w (set t (x .key) ((getD t (x .key) 0 + w x) % fieldEnd)) xs
 
   -- each row puts its number at its key
   unfoldable pub written : (Row Val → ℕ) → List ℕ → Rows Val → List ℕ
@@ -49,14 +45,9 @@ module _ {Val : Type 0} where
   abbrev pub keyed : ℕ → Rows Val → ℕ
   keyed = passing (λ _. true)
 
-  -- these rows may be added, a row weighing m at most
-  pub record Fits (m : ℕ) (t : List ℕ) (l : Rows Val) : Type 0 where
-    pub radios : UpTo maxRadio l
-    pub room : (q : ℕ) → getD t q 0 + m * keyed q l < fieldEnd
-
--- the same number for every radio
-unfoldable pub sameTables : List ℕ → List ℕ → Bool
-sameTables a b = allTo tableSize (λ q. eqb (getD a q 0) (getD b q 0))
+-- each radio's number is 0 again: what is due is found, and no more
+unfoldable pub allSettled : List ℕ → Bool
+allSettled t = allTo tableSize (λ q. eqb (getD t q 0) 0)
 
 -- ---- an entry, judged by its radio's line
 
@@ -74,7 +65,7 @@ pub record Named (words lines : List ℕ) : Type 0 where
 unfoldable pub judged : List ℕ → List ℕ → Row Place → Bool
 judged words lines e = staleBy (lineNamed words (getD lines (e .key) 0)) (e .val)
 
--- ---- what is found of a radio, and what is due: two counts in one number
+-- ---- what is found of a radio, less what is due: two counts in one number
 
 -- what counts in the high half; no count of a sound store reaches it
 abbrev pub half : ℕ
@@ -92,13 +83,13 @@ weigh old e = weight (old e)
 abbrev pub markNew : Row Report → ℕ
 markNew w = one-if (w .val .new)
 
--- of a line: its missed count in the high half, or as much of it as that holds
-abbrev pub missedDue : Row Line → ℕ
-missedDue l = half * min (l .val .missed) (half - 1)
+-- of a line: its missed count, or as much of it as the high half holds, is taken off there
+abbrev pub missedOff : Row Line → ℕ
+missedOff l = (fieldEnd - half * min (l .val .missed) (half - 1)) % fieldEnd
 
--- of a radio on: in the low half
-abbrev pub each : Row (Unit {0}) → ℕ
-each x = 1
+-- of a radio on: 1 is taken off
+abbrev pub oneOff : Row (Unit {0}) → ℕ
+oneOff x = fieldEnd - 1
 
 -- how many of the entries are stale
 unfoldable pub staleSum : (Row Place → Bool) → Rows Place → ℕ

@@ -1,9 +1,9 @@
 // The test of soundness as far as it judges entries: by memo, marks and who is on, and the round's inequality. Desk and pages have passed the tests of their own.
-// What is found of each radio and what is due stand in tables by radio, which must be the same.
+// What is due of each radio is taken off its number in a table by radio, and what is found is added: each must come to 0 again.
 ghost use mathlib.Core.Bool.{true, not};
 ghost use mathlib.Core.List.{map};
 ghost use mathlib.Core.Path.{_≡_};
-ghost use Prim.Native.Nat.{_+_, _-_, _*_, _<_, _≤_, min};
+ghost use Prim.Native.Nat.{_+_, _-_, _*_, _%_, _<_, _≤_, min};
 ghost use lib.Dec.{eqb};
 ghost use lib.ListN.{length, take};
 ghost use Rattle.terms.specs.Terms.{maxRadio, maxOn, pageEntries};
@@ -22,7 +22,7 @@ ghost use Rattle.sound_pages.specs.PagesSound.{PagesSound};
 ghost use Rattle.waiting.specs.Waiting.{reportsOf};
 ghost use Rattle.sound_desk.specs.Sound.{deskSound};
 ghost use Rattle.sound_radios.specs.Entries.{entriesFrom, rowsRead, entriesTest};
-ghost use Rattle.sound_radios.specs.Tables.{tableSize, fieldEnd, half, Blank, Spare, added, written, Fits, sameTables, Named, judged, weigh, markNew, missedDue, each, staleSum};
+ghost use Rattle.sound_radios.specs.Tables.{tableSize, fieldEnd, half, Blank, added, written, allSettled, Named, judged, weigh, markNew, missedOff, oneOff, staleSum};
 use desk::Desk;
 use desk::Directory;
 use desk::Grid;
@@ -46,6 +46,9 @@ const NO_LINE: u16 = 0;
 
 const UNMARKED: u16 = 0;
 
+// A number by radio where what is due is found, and no more.
+const SETTLED: u16 = 0;
+
 // ---- numbers
 
 fn long(x: u16) -> usize
@@ -59,6 +62,19 @@ fn radio_index(radio: u16) -> usize
     ensures { λ r. ⌜ (r ≡ radio) × (r < tableSize) ⌝ }
 {
     radio as usize
+}
+
+// In 16 bits, round either end: what is due is taken off before what is found is added.
+fn plus(a: u16, b: u16) -> u16
+    ensures { λ r. ⌜ r ≡ (a + b) % fieldEnd ⌝ }
+{
+    std::num::wrapping_add_u16(a, b)
+}
+
+fn minus(a: u16, b: u16) -> u16
+    ensures { λ r. ⌜ r ≡ (a + (fieldEnd - b)) % fieldEnd ⌝ }
+{
+    std::num::wrapping_sub_u16(a, b)
 }
 
 // ---- an entry, judged
@@ -99,15 +115,15 @@ fn weight(stale: u16) -> u16
     1 + (HALF - 1) * stale
 }
 
-// The entries of a page are added to what is found; how many of them are stale.
+// The entries of a page are added; how many of them are stale.
 fn tally_page<'a>(
     page: &'a [u8],
     words: &'a [u16; Desk::MEMO_WORDS],
     lines: &'a [u16; RADIOS],
-    found: &'a mut [u16; RADIOS],
+    balance: &'a mut [u16; RADIOS],
 ) -> u16
-    requires { ⌜ (length (now page) ≡ pageBytes) × Named (now words) (now lines) × Fits half (now found) (entries (now page)) ⌝ }
-    ensures { λ r. ⌜ (now (found .exit) ≡ added (weigh (judged (now (words .entry)) (now (lines .entry)))) (now (found .entry)) (entries (now (page .entry)))) × (r ≡ staleSum (judged (now (words .entry)) (now (lines .entry))) (entries (now (page .entry)))) × (r ≤ pageEntries) ⌝ }
+    requires { ⌜ (length (now page) ≡ pageBytes) × Named (now words) (now lines) × UpTo maxRadio (entries (now page)) ⌝ }
+    ensures { λ r. ⌜ (now (balance .exit) ≡ added (weigh (judged (now (words .entry)) (now (lines .entry)))) (now (balance .entry)) (entries (now (page .entry)))) × (r ≡ staleSum (judged (now (words .entry)) (now (lines .entry))) (entries (now (page .entry)))) × (r ≤ pageEntries) ⌝ }
 {
     let n = page::entry_count(page);
     let mut sum: u16 = 0;
@@ -116,8 +132,8 @@ fn tally_page<'a>(
         let e = page::read_entry(page, i);
         let stale = judge_entry(e, words, lines);
         let k = radio_index(e.radio);
-        let before = found[k];
-        found[k] = before + weight(stale);
+        let before = balance[k];
+        balance[k] = plus(before, weight(stale));
         sum = sum + stale;
         i += 1;
     }
@@ -130,10 +146,10 @@ fn tally_chain<'a>(
     first: u16,
     words: &'a [u16; Desk::MEMO_WORDS],
     lines: &'a [u16; RADIOS],
-    found: &'a mut [u16; RADIOS],
+    balance: &'a mut [u16; RADIOS],
 ) -> u16
-    requires { ⌜ Named (now words) (now lines) × Fits half (now found) (entriesFrom (now pages) first) ⌝ }
-    ensures { λ r. ⌜ (now (found .exit) ≡ added (weigh (judged (now (words .entry)) (now (lines .entry)))) (now (found .entry)) (entriesFrom (now (pages .entry)) first)) × (r ≡ staleSum (judged (now (words .entry)) (now (lines .entry))) (entriesFrom (now (pages .entry)) first)) ⌝ }
+    requires { ⌜ Named (now words) (now lines) × UpTo maxRadio (entriesFrom (now pages) first) ⌝ }
+    ensures { λ r. ⌜ (now (balance .exit) ≡ added (weigh (judged (now (words .entry)) (now (lines .entry)))) (now (balance .entry)) (entriesFrom (now (pages .entry)) first)) × (r ≡ staleSum (judged (now (words .entry)) (now (lines .entry))) (entriesFrom (now (pages .entry)) first)) ⌝ }
 {
     let mut sum: u16 = 0;
     let mut p = first;
@@ -143,7 +159,7 @@ fn tally_chain<'a>(
             return sum;
         }
         let page = page::page_at(pages, long(p));
-        sum = sum + tally_page(page, words, lines, found);
+        sum = sum + tally_page(page, words, lines, balance);
         p = page::next_page(pages, p);
         fuel -= 1;
     }
@@ -156,34 +172,34 @@ fn tally_cells<'a>(
     cells: Directory,
     words: &'a [u16; Desk::MEMO_WORDS],
     lines: &'a [u16; RADIOS],
-    found: &'a mut [u16; RADIOS],
+    balance: &'a mut [u16; RADIOS],
 ) -> [u16; CELLS]
-    requires { ⌜ (cells .n ≤ maxCells) × Named (now words) (now lines) × Fits half (now found) (concat (rowsRead (now pages) cells)) ⌝ }
-    ensures { λ r. ⌜ (now (found .exit) ≡ added (weigh (judged (now (words .entry)) (now (lines .entry)))) (now (found .entry)) (concat (rowsRead (now (pages .entry)) cells))) × (take (cells .n) r ≡ map (staleSum (judged (now (words .entry)) (now (lines .entry)))) (rowsRead (now (pages .entry)) cells)) ⌝ }
+    requires { ⌜ (cells .n ≤ maxCells) × Named (now words) (now lines) × UpTo maxRadio (concat (rowsRead (now pages) cells)) ⌝ }
+    ensures { λ r. ⌜ (now (balance .exit) ≡ added (weigh (judged (now (words .entry)) (now (lines .entry)))) (now (balance .entry)) (concat (rowsRead (now (pages .entry)) cells))) × (take (cells .n) r ≡ map (staleSum (judged (now (words .entry)) (now (lines .entry)))) (rowsRead (now (pages .entry)) cells)) ⌝ }
 {
     let mut counts = [0u16; CELLS];
     let n = cells.n;
     let mut i: usize = 0;
     while i < n {
         let s = cells.slots[i];
-        counts[i] = tally_chain(pages, s.first, words, lines, found);
+        counts[i] = tally_chain(pages, s.first, words, lines, balance);
         i += 1;
     }
     counts
 }
 
 // Each waiting report marked new adds 1 to its radio's low half.
-fn tally_new<'a>(w: Waiting, found: &'a mut [u16; RADIOS])
-    requires { ⌜ (w .n ≤ fullMemory) × Fits 1 (now found) (reportsOf w) ⌝ }
-    ensures { λ _. ⌜ now (found .exit) ≡ added markNew (now (found .entry)) (reportsOf w) ⌝ }
+fn tally_new<'a>(w: Waiting, balance: &'a mut [u16; RADIOS])
+    requires { ⌜ (w .n ≤ fullMemory) × UpTo maxRadio (reportsOf w) ⌝ }
+    ensures { λ _. ⌜ now (balance .exit) ≡ added markNew (now (balance .entry)) (reportsOf w) ⌝ }
 {
     let n = w.n;
     let mut i: usize = 0;
     while i < n {
         let x = w.rows[i];
         let k = radio_index(x.radio);
-        let before = found[k];
-        found[k] = before + apart(x.new, UNMARKED);
+        let before = balance[k];
+        balance[k] = plus(before, apart(x.new, UNMARKED));
         i += 1;
     }
 }
@@ -197,11 +213,11 @@ fn clipped(missed: u16) -> u16
     if missed < HALF { missed } else { HALF - 1 }
 }
 
-// A line's missed count, in the high half.
-fn missed_due(x: Line) -> u16
-    ensures { λ r. ⌜ (r ≡ half * min (x .missed) (half - 1)) × (r + (half - 1) < fieldEnd) ⌝ }
+// A line's missed count, taken off in the high half.
+fn missed_off(x: Line) -> u16
+    ensures { λ r. ⌜ r ≡ (fieldEnd - half * min (x .missed) (half - 1)) % fieldEnd ⌝ }
 {
-    HALF * clipped(x.missed)
+    minus(SETTLED, HALF * clipped(x.missed))
 }
 
 fn place_from_one(i: usize) -> u16
@@ -215,33 +231,32 @@ fn place_from_one(i: usize) -> u16
 fn lines_due<'a>(
     words: &'a [u16; Desk::MEMO_WORDS],
     n: usize,
-    due: &'a mut [u16; RADIOS],
+    balance: &'a mut [u16; RADIOS],
     lines: &'a mut [u16; RADIOS],
 )
-    requires { ⌜ (length (now words) ≡ lineFields * lineSlots) × (n ≤ lineSlots) × Rising 0 (linesOf (record { n = n; words = now words })) × UpTo maxRadio (linesOf (record { n = n; words = now words })) × Spare (half - 1) (now due) × Blank (now lines) ⌝ }
-    ensures { λ _. ⌜ (now (due .exit) ≡ written missedDue (now (due .entry)) (linesOf (record { n = n; words = now (words .entry) }))) × Spare (half - 1) (now (due .exit)) × Named (now (words .entry)) (now (lines .exit)) × (judged (now (words .entry)) (now (lines .exit)) ≡ stale (linesOf (record { n = n; words = now (words .entry) }))) ⌝ }
+    requires { ⌜ (length (now words) ≡ lineFields * lineSlots) × (n ≤ lineSlots) × Rising 0 (linesOf (record { n = n; words = now words })) × UpTo maxRadio (linesOf (record { n = n; words = now words })) × Blank (now lines) ⌝ }
+    ensures { λ _. ⌜ (now (balance .exit) ≡ written missedOff (now (balance .entry)) (linesOf (record { n = n; words = now (words .entry) }))) × Named (now (words .entry)) (now (lines .exit)) × (judged (now (words .entry)) (now (lines .exit)) ≡ stale (linesOf (record { n = n; words = now (words .entry) }))) ⌝ }
 {
     let mut i: usize = 0;
     while i < n {
         let x = desk::line_at(words, i);
         let k = radio_index(x.radio);
-        due[k] = missed_due(x);
+        balance[k] = missed_off(x);
         lines[k] = place_from_one(i);
         i += 1;
     }
 }
 
-// Each radio on adds 1 to its low half.
-fn on_due<'a>(on: On, due: &'a mut [u16; RADIOS])
-    requires { ⌜ (on .n ≤ maxOn) × Fits 1 (now due) (radiosOf on) ⌝ }
-    ensures { λ _. ⌜ now (due .exit) ≡ added each (now (due .entry)) (radiosOf on) ⌝ }
+// Each radio on takes 1 off.
+fn on_due<'a>(radios: &'a [u16; Desk::MAX_ON], n: usize, balance: &'a mut [u16; RADIOS])
+    requires { ⌜ (length (now radios) ≡ maxOn) × (n ≤ maxOn) × UpTo maxRadio (radiosOf (record { n = n; radios = now radios })) ⌝ }
+    ensures { λ _. ⌜ now (balance .exit) ≡ added oneOff (now (balance .entry)) (radiosOf (record { n = n; radios = now (radios .entry) })) ⌝ }
 {
-    let n = on.n;
     let mut i: usize = 0;
     while i < n {
-        let k = radio_index(on.radios[i]);
-        let before = due[k];
-        due[k] = before + 1;
+        let k = radio_index(radios[i]);
+        let before = balance[k];
+        balance[k] = minus(before, 1);
         i += 1;
     }
 }
@@ -254,14 +269,14 @@ fn apart(a: u16, b: u16) -> u16
     if a == b { 0 } else { 1 }
 }
 
-// Whether two tables are the same. It never leaves early, so that many numbers are compared at a time.
-fn same<'a>(a: &'a [u16; RADIOS], b: &'a [u16; RADIOS]) -> bool
-    ensures { λ r. ⌜ r ≡ sameTables (now (a .entry)) (now (b .entry)) ⌝ }
+// Whether each number is settled. It never leaves early, so that many numbers are compared at a time.
+fn all_settled<'a>(balance: &'a [u16; RADIOS]) -> bool
+    ensures { λ r. ⌜ r ≡ allSettled (now (balance .entry)) ⌝ }
 {
     let mut n: u16 = 0;
     let mut i: usize = 0;
     while i < RADIOS {
-        n = n + apart(a[i], b[i]);
+        n = n + apart(balance[i], SETTLED);
         i += 1;
     }
     n == 0
@@ -305,15 +320,14 @@ pub fn radios_sound<'a>(
     requires { ⌜ (length (now words) ≡ lineFields * lineSlots) × (deskSound (record { grid = grid; waiting = waiting; memo = record { n = n; words = now words }; on = on; tally = tally }) ≡ true) × PagesSound (now pages) (grid .cells) (grid .free) ⌝ }
     ensures { λ r. ⌜ r ≡ entriesTest (linesOf (record { n = n; words = now (words .entry) })) (reportsOf waiting) (radiosOf on) tally (rowsRead (now (pages .entry)) (grid .cells)) ⌝ }
 {
-    let mut due = [0u16; RADIOS];
-    let mut lines = [0u16; RADIOS];
-    lines_due(words, n, &mut due, &mut lines);
-    on_due(on, &mut due);
-    let mut found = [0u16; RADIOS];
-    tally_new(waiting, &mut found);
+    let mut balance = [SETTLED; RADIOS];
+    let mut lines = [NO_LINE; RADIOS];
+    lines_due(words, n, &mut balance, &mut lines);
+    on_due(&on.radios, on.n, &mut balance);
+    tally_new(waiting, &mut balance);
     let cells = grid.cells;
-    let counts = tally_cells(pages, cells, words, &lines, &mut found);
-    if !same(&due, &found) {
+    let counts = tally_cells(pages, cells, words, &lines, &mut balance);
+    if !all_settled(&balance) {
         return false;
     }
     bound_ok(counts, cells.n, waiting.n, tally)

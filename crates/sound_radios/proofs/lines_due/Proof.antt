@@ -6,10 +6,10 @@ use Rattle.sound_radios.proofs.lines_due.Statement.{statement}
 use Rattle.sound_radios.proofs.lines_due.Tie as tie
 
 abbrev Inv-loop : tie.InvT-loop
-Inv-loop words n due₀ lines₀ i₀ due lines i = (i ≤ n) × LinesDue (record { n = n; words = words }) due₀ i due lines
+Inv-loop words n balance₀ lines₀ i₀ balance lines i = (i ≤ n) × LinesDue (record { n = n; words = words }) balance₀ i balance lines
 
 abbrev μ-loop : tie.MeasureT-loop
-μ-loop words n due₀ lines₀ i₀ due lines i = n - i
+μ-loop words n balance₀ lines₀ i₀ balance lines i = n - i
 
 loop-holds : tie.Need-loop-holds Inv-loop μ-loop
 loop-holds c = (search needs, search lines-start)
@@ -20,14 +20,14 @@ line-at-requires c κs = search needs
 radio-index-requires : tie.Need-radio-index-requires Inv-loop μ-loop
 radio-index-requires c κs = search line-radio
 
-missed-due-requires : tie.Need-missed-due-requires Inv-loop μ-loop
-missed-due-requires c κs = search needs
+missed-off-requires : tie.Need-missed-off-requires Inv-loop μ-loop
+missed-off-requires c κs = search needs
 
-mul-due : tie.Need-mul-due Inv-loop μ-loop
-mul-due c = search needs
+mul-balance : tie.Need-mul-balance Inv-loop μ-loop
+mul-balance c = search needs
 
-element-write-due : tie.Need-element-write-due Inv-loop μ-loop
-element-write-due c = search needs
+element-write-balance : tie.Need-element-write-balance Inv-loop μ-loop
+element-write-balance c = search needs
 
 place-from-one-requires : tie.Need-place-from-one-requires Inv-loop μ-loop
 place-from-one-requires c κs = search needs
@@ -59,9 +59,9 @@ lines-due-spec =
     loop-holds
     line-at-requires
     radio-index-requires
-    missed-due-requires
-    mul-due
-    element-write-due
+    missed-off-requires
+    mul-balance
+    element-write-balance
     place-from-one-requires
     mul-lines
     element-write-lines

@@ -1,24 +1,21 @@
 -- The radios so far are added (`Adding`).
-use mathlib.Core.Path.{_≡_}
 use Prim.Native.Nat.{_-_, _≤_}
-use lib.ListN.{length}
-use Rattle.terms.specs.Terms.{maxOn}
 use Rattle.desk.specs.Views.{radiosOf}
-use Rattle.sound_radios.specs.Tables.{each}
+use Rattle.sound_radios.specs.Tables.{oneOff}
 use Rattle.sound_radios.proofs.TableLaws.{Adding, adding-start}
-use Rattle.sound_radios.proofs.DueLaws.{on-radio, on-room, on-turn, on-end}
+use Rattle.sound_radios.proofs.DueLaws.{on-radio, on-turn, on-end}
 use borrow.Author.Needs.{needs}
 use Rattle.sound_radios.proofs.on_due.Statement.{statement}
 use Rattle.sound_radios.proofs.on_due.Tie as tie
 
 abbrev Inv-loop : tie.InvT-loop
-Inv-loop due₀ on n i₀ due i = (i ≤ on .n) × (length (on .radios) ≡ maxOn) × Adding 1 each due₀ (radiosOf on) i due
+Inv-loop radios n balance₀ i₀ balance i = (i ≤ n) × Adding oneOff balance₀ (radiosOf (record { n = n; radios = radios })) i balance
 
 abbrev μ-loop : tie.MeasureT-loop
-μ-loop due₀ on n i₀ due i = on .n - i
+μ-loop radios n balance₀ i₀ balance i = n - i
 
 loop-holds : tie.Need-loop-holds Inv-loop μ-loop
-loop-holds c = (search needs, search needs, search adding-start)
+loop-holds c = (search needs, search adding-start)
 
 mul-radio-index : tie.Need-mul-radio-index Inv-loop μ-loop
 mul-radio-index c = search needs
@@ -35,14 +32,14 @@ mul-before c = search needs
 element-copy-out-before : tie.Need-element-copy-out-before Inv-loop μ-loop
 element-copy-out-before c = search needs
 
-add-due : tie.Need-add-due Inv-loop μ-loop
-add-due c = search on-room
+minus-requires : tie.Need-minus-requires Inv-loop μ-loop
+minus-requires c κs = search needs
 
-mul-due : tie.Need-mul-due Inv-loop μ-loop
-mul-due c = search needs
+mul-balance : tie.Need-mul-balance Inv-loop μ-loop
+mul-balance c = search needs
 
-element-write-due : tie.Need-element-write-due Inv-loop μ-loop
-element-write-due c = search needs
+element-write-balance : tie.Need-element-write-balance Inv-loop μ-loop
+element-write-balance c = search needs
 
 add-i : tie.Need-add-i Inv-loop μ-loop
 add-i c = search needs
@@ -51,7 +48,7 @@ loop-less : tie.Need-loop-less Inv-loop μ-loop
 loop-less c = search needs
 
 loop-again : tie.Need-loop-again Inv-loop μ-loop
-loop-again c = (search needs, search needs, search on-turn)
+loop-again c = (search needs, search on-turn)
 
 returns : tie.Need-returns Inv-loop μ-loop
 returns c = search on-end
@@ -68,9 +65,9 @@ on-due-spec =
     radio-index-requires
     mul-before
     element-copy-out-before
-    add-due
-    mul-due
-    element-write-due
+    minus-requires
+    mul-balance
+    element-write-balance
     add-i
     loop-less
     loop-again

@@ -1,4 +1,4 @@
--- What desk and pages have shown lets each table be filled (`Known`); then the tables are the same, and the inequality holds, exactly if the entries pass.
+-- What desk and pages have shown lets the tables be filled (`Known`); then the table is settled, and the inequality holds, exactly if the entries pass.
 use Rattle.lists.proofs.ShiftLaws.{length-mapped}
 use Rattle.sound_radios.proofs.KnownLaws.{Known, known}
 use Rattle.sound_radios.proofs.TestLaws.{blank-zeros}
@@ -8,55 +8,50 @@ use Rattle.sound_radios.proofs.radios_sound.Statement.{statement}
 use Rattle.sound_radios.proofs.radios_sound.Tie as tie
 use Rattle.sound_radios.proofs.radios_sound.Reads as reads
 use Rattle.sound_radios.proofs.radios_sound.Lts as lts
+use Rattle.sound_radios.proofs.all_settled.Reads as all-settled-reads
 use Rattle.sound_radios.proofs.bound_ok.Reads as bound-ok-reads
 use Rattle.sound_radios.proofs.lines_due.Reads as lines-due-reads
 use Rattle.sound_radios.proofs.on_due.Reads as on-due-reads
-use Rattle.sound_radios.proofs.same.Reads as same-reads
 use Rattle.sound_radios.proofs.tally_cells.Reads as tally-cells-reads
 use Rattle.sound_radios.proofs.tally_new.Reads as tally-new-reads
 
-shown : (s : lts.Start (lines-due-reads.Asked, lines-due-reads.Learnt, on-due-reads.Asked, on-due-reads.Learnt, tally-new-reads.Asked, tally-new-reads.Learnt, tally-cells-reads.Asked, tally-cells-reads.Learnt, same-reads.Asked, same-reads.Learnt, bound-ok-reads.Asked, bound-ok-reads.Learnt) reads.Pre reads.Post)
-    → Known (s .args .pages .now) (record { grid = s .args .grid; waiting = s .args .waiting; memo = record { n = s .args .n; words = s .args .words .now }; on = s .args .on; tally = s .args .tally })
-shown s = known (s .args .pages .now) (record { grid = s .args .grid; waiting = s .args .waiting; memo = record { n = s .args .n; words = s .args .words .now }; on = s .args .on; tally = s .args .tally }) (record { easts = search needs; norths = search needs; cells = search length-mapped; waiting = search length-mapped; memo = s .pre .0; on = search needs }) (s .pre .1) (s .pre .2)
+shown : (s : lts.Start (lines-due-reads.Asked, lines-due-reads.Learnt, on-due-reads.Asked, on-due-reads.Learnt, tally-new-reads.Asked, tally-new-reads.Learnt, tally-cells-reads.Asked, tally-cells-reads.Learnt, all-settled-reads.Asked, all-settled-reads.Learnt, bound-ok-reads.Asked, bound-ok-reads.Learnt) reads.Pre reads.Post)
+    → Known (s .args .pages .now) (record { grid = s .args .grid; waiting = s .args .waiting; memo = record { n = s .args .n; words = s .args .words .now }; on = s .args .t6; tally = s .args .tally })
+shown s = known (s .args .pages .now) (record { grid = s .args .grid; waiting = s .args .waiting; memo = record { n = s .args .n; words = s .args .words .now }; on = s .args .t6; tally = s .args .tally }) (record { easts = search needs; norths = search needs; cells = search length-mapped; waiting = search length-mapped; memo = s .pre .0; on = search needs }) (s .pre .1) (s .pre .2)
 
 lines-due-requires : tie.Need-lines-due-requires
-lines-due-requires c κs = let start = c .before .before .before in let a = lines-asks (shown start) blank-zeros in (start .pre .0, a .0, a .1, a .2, a .3, a .4)
+lines-due-requires c κs = let start = c .before .before .before in let a = lines-asks (shown start) blank-zeros in (start .pre .0, a .0, a .1, a .2, a .3)
 
 on-due-requires : tie.Need-on-due-requires
-on-due-requires c κs = let l = c .before in on-asks (shown (l .before .before .before .before)) (l .lines-due .ensures .1)
+on-due-requires c κs = let a = on-asks (shown (c .before .before .before .before .before .before .before)) in (search needs, a .0, a .1)
 
 tally-new-requires : tie.Need-tally-new-requires
-tally-new-requires c κs = new-asks (shown (c .before .before .before .before .before .before .before)) blank-zeros
+tally-new-requires c κs = new-asks (shown (c .before .before .before .before .before .before .before .before .before))
 
 tally-cells-requires : tie.Need-tally-cells-requires
-tally-cells-requires c κs =
-    let n = c .before .before .before in
-    let l = n .before .before .before .before in
-    cells-asks (shown (l .before .before .before .before)) (l .lines-due .ensures .2) blank-zeros (n .tally-new .ensures)
+tally-cells-requires c κs = let l = c .before .before .before .before .before .before .before .before .before in cells-asks (shown (l .before .before .before .before)) (l .lines-due .ensures .1)
 
-same-requires : tie.Need-same-requires
-same-requires c κs = search needs
+all-settled-requires : tie.Need-all-settled-requires
+all-settled-requires c κs = search needs
 
 returns : tie.Need-returns
 returns c =
-    let t = c .before .before .before .before in
+    let t = c .before .before .before in
     let n = t .before .before .before .before in
     let o = n .before .before in
-    let l = o .before .before in
-    let e = l .lines-due .ensures in
-    radios-fail (shown (l .before .before .before .before)) _ blank-zeros blank-zeros (e .0) (e .3) (o .on-due .ensures) (n .tally-new .ensures) (t .tally-cells .ensures .0) (t .tally-cells .ensures .1) (c .before .same .ensures) (c .if1 .taken)
+    let l = o .before .before .before .before in
+    radios-fail (shown (l .before .before .before .before)) _ blank-zeros (l .lines-due .ensures .0) (l .lines-due .ensures .2) (o .on-due .ensures) (n .tally-new .ensures) (t .tally-cells .ensures .0) (t .tally-cells .ensures .1) (c .before .all-settled .ensures) (c .if1 .taken)
 
 bound-ok-requires : tie.Need-bound-ok-requires
-bound-ok-requires c κs = bound-asks (shown (c .before .before .before .before .before .before .before .before .before .before .before .before .before .before .before .before))
+bound-ok-requires c κs = bound-asks (shown (c .before .before .before .before .before .before .before .before .before .before .before .before .before .before .before .before .before))
 
 returns-2 : tie.Need-returns-2
 returns-2 c =
-    let t = c .before .before .before .before .before in
+    let t = c .before .before .before .before in
     let n = t .before .before .before .before in
     let o = n .before .before in
-    let l = o .before .before in
-    let e = l .lines-due .ensures in
-    radios-bound (shown (l .before .before .before .before)) _ blank-zeros blank-zeros (e .0) (e .3) (o .on-due .ensures) (n .tally-new .ensures) (t .tally-cells .ensures .0) (t .tally-cells .ensures .1) (c .before .before .same .ensures) (c .before .if1 .left) (c .bound-ok .ensures)
+    let l = o .before .before .before .before in
+    radios-bound (shown (l .before .before .before .before)) _ blank-zeros (l .lines-due .ensures .0) (l .lines-due .ensures .2) (o .on-due .ensures) (n .tally-new .ensures) (t .tally-cells .ensures .0) (t .tally-cells .ensures .1) (c .before .before .all-settled .ensures) (c .before .if1 .left) (c .bound-ok .ensures)
 
 pub radios-sound-spec : {M : Type 1} → statement M
 radios-sound-spec =
@@ -66,7 +61,7 @@ radios-sound-spec =
     on-due-requires
     tally-new-requires
     tally-cells-requires
-    same-requires
+    all-settled-requires
     returns
     bound-ok-requires
     returns-2)

@@ -5,16 +5,16 @@ use lib.ListN.{length}
 use Rattle.lists.proofs.ShiftLaws.{length-mapped}
 use Rattle.rules.specs.Limits.{maxCells}
 use Rattle.sound_radios.specs.Tables.{judged}
-use Rattle.sound_radios.proofs.WalkLaws.{Cells, cells-start, cells-fits, cells-turn, cells-end}
+use Rattle.sound_radios.proofs.WalkLaws.{Cells, cells-start, cells-radios, cells-turn, cells-end}
 use borrow.Author.Needs.{needs}
 use Rattle.sound_radios.proofs.tally_cells.Statement.{statement}
 use Rattle.sound_radios.proofs.tally_cells.Tie as tie
 
 abbrev Inv-loop : tie.InvT-loop
-Inv-loop pages words lines found₀ cells counts₀ n i₀ found counts i = (i ≤ cells .n) × (length (cells .slots) ≡ maxCells) × Cells (judged words lines) pages cells found₀ found counts i
+Inv-loop pages words lines balance₀ cells counts₀ n i₀ balance counts i = (i ≤ cells .n) × (length (cells .slots) ≡ maxCells) × Cells (judged words lines) pages cells balance₀ balance counts i
 
 abbrev μ-loop : tie.MeasureT-loop
-μ-loop pages words lines found₀ cells counts₀ n i₀ found counts i = cells .n - i
+μ-loop pages words lines balance₀ cells counts₀ n i₀ balance counts i = cells .n - i
 
 loop-holds : tie.Need-loop-holds Inv-loop μ-loop
 loop-holds c = (search needs, search length-mapped, search (cells-start, needs))
@@ -26,7 +26,7 @@ element-copy-out-s : tie.Need-element-copy-out-s Inv-loop μ-loop
 element-copy-out-s c = search needs
 
 tally-chain-requires : tie.Need-tally-chain-requires Inv-loop μ-loop
-tally-chain-requires c κs = (search needs, search cells-fits)
+tally-chain-requires c κs = (search needs, search cells-radios)
 
 mul-counts : tie.Need-mul-counts Inv-loop μ-loop
 mul-counts c = search needs

@@ -3,16 +3,16 @@ use Prim.Native.Nat.{_+_, _*_, _≤_}
 use Rattle.terms.specs.Terms.{pages as sheets, pageEntries}
 use Rattle.page.proofs.ChainLaws.{was-there}
 use Rattle.sound_radios.specs.Tables.{judged}
-use Rattle.sound_radios.proofs.WalkLaws.{Chaining, chaining-start, page-asks, chaining-gone, chaining-fits, chaining-turn, chaining-out}
+use Rattle.sound_radios.proofs.WalkLaws.{Chaining, chaining-start, page-asks, chaining-gone, chaining-radios, chaining-turn, chaining-out}
 use borrow.Author.Needs.{needs}
 use Rattle.sound_radios.proofs.tally_chain.Statement.{statement}
 use Rattle.sound_radios.proofs.tally_chain.Tie as tie
 
 abbrev Inv-loop : tie.InvT-loop
-Inv-loop pages first words lines found₀ sum₀ p₀ fuel₀ found sum p fuel = (sum + pageEntries * fuel ≤ pageEntries * sheets) × Chaining (judged words lines) pages first found₀ found sum p fuel
+Inv-loop pages first words lines balance₀ sum₀ p₀ fuel₀ balance sum p fuel = (sum + pageEntries * fuel ≤ pageEntries * sheets) × Chaining (judged words lines) pages first balance₀ balance sum p fuel
 
 abbrev μ-loop : tie.MeasureT-loop
-μ-loop pages first words lines found₀ sum₀ p₀ fuel₀ found sum p fuel = fuel
+μ-loop pages first words lines balance₀ sum₀ p₀ fuel₀ balance sum p fuel = fuel
 
 loop-holds : tie.Need-loop-holds Inv-loop μ-loop
 loop-holds c = (search needs, search chaining-start)
@@ -30,7 +30,7 @@ page-at-requires : tie.Need-page-at-requires Inv-loop μ-loop
 page-at-requires c κs = page-asks _ _ (c .long .ensures .0) (c .before .before .is-there .ensures) (c .before .if1 .left)
 
 tally-page-requires : tie.Need-tally-page-requires Inv-loop μ-loop
-tally-page-requires c κs = (search needs, search needs, search chaining-fits)
+tally-page-requires c κs = (search needs, search needs, search chaining-radios)
 
 add-sum : tie.Need-add-sum Inv-loop μ-loop
 add-sum c = search needs

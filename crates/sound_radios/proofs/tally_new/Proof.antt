@@ -7,16 +7,16 @@ use Rattle.rules.specs.Limits.{fullMemory}
 use Rattle.waiting.specs.Waiting.{reportsOf}
 use Rattle.sound_radios.specs.Tables.{markNew}
 use Rattle.sound_radios.proofs.TableLaws.{Adding, adding-start}
-use Rattle.sound_radios.proofs.DueLaws.{new-radio, new-room, new-turn, new-end}
+use Rattle.sound_radios.proofs.DueLaws.{new-radio, new-turn, new-end}
 use borrow.Author.Needs.{needs}
 use Rattle.sound_radios.proofs.tally_new.Statement.{statement}
 use Rattle.sound_radios.proofs.tally_new.Tie as tie
 
 abbrev Inv-loop : tie.InvT-loop
-Inv-loop found₀ w n i₀ found i = (i ≤ w .n) × (length (w .rows) ≡ fullMemory) × Adding 1 markNew found₀ (reportsOf w) i found
+Inv-loop balance₀ w n i₀ balance i = (i ≤ w .n) × (length (w .rows) ≡ fullMemory) × Adding markNew balance₀ (reportsOf w) i balance
 
 abbrev μ-loop : tie.MeasureT-loop
-μ-loop found₀ w n i₀ found i = w .n - i
+μ-loop balance₀ w n i₀ balance i = w .n - i
 
 loop-holds : tie.Need-loop-holds Inv-loop μ-loop
 loop-holds c = (search needs, search length-mapped, search adding-start)
@@ -39,14 +39,14 @@ element-copy-out-before c = search needs
 apart-requires : tie.Need-apart-requires Inv-loop μ-loop
 apart-requires c κs = search needs
 
-add-found : tie.Need-add-found Inv-loop μ-loop
-add-found c = search new-room
+plus-requires : tie.Need-plus-requires Inv-loop μ-loop
+plus-requires c κs = search needs
 
-mul-found : tie.Need-mul-found Inv-loop μ-loop
-mul-found c = search needs
+mul-balance : tie.Need-mul-balance Inv-loop μ-loop
+mul-balance c = search needs
 
-element-write-found : tie.Need-element-write-found Inv-loop μ-loop
-element-write-found c = search needs
+element-write-balance : tie.Need-element-write-balance Inv-loop μ-loop
+element-write-balance c = search needs
 
 add-i : tie.Need-add-i Inv-loop μ-loop
 add-i c = search needs
@@ -73,9 +73,9 @@ tally-new-spec =
     mul-before
     element-copy-out-before
     apart-requires
-    add-found
-    mul-found
-    element-write-found
+    plus-requires
+    mul-balance
+    element-write-balance
     add-i
     loop-less
     loop-again

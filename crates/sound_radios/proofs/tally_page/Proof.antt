@@ -2,16 +2,16 @@
 use Prim.Native.Nat.{_-_, _≤_}
 use Rattle.page.specs.Page.{entries}
 use Rattle.sound_radios.specs.Tables.{judged}
-use Rattle.sound_radios.proofs.WalkLaws.{Tallying, tally-start, page-radio, page-room, page-turn, page-end}
+use Rattle.sound_radios.proofs.WalkLaws.{Tallying, tally-start, page-radio, page-turn, page-end}
 use borrow.Author.Needs.{needs}
 use Rattle.sound_radios.proofs.tally_page.Statement.{statement}
 use Rattle.sound_radios.proofs.tally_page.Tie as tie
 
 abbrev Inv-loop : tie.InvT-loop
-Inv-loop page words lines found₀ n sum₀ i₀ found sum i = (i ≤ n) × (sum ≤ i) × Tallying (judged words lines) found₀ (entries page) i found sum
+Inv-loop page words lines balance₀ n sum₀ i₀ balance sum i = (i ≤ n) × (sum ≤ i) × Tallying (judged words lines) balance₀ (entries page) i balance sum
 
 abbrev μ-loop : tie.MeasureT-loop
-μ-loop page words lines found₀ n sum₀ i₀ found sum i = n - i
+μ-loop page words lines balance₀ n sum₀ i₀ balance sum i = n - i
 
 entry-count-requires : tie.Need-entry-count-requires Inv-loop μ-loop
 entry-count-requires c κs = search needs
@@ -37,14 +37,14 @@ element-copy-out-before c = search needs
 weight-requires : tie.Need-weight-requires Inv-loop μ-loop
 weight-requires c κs = search needs
 
-add-found : tie.Need-add-found Inv-loop μ-loop
-add-found c = search page-room
+plus-requires : tie.Need-plus-requires Inv-loop μ-loop
+plus-requires c κs = search needs
 
-mul-found : tie.Need-mul-found Inv-loop μ-loop
-mul-found c = search needs
+mul-balance : tie.Need-mul-balance Inv-loop μ-loop
+mul-balance c = search needs
 
-element-write-found : tie.Need-element-write-found Inv-loop μ-loop
-element-write-found c = search needs
+element-write-balance : tie.Need-element-write-balance Inv-loop μ-loop
+element-write-balance c = search needs
 
 add-sum : tie.Need-add-sum Inv-loop μ-loop
 add-sum c = search needs
@@ -56,7 +56,11 @@ loop-less : tie.Need-loop-less Inv-loop μ-loop
 loop-less c = search needs
 
 loop-again : tie.Need-loop-again Inv-loop μ-loop
-loop-again c = (search needs, search needs, search page-turn)
+loop-again c =
+    let r = c .before .before .before in
+    let e = r .before .before in
+    let l = e .before .before in
+    (search needs, search needs, page-turn _ (l .loop .inv .2) (l .before .entry-count .ensures .0) (e .before .loop-test .taken) _ (e .read-entry .ensures) (r .radio-index .ensures .0) (r .before .judge-entry .ensures .0) (c .before .weight .ensures) (c .plus .ensures))
 
 returns : tie.Need-returns Inv-loop μ-loop
 returns c = page-end _ (c .before .loop .inv .2) (c .before .before .entry-count .ensures .0) (c .loop-test .left)
@@ -75,9 +79,9 @@ tally-page-spec =
     mul-before
     element-copy-out-before
     weight-requires
-    add-found
-    mul-found
-    element-write-found
+    plus-requires
+    mul-balance
+    element-write-balance
     add-sum
     add-i
     loop-less
