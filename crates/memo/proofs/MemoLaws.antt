@@ -12,23 +12,25 @@ use borrow.Author.Tests.{eqb-true, eqb-false, ltb-true, ltb-false}
 use Rattle.terms.specs.Terms.{Place}
 use Rattle.lists.specs.Parts.{part, put, insertAt}
 use Rattle.lists.specs.Rows.{Row, Rows, Rising, find, alter, rank}
+use Rattle.lists.specs.Sums.{concat, sumBy}
 use Rattle.lists.proofs.Cases.{by-cases, option-cases}
 use Rattle.lists.proofs.MapLaws.{map-set, map-insertAt}
 use Rattle.lists.proofs.PartsLaws.{length-part, drop-put}
 use Rattle.lists.proofs.ShiftLaws.{Opened, open-turn, open-end}
+use Rattle.lists.proofs.SumsLaws.{sum-const, sum-concat-map}
 use Rattle.lists.proofs.SearchLaws.{Between, between-start, between-up, between-down, find-rank, find-rank-none, rank-le, alter-insertAt, alter-set}
 use Rattle.rules.specs.Store.{Line as StoreLine}
 use Rattle.rules.specs.Flush.{placed, raised}
 use Rattle.rules.proofs.Parts.{missedOf}
 use Rattle.desk.specs.declared.Line.{Line}
 use Rattle.desk.specs.declared.Memo.{Memo}
-use Rattle.desk.specs.Layout.{lineSlots, lineFields, slotted, lineWith, lineOf, noLine, memoOf}
+use Rattle.desk.specs.Layout.{lineSlots, lineFields, fieldsOf, slotted, lineWith, lineOf, noLine, memoOf}
 use Rattle.desk.specs.Views.{linesIn}
 use Rattle.desk.proofs.LinesLaws.{lines-laid, words-laid, length-lines-in}
 use Rattle.desk.proofs.UniqueLaws.{take-memo}
 use Rattle.memo.specs.declared.Spot.{Spot}
 use Rattle.memo.specs.declared.Spot.the-variants.{Held, Open}
-use Rattle.memo.specs.Memo.{lastOf, rowOf, noRow, linesOf, Plain, Whole, mostMissed, spotOf}
+use Rattle.memo.specs.Memo.{memoIn, lastOf, rowOf, noRow, linesOf, Plain, Whole, mostMissed, spotOf}
 
 -- ---- lists
 
@@ -108,6 +110,14 @@ count-memo l = refl
 drop-memo : (l : Rows StoreLine) → drop (memoOf l .n) (linesIn (memoOf l .words)) ≡ replicate (lineSlots - memoOf l .n) noLine
 drop-memo l = rw lines-laid (unfold memoOf slotted in rw (← length-map l lineOf) (drop-at (map lineOf l) _ (length (map lineOf l)) refl))
 
+-- every slot is laid out, used or not
+length-memo : (l : Rows StoreLine) → length l ≤ lineSlots → length (memoOf l .words) ≡ lineFields * lineSlots
+unfolding memoOf slotted sumBy
+length-memo l h =
+    let ls : List Line = map lineOf l in
+    let ws : List ℕ = concat (map fieldsOf ls) in
+    simp (length-append, length-replicate) (omega (arith, length-map l lineOf, sum-const 1 ws, sum-concat-map (λ _. 1) fieldsOf ls, sum-const lineFields ls))
+
 -- what a memo's parts say of the whole
 memo-is : (m : Memo) (l : Rows StoreLine) → length (m .words) ≡ lineFields * lineSlots → m .n ≡ length l → take (m .n) (linesIn (m .words)) ≡ map lineOf l → drop (m .n) (linesIn (m .words)) ≡ replicate (lineSlots - m .n) noLine → m ≡ memoOf l
 unfolding slotted
@@ -132,6 +142,10 @@ module _ (m : Memo) (w : Whole m) where
 
   whole-line : (i : ℕ) → i < m .n → getD (linesIn (m .words)) i noLine ≡ lineOf (getD (linesOf m) i noRow)
   whole-line i h = sym (getD-take (m .n) (linesIn (m .words)) i noLine h) ∙ ap (λ (l : List Line). getD l i noLine) whole-take ∙ List·getD-map lineOf (linesOf m) i noRow
+
+-- all the slots are there
+pub whole-size : {n : ℕ} {words : List ℕ} → Whole (memoIn n words) → n ≤ lineSlots → length words ≡ lineFields * lineSlots
+whole-size {n} {words} w h = ap (λ (x : Memo). length (x .words)) w ∙ length-memo (linesOf (memoIn n words)) (omega (arith, whole-count (memoIn n words) w))
 
 -- ---- the binary search
 
@@ -218,30 +232,7 @@ module _ (m : Memo) (r : ℕ) {k : ℕ} {o : Spot} (whole : Whole m) (rising : R
       record { missing = f; place = p; inside = omega (arith, rank-le r (linesOf m)) })
       (λ v f. let q = spot-some r (linesOf m) v f in let z : _≡_ {A = ℕ} 0 1 = cc in absurd (omega arith))
 
--- ---- stores
-
-module _ (m : Memo) (w : Whole m) where
-  pub memo-set : (ws : List ℕ) (k : ℕ) (x : Line) → linesIn ws ≡ set (linesIn (m .words)) k x → length ws ≡ lineFields * lineSlots → k < m .n → Plain x → record { n = m .n; words = ws } ≡ memoOf (set (linesOf m) k (rowOf x))
-  memo-set ws k x e size h p =
-      memo-is (record { n = m .n; words = ws }) (set (linesOf m) k (rowOf x)) size
-      (whole-count m w ∙ sym (length-set (linesOf m) k (rowOf x)))
-      (ap (take (m .n)) e ∙ take-set-lt (m .n) (linesIn (m .words)) k x h ∙ ap₂ (λ (l : List Line) (y : Line). set l k y) (whole-take m w) p ∙ sym (map-set lineOf (linesOf m) k (rowOf x)))
-      (ap (drop (m .n)) e ∙ drop-set-lt (m .n) (linesIn (m .words)) k x h ∙ whole-drop m w)
-
-  pub memo-open : (ws : List ℕ) (k : ℕ) (x : Line) {i : ℕ} {ys : List Line} → linesIn ws ≡ set ys k x → length ws ≡ lineFields * lineSlots → Opened (linesIn (m .words)) (m .n) i ys → k ≤ i → i ≤ k → Plain x → record { n = m .n + 1; words = ws } ≡ memoOf (insertAt (linesOf m) k (rowOf x))
-  memo-open ws k x {i} {ys} e size o g h p =
-      let z : i ≡ k = omega arith in
-      let q = rw z at o in
-      let n = whole-count m w in
-      let f = o .fits in
-      let s : length (linesIn (m .words)) - m .n ≡ lineSlots - m .n = sym (length-drop (m .n) (linesIn (m .words))) ∙ ap length (whole-drop m w) ∙ length-replicate (lineSlots - m .n) noLine in
-      let u : lineSlots - m .n ≡ suc (lineSlots - (m .n + 1)) = omega arith in
-      memo-is (record { n = m .n + 1; words = ws }) (insertAt (linesOf m) k (rowOf x)) size
-      (omega (arith, length-insertAt (linesOf m) k (rowOf x) (omega (arith, o .low))))
-      (ap (take (m .n + 1)) e ∙ open-end k x q ∙ ap₂ (λ (l : List Line) (y : Line). insertAt l k y) (whole-take m w) p ∙ sym (map-insertAt lineOf (linesOf m) k (rowOf x)))
-      (ap (drop (m .n + 1)) e ∙ open-rest k x q ∙ sym (drop-drop 1 (m .n) (linesIn (m .words))) ∙ ap (drop 1) (whole-drop m w) ∙ ap (λ (j : ℕ). drop 1 (replicate j noLine)) u)
-
--- ---- lines
+-- ---- plain lines
 
 plain-with : (r m : ℕ) (o : Option Place) {x : Line} → x ≡ lineWith r m o → Plain x
 plain-with r m o e = e ∙ sym (ap lineOf (ap rowOf e ∙ row-with r m o))
@@ -254,59 +245,93 @@ recount : (r m c : ℕ) (o : Option Place) {x : Line} → x ≡ lineWith r m o �
 recount r m c none e = ap (recounted r c) e
 recount r m c (some p) e = ap (recounted r c) e
 
-module _ (m : Memo) (r : ℕ) {k : ℕ} {o : Spot} (whole : Whole m) (rising : Rising 0 (linesOf m)) (said : o ≡ spotOf r (linesOf m)) where
-  module _ (here : o ≡ Open k) where
-    missing : find (linesOf m) r ≡ none
-    missing = free m r whole rising said here .missing
-
-    pub place-open : (p : Place) → m ≡ memoOf (alter (placed (some p)) r (linesOf m))
-    place-open p = whole ∙ ap memoOf (sym (alter-none (placed (some p)) r (linesOf m) missing refl))
-
-    -- the line made
-    pub raise-open : (n : ℕ) (p : Option Place) {x : Memo} → n ≡ 1 → x ≡ memoOf (insertAt (linesOf m) k (record { key = r; val = record { missed = n; last = p } })) → x ≡ memoOf (alter (raised p) r (linesOf m))
-    raise-open n p e s =
-        s
-        ∙ ap₂ (λ (j i : ℕ). memoOf (insertAt (linesOf m) j (record { key = r; val = record { missed = i; last = p } }))) (free m r whole rising said here .place) e
-        ∙ ap memoOf (sym (alter-insertAt (raised p) r 0 (linesOf m) (record { missed = 1; last = p }) rising missing refl))
-
-    pub open-inside : k ≤ m .n
-    open-inside = free m r whole rising said here .inside
-
-  module _ (here : o ≡ Held k) where
-    at : Lies m r k
-    at = lies m r whole rising said here
-
-    pub held-inside : k < m .n
-    held-inside = at .inside
-
-    pub held-slot : m .n ≤ lineSlots → k < lineSlots
-    held-slot h = omega (arith, held-inside)
-
-    module _ {held : Line} (read : held ≡ getD (linesIn (m .words)) k noLine) where
-      held-missed : held .missed ≡ at .val .missed
-      held-missed = ap (λ (x : Line). x .missed) (read ∙ at .line) ∙ missed-with r (at .val .missed) (at .val .last)
-
-      pub held-room : missedOf (find (linesOf m) r) < mostMissed → held .missed < mostMissed
-      held-room h = omega (arith, held-missed, ap missedOf (at .found))
-
-    -- the line with another value
-    held-set : (f : Option StoreLine → Option StoreLine) (v : StoreLine) {x : Memo} → f (some (at .val)) ≡ some v → x ≡ memoOf (set (linesOf m) k (record { key = r; val = v })) → x ≡ memoOf (alter f r (linesOf m))
-    held-set f v e s = s ∙ ap memoOf (ap (λ (j : ℕ). set (linesOf m) j (record { key = r; val = v })) (at .place) ∙ sym (alter-set f r 0 (linesOf m) (at .val) v rising (at .found) e))
-
-    module _ {held : Line} (read : held ≡ getD (linesIn (m .words)) k noLine) where
-      pub place-set : (east north : ℕ) {x : Memo} → x ≡ memoOf (set (linesOf m) k (rowOf (record { radio = r; missed = held .missed; placed = 1; east = east; north = north }))) → x ≡ memoOf (alter (placed (some (record { east = east; north = north }))) r (linesOf m))
-      place-set east north s =
-          let p : Option Place = some (record { east = east; north = north }) in
-          held-set (placed p) (record { missed = at .val .missed; last = p }) refl (s ∙ ap (λ (j : ℕ). memoOf (set (linesOf m) k (record { key = r; val = record { missed = j; last = p } }))) (held-missed read))
-
-      -- the same of a count raised by one
-      pub raise-set : (p : Option Place) {x : Memo} → x ≡ memoOf (set (linesOf m) k (record { key = r; val = record { missed = held .missed + 1; last = p } })) → x ≡ memoOf (alter (raised p) r (linesOf m))
-      raise-set p s =
-          held-set (raised p) (record { missed = at .val .missed + 1; last = p }) refl (s ∙ ap (λ (j : ℕ). memoOf (set (linesOf m) k (record { key = r; val = record { missed = j + 1; last = p } }))) (held-missed read))
-
 -- a plain line with another count
 pub plain-recounted : (x : Line) (c : ℕ) → Plain x → Plain (recounted (x .radio) c x)
 plain-recounted x c p = plain-with (x .radio) c (lastOf x) (recount (x .radio) (x .missed) c (lastOf x) p)
+
+-- ---- the array of a whole memo
+
+module _ (n : ℕ) (old : List ℕ) where
+  abbrev memo : Memo
+  memo = memoIn n old
+
+  abbrev rows : Rows StoreLine
+  rows = linesOf memo
+
+  -- its words after a store
+  module _ (w : Whole memo) (new : List ℕ) (size : length new ≡ lineFields * lineSlots) (k : ℕ) (x : Line) (plain : Plain x) where
+    memo-set : linesIn new ≡ set (linesIn old) k x → k < n → memoIn n new ≡ memoOf (set rows k (rowOf x))
+    memo-set e h =
+        memo-is (memoIn n new) (set rows k (rowOf x)) size
+        (whole-count memo w ∙ sym (length-set rows k (rowOf x)))
+        (ap (take n) e ∙ take-set-lt n (linesIn old) k x h ∙ ap₂ (λ (l : List Line) (y : Line). set l k y) (whole-take memo w) plain ∙ sym (map-set lineOf rows k (rowOf x)))
+        (ap (drop n) e ∙ drop-set-lt n (linesIn old) k x h ∙ whole-drop memo w)
+
+    pub memo-open : {i : ℕ} {ys : List Line} → linesIn new ≡ set ys k x → Opened (linesIn old) n i ys → k ≤ i → i ≤ k → memoIn (n + 1) new ≡ memoOf (insertAt rows k (rowOf x))
+    memo-open {i} {ys} e o g h =
+        let z : i ≡ k = omega arith in
+        let q = rw z at o in
+        let c = whole-count memo w in
+        let f = o .fits in
+        let s : length (linesIn old) - n ≡ lineSlots - n = sym (length-drop n (linesIn old)) ∙ ap length (whole-drop memo w) ∙ length-replicate (lineSlots - n) noLine in
+        let u : lineSlots - n ≡ suc (lineSlots - (n + 1)) = omega arith in
+        memo-is (memoIn (n + 1) new) (insertAt rows k (rowOf x)) size
+        (omega (arith, length-insertAt rows k (rowOf x) (omega (arith, o .low))))
+        (ap (take (n + 1)) e ∙ open-end k x q ∙ ap₂ (λ (l : List Line) (y : Line). insertAt l k y) (whole-take memo w) plain ∙ sym (map-insertAt lineOf rows k (rowOf x)))
+        (ap (drop (n + 1)) e ∙ open-rest k x q ∙ sym (drop-drop 1 n (linesIn old)) ∙ ap (drop 1) (whole-drop memo w) ∙ ap (λ (j : ℕ). drop 1 (replicate j noLine)) u)
+
+  -- the line of a radio, or the place for it
+  module _ (r : ℕ) {k : ℕ} {o : Spot} (whole : Whole memo) (rising : Rising 0 rows) (said : o ≡ spotOf r rows) where
+    module _ (here : o ≡ Open k) where
+      gap : Free memo r k
+      gap = free memo r whole rising said here
+
+      pub place-open : (p : Place) → memo ≡ memoOf (alter (placed (some p)) r rows)
+      place-open p = whole ∙ ap memoOf (sym (alter-none (placed (some p)) r rows (gap .missing) refl))
+
+      -- the line made
+      pub raise-open : (c : ℕ) (p : Option Place) {x : Memo} → c ≡ 1 → x ≡ memoOf (insertAt rows k (record { key = r; val = record { missed = c; last = p } })) → x ≡ memoOf (alter (raised p) r rows)
+      raise-open c p e s =
+          s
+          ∙ ap₂ (λ (j i : ℕ). memoOf (insertAt rows j (record { key = r; val = record { missed = i; last = p } }))) (gap .place) e
+          ∙ ap memoOf (sym (alter-insertAt (raised p) r 0 rows (record { missed = 1; last = p }) rising (gap .missing) refl))
+
+      pub open-inside : k ≤ n
+      open-inside = gap .inside
+
+    module _ (here : o ≡ Held k) where
+      at : Lies memo r k
+      at = lies memo r whole rising said here
+
+      pub held-slot : n ≤ lineSlots → k < lineSlots
+      held-slot h = omega (arith, at .inside)
+
+      -- the line with another value
+      held-set : (f : Option StoreLine → Option StoreLine) (v : StoreLine) {x : Memo} → f (some (at .val)) ≡ some v → x ≡ memoOf (set rows k (record { key = r; val = v })) → x ≡ memoOf (alter f r rows)
+      held-set f v e s = s ∙ ap memoOf (ap (λ (j : ℕ). set rows j (record { key = r; val = v })) (at .place) ∙ sym (alter-set f r 0 rows (at .val) v rising (at .found) e))
+
+      module _ {held : Line} (read : held ≡ getD (linesIn old) k noLine) where
+        held-missed : held .missed ≡ at .val .missed
+        held-missed = ap (λ (x : Line). x .missed) (read ∙ at .line) ∙ missed-with r (at .val .missed) (at .val .last)
+
+        pub held-room : missedOf (find rows r) < mostMissed → held .missed < mostMissed
+        held-room h = omega (arith, held-missed, ap missedOf (at .found))
+
+        module _ (new : List ℕ) (size : length new ≡ lineFields * lineSlots) where
+          pub place-set : (east north : ℕ) → linesIn new ≡ set (linesIn old) k (record { radio = r; missed = held .missed; placed = 1; east = east; north = north })
+              → memoIn n new ≡ memoOf (alter (placed (some (record { east = east; north = north }))) r rows)
+          place-set east north s =
+              let p : Option Place = some (record { east = east; north = north }) in
+              held-set (placed p) (record { missed = at .val .missed; last = p }) refl
+              (memo-set whole new size k _ refl s (at .inside) ∙ ap (λ (j : ℕ). memoOf (set rows k (record { key = r; val = record { missed = j; last = p } }))) held-missed)
+
+          -- the same of a count raised by one
+          pub raise-set : (x : Line) → Plain (recounted r (held .missed + 1) x) → linesIn new ≡ set (linesIn old) k (recounted r (held .missed + 1) x)
+              → memoIn n new ≡ memoOf (alter (raised (lastOf x)) r rows)
+          raise-set x plain s =
+              let p : Option Place = lastOf x in
+              held-set (raised p) (record { missed = at .val .missed + 1; last = p }) refl
+              (memo-set whole new size k _ plain s (at .inside) ∙ ap (λ (j : ℕ). memoOf (set rows k (record { key = r; val = record { missed = j + 1; last = p } }))) held-missed)
 
 -- ---- what a caller knows of the memo that it gets
 

@@ -1,6 +1,6 @@
 -- The memo in the desk's array as rows by rising radio (01, "A sound store": "Memo lines by rising radio").
 use mathlib.Core.Bool.{cond}
-use mathlib.Core.List.{map}
+use mathlib.Core.List.{List, map}
 use mathlib.Core.Option.{Option, none, some}
 use mathlib.Core.Path.{_≡_}
 use Prim.Native.Nat.{ℕ}
@@ -17,6 +17,10 @@ use Rattle.memo.specs.declared.Spot.{Spot}
 use Rattle.memo.specs.declared.Spot.the-variants.{Held, Open}
 
 -- ---- the array as rows
+
+-- the memo of so many lines in these words
+abbrev pub memoIn : ℕ → List ℕ → Memo
+memoIn n words = record { n = n; words = words }
 
 -- the place of a line, or "none" where it is not marked to have one
 abbrev pub lastOf : Line → Option Place

@@ -1,17 +1,16 @@
-// The memo in the desk's array: lines by rising radio, unused slots zero. By value; the inner loops work in place.
+// The memo in the desk's array: lines by rising radio, unused slots zero. The array is lent, with the number of lines beside it: no call copies a memo.
 ghost use mathlib.Core.Option.{none, some};
 ghost use mathlib.Core.Path.{_≡_};
-ghost use Prim.Native.Nat.{_*_, _<_, _≤_};
-ghost use lib.ListN.{length, set};
+ghost use Prim.Native.Nat.{_+_, _*_, _<_, _≤_};
+ghost use lib.ListN.{length};
 ghost use Rattle.lists.specs.Parts.{insertAt};
 ghost use Rattle.lists.specs.Rows.{Rising, find, rank, alter};
 ghost use Rattle.rules.specs.Flush.{placed, raised};
 ghost use Rattle.rules.proofs.Parts.{missedOf};
 ghost use Rattle.desk.specs.Layout.{lineSlots, lineFields, memoOf};
-ghost use Rattle.memo.specs.Memo.{lastOf, rowOf, linesOf, Plain, Whole, mostMissed, spotOf};
+ghost use Rattle.memo.specs.Memo.{memoIn, lastOf, rowOf, linesOf, Plain, Whole, mostMissed, spotOf};
 use desk::Desk;
 use desk::Line;
-use desk::Memo;
 
 const PLACED: u16 = 1;
 
@@ -27,8 +26,8 @@ enum Spot {
 
 // How many radios lie below `radio`, by binary search.
 fn rank<'a>(words: &'a [u16; Desk::MEMO_WORDS], n: usize, radio: u16) -> usize
-    requires { ⌜ (length (now words) ≡ lineFields * lineSlots) × (n ≤ lineSlots) × Rising 0 (linesOf (record { n = n; words = now words })) ⌝ }
-    ensures { λ r. ⌜ (r ≡ rank radio (linesOf (record { n = n; words = now (words .entry) }))) × (r ≤ n) ⌝ }
+    requires { ⌜ (length (now words) ≡ lineFields * lineSlots) × (n ≤ lineSlots) × Rising 0 (linesOf (memoIn n (now words))) ⌝ }
+    ensures { λ r. ⌜ (r ≡ rank radio (linesOf (memoIn n (now (words .entry))))) × (r ≤ n) ⌝ }
 {
     let mut low: usize = 0;
     let mut high = n;
@@ -46,8 +45,8 @@ fn rank<'a>(words: &'a [u16; Desk::MEMO_WORDS], n: usize, radio: u16) -> usize
 
 // Where the line of `radio` stands, or would.
 fn lookup<'a>(words: &'a [u16; Desk::MEMO_WORDS], n: usize, radio: u16) -> Spot
-    requires { ⌜ (length (now words) ≡ lineFields * lineSlots) × (n ≤ lineSlots) × Rising 0 (linesOf (record { n = n; words = now words })) ⌝ }
-    ensures { λ r. ⌜ r ≡ spotOf radio (linesOf (record { n = n; words = now (words .entry) })) ⌝ }
+    requires { ⌜ (length (now words) ≡ lineFields * lineSlots) × (n ≤ lineSlots) × Rising 0 (linesOf (memoIn n (now words))) ⌝ }
+    ensures { λ r. ⌜ r ≡ spotOf radio (linesOf (memoIn n (now (words .entry)))) ⌝ }
 {
     let at = rank(words, n, radio);
     if at < n {
@@ -59,46 +58,38 @@ fn lookup<'a>(words: &'a [u16; Desk::MEMO_WORDS], n: usize, radio: u16) -> Spot
     Spot::Open(at)
 }
 
-// The line in the place of the one at `at`.
-fn replaced(memo: Memo, at: usize, line: Line) -> Memo
-    requires { ⌜ Whole memo × (at < memo .n) × (memo .n ≤ lineSlots) × Plain line ⌝ }
-    ensures { λ r. ⌜ r ≡ memoOf (set (linesOf memo) at (rowOf line)) ⌝ }
+// The line at `at`; what stood there and after it stands one place further on, so there is one line more.
+fn opened<'a>(words: &'a mut [u16; Desk::MEMO_WORDS], n: usize, at: usize, line: Line)
+    requires { ⌜ Whole (memoIn n (now words)) × (at ≤ n) × (n < lineSlots) × Plain line ⌝ }
+    ensures { λ _. ⌜ memoIn (n + 1) (now (words .exit)) ≡ memoOf (insertAt (linesOf (memoIn n (now (words .entry)))) at (rowOf line)) ⌝ }
 {
-    let mut m = memo;
-    desk::put_line(&mut m.words, at, line);
-    m
-}
-
-// The line at `at`; what stood there and after it stands one place further on.
-fn opened(memo: Memo, at: usize, line: Line) -> Memo
-    requires { ⌜ Whole memo × (at ≤ memo .n) × (memo .n < lineSlots) × Plain line ⌝ }
-    ensures { λ r. ⌜ r ≡ memoOf (insertAt (linesOf memo) at (rowOf line)) ⌝ }
-{
-    let mut m = memo;
-    let n = m.n;
     let mut i = n;
     while at < i {
         let j = i - 1;
-        let x = desk::line_at(&m.words, j);
-        desk::put_line(&mut m.words, i, x);
+        let x = desk::line_at(words, j);
+        desk::put_line(words, i, x);
         i = j;
     }
-    desk::put_line(&mut m.words, at, line);
-    m.n = n + 1;
-    m
+    desk::put_line(words, at, line);
 }
 
 // ---- lines
 
 // "any memo line takes the new place"
-pub fn placed(memo: Memo, radio: u16, east: u16, north: u16) -> Memo
-    requires { ⌜ Whole memo × (memo .n ≤ lineSlots) × Rising 0 (linesOf memo) ⌝ }
-    ensures { λ r. ⌜ r ≡ memoOf (alter (placed (some (record { east = east; north = north }))) radio (linesOf memo)) ⌝ }
+pub fn placed<'a>(
+    words: &'a mut [u16; Desk::MEMO_WORDS],
+    n: usize,
+    radio: u16,
+    east: u16,
+    north: u16,
+)
+    requires { ⌜ Whole (memoIn n (now words)) × (n ≤ lineSlots) × Rising 0 (linesOf (memoIn n (now words))) ⌝ }
+    ensures { λ _. ⌜ memoIn n (now (words .exit)) ≡ memoOf (alter (placed (some (record { east = east; north = north }))) radio (linesOf (memoIn n (now (words .entry))))) ⌝ }
 {
-    let Spot::Held(at) = lookup(&memo.words, memo.n, radio) else {
-        return memo;
+    let Spot::Held(at) = lookup(words, n, radio) else {
+        return;
     };
-    let held = desk::line_at(&memo.words, at);
+    let held = desk::line_at(words, at);
     let line = Line {
         radio,
         missed: held.missed,
@@ -106,19 +97,22 @@ pub fn placed(memo: Memo, radio: u16, east: u16, north: u16) -> Memo
         east,
         north,
     };
-    replaced(memo, at, line)
+    desk::put_line(words, at, line);
 }
 
-// "add 1 to the missed count (made as 1 if absent)"; the line takes the place of `first`, which is the one made.
-fn counted(memo: Memo, first: Line) -> Memo
-    requires { ⌜ Whole memo × (memo .n < lineSlots) × Rising 0 (linesOf memo) × (missedOf (find (linesOf memo) (first .radio)) < mostMissed) × Plain first × (first .missed ≡ 1) ⌝ }
-    ensures { λ r. ⌜ r ≡ memoOf (alter (raised (lastOf first)) (first .radio) (linesOf memo)) ⌝ }
+// "add 1 to the missed count (made as 1 if absent)"; the line takes the place of `first`, which is the one made. The answer is how many lines there are then.
+fn counted<'a>(words: &'a mut [u16; Desk::MEMO_WORDS], n: usize, first: Line) -> usize
+    requires { ⌜ Whole (memoIn n (now words)) × (n < lineSlots) × Rising 0 (linesOf (memoIn n (now words))) × (missedOf (find (linesOf (memoIn n (now words))) (first .radio)) < mostMissed) × Plain first × (first .missed ≡ 1) ⌝ }
+    ensures { λ r. ⌜ memoIn r (now (words .exit)) ≡ memoOf (alter (raised (lastOf first)) (first .radio) (linesOf (memoIn n (now (words .entry))))) ⌝ }
 {
-    let spot = lookup(&memo.words, memo.n, first.radio);
+    let spot = lookup(words, n, first.radio);
     match spot {
-        Spot::Open(at) => opened(memo, at, first),
+        Spot::Open(at) => {
+            opened(words, n, at, first);
+            n + 1
+        }
         Spot::Held(at) => {
-            let held = desk::line_at(&memo.words, at);
+            let held = desk::line_at(words, at);
             let line = Line {
                 radio: first.radio,
                 missed: held.missed + 1,
@@ -126,15 +120,22 @@ fn counted(memo: Memo, first: Line) -> Memo
                 east: first.east,
                 north: first.north,
             };
-            replaced(memo, at, line)
+            desk::put_line(words, at, line);
+            n
         }
     }
 }
 
 // A miss more, and the place is this one.
-pub fn raised(memo: Memo, radio: u16, east: u16, north: u16) -> Memo
-    requires { ⌜ Whole memo × (memo .n < lineSlots) × Rising 0 (linesOf memo) × (missedOf (find (linesOf memo) radio) < mostMissed) ⌝ }
-    ensures { λ r. ⌜ r ≡ memoOf (alter (raised (some (record { east = east; north = north }))) radio (linesOf memo)) ⌝ }
+pub fn raised<'a>(
+    words: &'a mut [u16; Desk::MEMO_WORDS],
+    n: usize,
+    radio: u16,
+    east: u16,
+    north: u16,
+) -> usize
+    requires { ⌜ Whole (memoIn n (now words)) × (n < lineSlots) × Rising 0 (linesOf (memoIn n (now words))) × (missedOf (find (linesOf (memoIn n (now words))) radio) < mostMissed) ⌝ }
+    ensures { λ r. ⌜ memoIn r (now (words .exit)) ≡ memoOf (alter (raised (some (record { east = east; north = north }))) radio (linesOf (memoIn n (now (words .entry))))) ⌝ }
 {
     let first = Line {
         radio,
@@ -143,13 +144,13 @@ pub fn raised(memo: Memo, radio: u16, east: u16, north: u16) -> Memo
         east,
         north,
     };
-    counted(memo, first)
+    counted(words, n, first)
 }
 
 // A miss more, and the place is "none".
-pub fn raised_none(memo: Memo, radio: u16) -> Memo
-    requires { ⌜ Whole memo × (memo .n < lineSlots) × Rising 0 (linesOf memo) × (missedOf (find (linesOf memo) radio) < mostMissed) ⌝ }
-    ensures { λ r. ⌜ r ≡ memoOf (alter (raised none) radio (linesOf memo)) ⌝ }
+pub fn raised_none<'a>(words: &'a mut [u16; Desk::MEMO_WORDS], n: usize, radio: u16) -> usize
+    requires { ⌜ Whole (memoIn n (now words)) × (n < lineSlots) × Rising 0 (linesOf (memoIn n (now words))) × (missedOf (find (linesOf (memoIn n (now words))) radio) < mostMissed) ⌝ }
+    ensures { λ r. ⌜ memoIn r (now (words .exit)) ≡ memoOf (alter (raised none) radio (linesOf (memoIn n (now (words .entry))))) ⌝ }
 {
     let first = Line {
         radio,
@@ -158,5 +159,5 @@ pub fn raised_none(memo: Memo, radio: u16) -> Memo
         east: 0,
         north: 0,
     };
-    counted(memo, first)
+    counted(words, n, first)
 }

@@ -8,18 +8,18 @@ use Rattle.lists.proofs.ShiftLaws.{Opened, open-start}
 use Rattle.desk.specs.Layout.{lineSlots, lineFields}
 use Rattle.desk.specs.Views.{linesIn}
 use Rattle.desk.proofs.LinesLaws.{length-lines-in}
-use Rattle.memo.proofs.MemoLaws.{open-line, memo-open}
+use Rattle.memo.proofs.MemoLaws.{whole-size, open-line, memo-open}
 use Rattle.memo.proofs.opened.Statement.{statement}
 use Rattle.memo.proofs.opened.Tie as tie
 
 abbrev Inv-loop : tie.InvT-loop
-Inv-loop at line m₀ n i₀ m i = (at ≤ i) × Opened (linesIn (m₀ .words)) n i (linesIn (m .words)) × (length (m .words) ≡ lineFields * lineSlots)
+Inv-loop words₀ n at line i₀ words i = (at ≤ i) × Opened (linesIn words₀) n i (linesIn words) × (length words ≡ lineFields * lineSlots)
 
 abbrev μ-loop : tie.MeasureT-loop
-μ-loop at line m₀ n i₀ m i = i
+μ-loop words₀ n at line i₀ words i = i
 
 loop-holds : tie.Need-loop-holds Inv-loop μ-loop
-loop-holds c = (search needs, open-start (let l : length (c .args .memo .words) ≡ lineFields * lineSlots = search needs in omega (arith, length-lines-in lineSlots (c .args .memo .words) l)), search needs)
+loop-holds c = let l = whole-size (c .pre .0) (search needs) in (search needs, open-start (omega (arith, length-lines-in lineSlots (c .args .words .now) l)), l)
 
 sub-j : tie.Need-sub-j Inv-loop μ-loop
 sub-j c = search needs
@@ -36,13 +36,10 @@ loop-less c = search needs
 loop-again : tie.Need-loop-again Inv-loop μ-loop
 loop-again c =
     let k = c .before .before in
-    (search needs, open-line (k .before .before .before .before .loop .inv .1) (omega arith) (k .line-at .ensures) (c .put-line .ensures .0), search needs)
+    (search needs, open-line (k .before .before .before .loop .inv .1) (omega arith) (k .line-at .ensures) (c .put-line .ensures .0), search needs)
 
 put-line-requires-2 : tie.Need-put-line-requires-2 Inv-loop μ-loop
 put-line-requires-2 c κs = search needs
-
-add-m : tie.Need-add-m Inv-loop μ-loop
-add-m c = search needs
 
 returns : tie.Need-returns Inv-loop μ-loop
 returns c = search memo-open
@@ -60,5 +57,4 @@ opened-spec =
     loop-less
     loop-again
     put-line-requires-2
-    add-m
     returns)

@@ -1,10 +1,10 @@
-use Rattle.memo.proofs.MemoLaws.{held-slot, held-inside, place-open, place-set}
+use Rattle.memo.proofs.MemoLaws.{whole-size, held-slot, place-open, place-set}
 use borrow.Author.Needs.{needs}
 use Rattle.memo.proofs.placed.Statement.{statement}
 use Rattle.memo.proofs.placed.Tie as tie
 
 lookup-requires : tie.Need-lookup-requires
-lookup-requires c κs = search needs
+lookup-requires c κs = (search whole-size, search needs, search needs)
 
 enum-known-at : tie.Need-enum-known-at
 enum-known-at c = search needs
@@ -16,14 +16,10 @@ returns : tie.Need-returns
 returns c = search place-open
 
 line-at-requires : tie.Need-line-at-requires
-line-at-requires c κs = (search held-slot, search needs)
+line-at-requires c κs = (search held-slot, search whole-size)
 
-replaced-requires : tie.Need-replaced-requires
-replaced-requires c κs =
-    let a = c .before .before .before .before in
-    let l = a .before .before in
-    let s = l .before .before .before in
-    (search needs, held-inside (s .args .t1) (s .args .radio) (s .pre .0) (s .pre .2) (l .lookup .ensures) (a .at .given .1), search needs, search needs)
+put-line-requires : tie.Need-put-line-requires
+put-line-requires c κs = (search held-slot, search whole-size)
 
 returns-2 : tie.Need-returns-2
 returns-2 c = search place-set
@@ -37,5 +33,5 @@ placed-spec =
     enum-told
     returns
     line-at-requires
-    replaced-requires
+    put-line-requires
     returns-2)

@@ -3,13 +3,13 @@ use borrow.Author.Needs.{needs}
 use mathlib.Core.Path.{sym}
 use Prim.Native.Nat.{_-_, _≤_}
 use Rattle.lists.proofs.SearchLaws.{Between, rank-between}
-use Rattle.memo.specs.Memo.{linesOf, noRow}
+use Rattle.memo.specs.Memo.{memoIn, linesOf, noRow}
 use Rattle.memo.proofs.MemoLaws.{search-start, search-up, search-down}
 use Rattle.memo.proofs.rank.Statement.{statement}
 use Rattle.memo.proofs.rank.Tie as tie
 
 abbrev Inv-loop : tie.InvT-loop
-Inv-loop words n radio low₀ high₀ low high = (low ≤ high) × (high ≤ n) × Between (linesOf (record { n = n; words = words })) radio noRow low high
+Inv-loop words n radio low₀ high₀ low high = (low ≤ high) × (high ≤ n) × Between (linesOf (memoIn n words)) radio noRow low high
 
 abbrev μ-loop : tie.MeasureT-loop
 μ-loop words n radio low₀ high₀ low high = high - low
