@@ -70,7 +70,10 @@ fn missed(waiting: Waiting, memo: Memo, radio: u16) -> Memo
     if waits_new(waiting, radio) {
         return memo;
     }
-    memo::raised_none(memo, radio)
+    let mut m = memo;
+    let n = memo::raised_none(&mut m.words, memo.n, radio);
+    m.n = n;
+    m
 }
 
 // "Sign-off discards a waiting report", the memo counts what is missed, and the radio is on no longer.
