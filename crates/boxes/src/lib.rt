@@ -16,7 +16,7 @@ ghost use Rattle.rules.specs.Carry.{waitingIn, mostOf, boxToFlush};
 ghost use Rattle.desk.specs.Layout.{noReport, waitingOf};
 ghost use Rattle.desk.specs.Views.{cutsIn, cutsBy};
 ghost use Rattle.waiting.specs.Waiting.{waits, rowOf, reportsOf, WholeWaiting};
-ghost use Rattle.boxes.specs.Boxes.{boxIn, spanIn, boundedBy, Reaches, maxStripes, tableSize, boxAt, Crowd, Leads, fullerOf, boxRow, dueOf};
+ghost use Rattle.boxes.specs.Boxes.{boxIn, reportsIn, waitingWith, onSide, spanIn, boundedBy, Reaches, maxStripes, tableSize, boxAt, Crowd, Leads, fullerOf, boxRow, dueOf};
 use desk::CutList;
 use desk::Desk;
 use desk::Report;
@@ -97,10 +97,10 @@ fn kept(stays: bool, report: Report) -> Report
     }
 }
 
-// "The reports of m wait no longer": those that stay, one after the other.
-pub fn cleared(easts: CutList, norths: CutList, waiting: Waiting, m: BoxAt) -> Waiting
-    requires { ⌜ (waiting .n ≤ fullMemory) × WholeWaiting waiting × (easts .n ≤ maxCuts) × (norths .n ≤ maxCuts) ⌝ }
-    ensures { λ r. ⌜ r ≡ waitingOf (filter (λ w. not (inBox (cutsBy easts norths) (boxIn m) w)) (reportsOf waiting)) ⌝ }
+// The waiting reports in m where these are wanted, else the others, one after the other.
+fn parted(easts: CutList, norths: CutList, waiting: Waiting, m: BoxAt, wanted: bool) -> Waiting
+    requires { ⌜ (waiting .n ≤ fullMemory) × (easts .n ≤ maxCuts) × (norths .n ≤ maxCuts) ⌝ }
+    ensures { λ r. ⌜ (r ≡ waitingWith (filter (λ x. onSide wanted (cutsBy easts norths) (boxIn m) (rowOf x)) (reportsIn waiting))) × (r .n ≤ waiting .n) ⌝ }
 {
     let n = waiting.n;
     let mut rows = [Report {
@@ -113,13 +113,29 @@ pub fn cleared(easts: CutList, norths: CutList, waiting: Waiting, m: BoxAt) -> W
     let mut i: usize = 0;
     while i < n {
         let x = waiting.rows[i];
-        let stays = !in_box(easts, norths, m, x);
+        let stays = in_box(easts, norths, m, x) == wanted;
         rows[k] = kept(stays, x);
         let step = one_if(stays);
         k = k + step;
         i = i + 1;
     }
     Waiting { n: k, rows }
+}
+
+// "each waiting report of m", one after the other.
+pub fn gathered(easts: CutList, norths: CutList, waiting: Waiting, m: BoxAt) -> Waiting
+    requires { ⌜ (waiting .n ≤ fullMemory) × (easts .n ≤ maxCuts) × (norths .n ≤ maxCuts) ⌝ }
+    ensures { λ r. ⌜ (reportsOf r ≡ filter (inBox (cutsBy easts norths) (boxIn m)) (reportsOf waiting)) × (r .n ≤ fullMemory) ⌝ }
+{
+    parted(easts, norths, waiting, m, true)
+}
+
+// "The reports of m wait no longer": those that stay.
+pub fn cleared(easts: CutList, norths: CutList, waiting: Waiting, m: BoxAt) -> Waiting
+    requires { ⌜ (waiting .n ≤ fullMemory) × WholeWaiting waiting × (easts .n ≤ maxCuts) × (norths .n ≤ maxCuts) ⌝ }
+    ensures { λ r. ⌜ r ≡ waitingOf (filter (λ w. not (inBox (cutsBy easts norths) (boxIn m) w)) (reportsOf waiting)) ⌝ }
+{
+    parted(easts, norths, waiting, m, false)
 }
 
 // ---- how far a stripe reaches
