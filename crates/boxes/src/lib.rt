@@ -72,7 +72,7 @@ pub fn box_of(easts: CutList, norths: CutList, east: u16, north: u16) -> BoxAt
 }
 
 // Whether a report waits in m. Of most the stripe of east tells that they do not.
-pub fn in_box(easts: CutList, norths: CutList, m: BoxAt, report: Report) -> bool
+fn in_box(easts: CutList, norths: CutList, m: BoxAt, report: Report) -> bool
     requires { ⌜ (easts .n ≤ maxCuts) × (norths .n ≤ maxCuts) ⌝ }
     ensures { λ r. ⌜ r ≡ inBox (cutsBy easts norths) (boxIn m) (rowOf report) ⌝ }
 {

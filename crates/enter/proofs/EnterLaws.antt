@@ -1,6 +1,6 @@
 -- One report after the other: what the next ones have room for, and what they leave.
-use mathlib.Core.Bool.{Bool, true, false}
-use mathlib.Core.List.{[], _∷_}
+use mathlib.Core.Bool.{true, false}
+use mathlib.Core.List.{List, [], _∷_}
 use mathlib.Core.Option.{Option, some}
 use mathlib.Core.Path.{_≡_, refl, sym, ap, _∙_, subst}
 use Prim.Native.Nat.{ℕ, _+_, _≤_, _<_}
@@ -12,7 +12,6 @@ use lib.Seq.{drop-cons}
 use borrow.Author.Tests.{eq-eqb, ne-eqb}
 use Rattle.terms.specs.Terms.{Place, maxOn}
 use Rattle.lists.specs.Rows.{Row, Rows, Rising, find, alter, insert}
-use Rattle.lists.specs.Sums.{filter, keep}
 use Rattle.lists.specs.Tests.{one-if, isSome, firstAt}
 use Rattle.lists.proofs.Cases.{by-cases, option-cases}
 use Rattle.lists.proofs.RowsLaws.{rising-less, rising-alter, rising-above, length-alter, length-alter-le, find-alter-other, countFound-one}
@@ -23,19 +22,18 @@ use Rattle.entries.specs.declared.Lookup.the-variants.{Found, Missing}
 use Rattle.entries.specs.Entries.{placeOf, rowsOf, lookupOf, noRow, rowOf as entryRow}
 use Rattle.entries.proofs.TableLaws.{insert-found}
 use Rattle.rules.specs.Limits.{fullMemory}
-use Rattle.rules.specs.Grid.{Box, Cuts}
 use Rattle.rules.specs.Store.{Line, Report as StoreReport}
-use Rattle.rules.specs.Flush.{placed, raised, entered, Work, enter, enterEach, inBox}
+use Rattle.rules.specs.Flush.{placed, raised, entered, Work, enter, enterEach}
 use Rattle.desk.specs.declared.Memo.{Memo}
 use Rattle.desk.specs.declared.Report.{Report}
 use Rattle.desk.specs.declared.Waiting.{Waiting}
 use Rattle.desk.specs.Layout.{lineSlots, memoOf, noReport}
-use Rattle.memo.specs.Memo.{linesOf}
+use Rattle.memo.specs.Memo.{memoIn, linesOf}
 use Rattle.memo.proofs.MemoLaws.{lines-are, whole-is, count-is}
 use Rattle.waiting.specs.Waiting.{waits, rowOf, reportsOf}
 use Rattle.waiting.proofs.WaitingLaws.{noRow as noReportRow, length-reports, reports-get}
 use Rattle.sweep.specs.declared.Swept.{Swept}
-use Rattle.enter.specs.Enter.{workOf, Room, Enterable, Entered}
+use Rattle.enter.specs.Enter.{sweptIn, workOf, Room, Enterable, Entered}
 
 -- ---- what a lookup says
 
@@ -75,17 +73,6 @@ length-entered b (w ∷ ws) k a r =
       countFound-one (w .key) (find (k .entries) (w .key)),
       one-if-le (isSome (find (k .entries) (w .key))),
     )
-
-room-none : (ws : Rows StoreReport) (k : Work) → Room k ws → Room k []
-unfolding enterEach
-room-none ws k r = record {
-  rows-rise = r .rows-rise;
-  lines-rise = r .lines-rise;
-  reports-rise = tt;
-  entries-fit = omega (arith, r .entries-fit, length-entered 0 ws k (r .reports-rise) (r .rows-rise));
-  lines-fit = omega (arith, r .lines-fit);
-  misses-fit = tt;
-}
 
 module _ (w : Row StoreReport) (ws : Rows StoreReport) (k : Work) (r : Room k (w ∷ ws)) where
   named : 0 < w .key
@@ -127,22 +114,6 @@ module _ (w : Row StoreReport) (ws : Rows StoreReport) (k : Work) (r : Room k (w
         (r .misses-fit .1) (rising-above (w .key) ws (r .reports-rise .1));
   }
 
--- the next report is one of m or not
-module _ (w : Row StoreReport) (ws : Rows StoreReport) (k : Work) where
-  room-front : (b : Bool) → Room k (keep b w ws) → Room k (keep b w [])
-  room-front true r = room-one w ws k r
-  room-front false r = room-none ws k r
-
-  room-then : (b : Bool) → Room k (keep b w ws) → Room (enterEach (keep b w []) k) ws
-  unfolding enterEach
-  room-then true r = room-next w ws k r
-  room-then false r = r
-
-  enter-then : (b : Bool) → enterEach (keep b w ws) k ≡ enterEach ws (enterEach (keep b w []) k)
-  unfolding enterEach
-  enter-then true = refl
-  enter-then false = refl
-
 -- ---- table and memo as they are laid out
 
 module _ {s t : Swept} {ws : Rows StoreReport} (done : Entered s ws t) where
@@ -158,20 +129,23 @@ module _ {s t : Swept} {ws : Rows StoreReport} (done : Entered s ws t) where
 
 -- ---- one report
 
-module _ (from : Swept) {w : Row StoreReport} (ready : Enterable from (w ∷ [])) where
-  pub table-fits : from .table .n ≤ maxOn
+module _ (table : Entries) (lines : ℕ) (words : List ℕ) {w : Row StoreReport} (ready : Enterable (sweptIn table lines words) (w ∷ [])) where
+  pub table-fits : table .n ≤ maxOn
   table-fits =
-      omega (arith, ready .counted, length-entered 0 (w ∷ []) (workOf from) (ready .room .reports-rise) (ready .room .rows-rise), ready .room .entries-fit)
+      omega (arith, ready .counted, length-entered 0 (w ∷ []) (workOf (sweptIn table lines words)) (ready .room .reports-rise) (ready .room .rows-rise), ready .room .entries-fit)
 
-  pub memo-fits : from .memo .n < lineSlots
-  memo-fits = omega (arith, count-is (linesOf (from .memo)) (ready .whole), ready .room .lines-fit)
+  pub memo-fits : lines < lineSlots
+  memo-fits = omega (arith, count-is (linesOf (memoIn lines words)) (ready .whole), ready .room .lines-fit)
 
-  pub memo-within : from .memo .n ≤ lineSlots
+  pub memo-within : lines ≤ lineSlots
   memo-within = omega (arith, memo-fits)
 
-module _ (from : Swept) (e : Report) (ready : Enterable from (rowOf e ∷ [])) where
+module _ (table : Entries) (lines : ℕ) (words : List ℕ) (e : Report) (ready : Enterable (sweptIn table lines words) (rowOf e ∷ [])) where
+  abbrev from : Swept
+  from = sweptIn table lines words
+
   abbrev rows : Rows Place
-  rows = rowsOf (from .table)
+  rows = rowsOf table
 
   abbrev entry : Entry
   entry = record { radio = e .radio; east = e .east; north = e .north }
@@ -189,15 +163,15 @@ module _ (from : Swept) (e : Report) (ready : Enterable from (rowOf e ∷ [])) w
           ap one-if (lookup-missing (e .radio) rows lacks),
         )
 
-    pub missing-fits : from .table .n < maxOn
+    pub missing-fits : table .n < maxOn
     unfolding enterEach enter
     missing-fits = omega (arith, ready .counted, ready .room .entries-fit, grows)
 
     pub still-missing : {x : Entry} → x ≡ entry → lookupOf (x .radio) rows ≡ Missing
     still-missing q = ap (λ (y : Entry). lookupOf (y .radio) rows) q ∙ lacks
 
-    pub adds : {x : Entry} {t : Entries} {m : Memo} → x ≡ entry → rowsOf t ≡ insert (x .radio) (placeOf x) rows → t .n ≡ from .table .n + 1
-        → m ≡ memoOf (alter (entered false (waits e .new) (waits e .place)) (e .radio) (linesOf (from .memo))) → Entered from (rowOf e ∷ []) (record { table = t; memo = m })
+    pub adds : {x : Entry} {t : Entries} {m : Memo} → x ≡ entry → rowsOf t ≡ insert (x .radio) (placeOf x) rows → t .n ≡ table .n + 1
+        → m ≡ memoOf (alter (entered false (waits e .new) (waits e .place)) (e .radio) (linesOf (memoIn lines words))) → Entered from (rowOf e ∷ []) (record { table = t; memo = m })
     unfolding enterEach enter
     adds q a n k = record {
       table = a ∙ ap (λ (y : Entry). insert (y .radio) (placeOf y) rows) q;
@@ -206,15 +180,15 @@ module _ (from : Swept) (e : Report) (ready : Enterable from (rowOf e ∷ [])) w
     }
 
   module _ {at : ℕ} (has : lookupOf (e .radio) rows ≡ Found at) where
-    pub found-inside : at < from .table .n
+    pub found-inside : at < table .n
     found-inside = omega (arith, ready .counted, lookup-found (e .radio) rows has .1)
 
-    pub moves : {x : Entry} {t : Entries} {m : Memo} → x ≡ entry → rowsOf t ≡ set rows at (entryRow x) → t .n ≡ from .table .n
-        → m ≡ memoOf (alter (placed (some place)) (e .radio) (linesOf (from .memo))) → Entered from (rowOf e ∷ []) (record { table = t; memo = m })
+    pub moves : {x : Entry} {t : Entries} {m : Memo} → x ≡ entry → rowsOf t ≡ set rows at (entryRow x) → t .n ≡ table .n
+        → m ≡ memoOf (alter (placed (some place)) (e .radio) (linesOf (memoIn lines words))) → Entered from (rowOf e ∷ []) (record { table = t; memo = m })
     unfolding enterEach enter
     moves {t = t} q a n k =
         let b : rowsOf t ≡ set rows at (entryRow entry) = a ∙ ap (λ (y : Entry). set rows at (entryRow y)) q in
-        let i : rowsOf t ≡ insert (e .radio) place rows = insert-found (from .table) entry (ready .room .rows-rise) (sym has) refl b in
+        let i : rowsOf t ≡ insert (e .radio) place rows = insert-found table entry (ready .room .rows-rise) (sym has) refl b in
         record {
           table = i;
           count = omega (arith, n, ready .counted, ap length b, length-set rows at (entryRow entry), ap length i);
@@ -229,75 +203,46 @@ module _ (m : Memo) (e : Report) {x : Memo} where
   pub places : (e .new ≡ 0 → ⊥) → x ≡ memoOf (alter (placed (some (waits e .place))) (e .radio) (linesOf m)) → x ≡ memoOf (alter (entered false (waits e .new) (waits e .place)) (e .radio) (linesOf m))
   places h = rw (ne-eqb (e .new) 0 h) (λ k. k)
 
--- ---- a report that is one of m, or not
+-- ---- one report after the other
 
-module _ (cuts : Cuts) (m : Box) (from : Swept) (e : Report) {b : Bool} (ready : Enterable from (filter (inBox cuts m) (rowOf e ∷ []))) (said : b ≡ inBox cuts m (rowOf e)) where
-  module _ (t : b ≡ true) where
-    one-of : filter (inBox cuts m) (rowOf e ∷ []) ≡ rowOf e ∷ []
-    unfolding filter
-    one-of = rw (← said, t)
+-- the first i reports are entered: what the others still leave is what all leave
+pub record Entering (w : Waiting) (from : Swept) (i : ℕ) (to : Swept) : Type 0 where
+  pub ready : Enterable to (drop i (reportsOf w))
+  pub same : enterEach (drop i (reportsOf w)) (workOf to) ≡ enterEach (reportsOf w) (workOf from)
 
-    pub box-ready : Enterable from (rowOf e ∷ [])
-    box-ready = subst (λ (l : Rows StoreReport). Enterable from l) one-of ready
+pub entering-start : (w : Waiting) {ws : Rows StoreReport} {s : Swept} → reportsOf w ≡ ws → Enterable s ws → Entering w s 0 s
+entering-start w {ws} {s} these r = record { ready = subst (λ (l : Rows StoreReport). Enterable s l) (sym these) r; same = refl }
 
-    pub box-enters : {r : Swept} → Entered from (rowOf e ∷ []) r → Entered from (filter (inBox cuts m) (rowOf e ∷ [])) r
-    box-enters {r} = subst (λ (l : Rows StoreReport). Entered from l r) (sym one-of)
-
-  pub box-skips : b ≡ false → Entered from (filter (inBox cuts m) (rowOf e ∷ [])) from
-  unfolding filter enterEach
-  box-skips t = rw (← said, t) (record { table = refl; count = ready .counted; memo = ready .whole })
-
--- ---- the reports of m
-
-abbrev left : Cuts → Box → Waiting → ℕ → Rows StoreReport
-left cuts m w i = filter (inBox cuts m) (drop i (reportsOf w))
-
--- the reports of m among the first i are entered: what the others still leave is what all leave
-pub record Entering (cuts : Cuts) (m : Box) (w : Waiting) (from : Swept) (i : ℕ) (to : Swept) : Type 0 where
-  pub ready : Enterable to (left cuts m w i)
-  pub same : enterEach (left cuts m w i) (workOf to) ≡ enterEach (left cuts m w 0) (workOf from)
-
-pub entering-start : (cuts : Cuts) (m : Box) (w : Waiting) {s : Swept} → Enterable s (filter (inBox cuts m) (reportsOf w)) → Entering cuts m w s 0 s
-entering-start cuts m w r = record { ready = r; same = refl }
-
-module _ (w : Waiting) (size : length (w .rows) ≡ fullMemory) (fits : w .n ≤ fullMemory) {cuts : Cuts} {m : Box} {from to : Swept} {i : ℕ} (done : Entering cuts m w from i to) where
+module _ (w : Waiting) (size : length (w .rows) ≡ fullMemory) (fits : w .n ≤ fullMemory) {from to : Swept} {i : ℕ} (done : Entering w from i to) where
   module _ (more : i < w .n) where
     abbrev here : Row StoreReport
     here = rowOf (getD (w .rows) i noReport)
 
-    left-next : left cuts m w i ≡ keep (inBox cuts m here) here (left cuts m w (i + 1))
-    unfolding filter
-    left-next =
-        ap (filter (inBox cuts m)) (drop-cons (reportsOf w) i noReportRow (rw (length-reports w size fits) more))
-        ∙ rw (add-one, reports-get w size fits i more)
+    abbrev later : Rows StoreReport
+    later = drop (i + 1) (reportsOf w)
 
-    ready-here : Enterable to (keep (inBox cuts m here) here (left cuts m w (i + 1)))
+    left-next : drop i (reportsOf w) ≡ here ∷ later
+    left-next = drop-cons (reportsOf w) i noReportRow (rw (length-reports w size fits) more) ∙ rw (add-one, reports-get w size fits i more)
+
+    ready-here : Enterable to (here ∷ later)
     ready-here = subst (λ (l : Rows StoreReport). Enterable to l) left-next (done .ready)
 
-    pub entering-ready : Enterable to (filter (inBox cuts m) (here ∷ []))
-    unfolding filter
-    entering-ready = record {
-      counted = ready-here .counted;
-      whole = ready-here .whole;
-      room = room-front here (left cuts m w (i + 1)) (workOf to) (inBox cuts m here) (ready-here .room);
-    }
+    pub entering-ready : Enterable to (here ∷ [])
+    entering-ready = record { counted = ready-here .counted; whole = ready-here .whole; room = room-one here later (workOf to) (ready-here .room) }
 
-    pub entering-turn : {r : Swept} → Entered to (filter (inBox cuts m) (here ∷ [])) r → Entering cuts m w from (i + 1) r
-    unfolding filter
+    pub entering-turn : {r : Swept} → Entered to (here ∷ []) r → Entering w from (i + 1) r
+    unfolding enterEach
     entering-turn {r} e = record {
-      ready = entered-ready e (left cuts m w (i + 1)) (room-then here (left cuts m w (i + 1)) (workOf to) (inBox cuts m here) (ready-here .room));
-      same =
-          ap (enterEach (left cuts m w (i + 1))) (entered-work e)
-          ∙ sym (enter-then here (left cuts m w (i + 1)) (workOf to) (inBox cuts m here))
-          ∙ ap (λ (l : Rows StoreReport). enterEach l (workOf to)) (sym left-next)
-          ∙ done .same;
+      ready = entered-ready e later (room-next here later (workOf to) (ready-here .room));
+      same = ap (enterEach later) (entered-work e) ∙ ap (λ (l : Rows StoreReport). enterEach l (workOf to)) (sym left-next) ∙ done .same;
     }
 
-  pub entering-end : w .n ≤ i → Entered from (filter (inBox cuts m) (reportsOf w)) to
-  unfolding filter enterEach
-  entering-end h =
+  pub entering-end : {ws : Rows StoreReport} → reportsOf w ≡ ws → w .n ≤ i → Entered from ws to
+  unfolding enterEach
+  entering-end {ws} these h =
       let none-left : drop i (reportsOf w) ≡ [] = drop-of-length-le (reportsOf w) {i = i} (rw (length-reports w size fits) h) in
-      let k : workOf to ≡ enterEach (left cuts m w 0) (workOf from) = ap (λ (l : Rows StoreReport). enterEach (filter (inBox cuts m) l) (workOf to)) (sym none-left) ∙ done .same in
+      let k : workOf to ≡ enterEach ws (workOf from) =
+      ap (λ (l : Rows StoreReport). enterEach l (workOf to)) (sym none-left) ∙ done .same ∙ ap (λ (l : Rows StoreReport). enterEach l (workOf from)) these in
       record {
         table = ap (λ (x : Work). x .entries) k;
         count = done .ready .counted ∙ ap (λ (x : Work). length (x .entries)) k;

@@ -1,17 +1,23 @@
 -- Entering the waiting reports of a memory cell (01, "Flush"): what a run of reports makes of the swept cell's table and the memo.
+use mathlib.Core.List.{List}
 use mathlib.Core.Path.{_≡_}
-use Prim.Native.Nat.{_+_, _≤_, _<_}
+use Prim.Native.Nat.{ℕ, _+_, _≤_, _<_}
 use lib.ListN.{length}
 use Rattle.terms.specs.Terms.{maxOn}
 use Rattle.lists.specs.Rows.{Rows, Rising, find}
 use Rattle.lists.specs.Tests.{Each}
+use Rattle.entries.specs.declared.Entries.{Entries}
 use Rattle.entries.specs.Entries.{rowsOf}
 use Rattle.rules.specs.Store.{Report}
 use Rattle.rules.specs.Flush.{Work, enterEach}
 use Rattle.rules.proofs.Parts.{missedOf}
 use Rattle.desk.specs.Layout.{lineSlots, memoOf}
-use Rattle.memo.specs.Memo.{linesOf, Whole, mostMissed}
+use Rattle.memo.specs.Memo.{memoIn, linesOf, Whole, mostMissed}
 use Rattle.sweep.specs.declared.Swept.{Swept}
+
+-- d's table, and the memo of so many lines in these words
+abbrev pub sweptIn : Entries → ℕ → List ℕ → Swept
+sweptIn table lines words = record { table = table; memo = memoIn lines words }
 
 -- d's entries and the memo, as the reports come in
 abbrev pub workOf : Swept → Work

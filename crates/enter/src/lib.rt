@@ -11,18 +11,26 @@ ghost use Rattle.rules.specs.Flush.{inBox, entered};
 ghost use Rattle.rules.proofs.Parts.{missedOf};
 ghost use Rattle.desk.specs.Layout.{lineSlots, memoOf};
 ghost use Rattle.desk.specs.Views.{cutsBy};
-ghost use Rattle.memo.specs.Memo.{linesOf, Whole, mostMissed};
+ghost use Rattle.memo.specs.Memo.{memoIn, linesOf, Whole, mostMissed};
 ghost use Rattle.boxes.specs.Boxes.{boxIn};
 ghost use Rattle.waiting.specs.Waiting.{waits, rowOf, reportsOf};
-ghost use Rattle.enter.specs.Enter.{Enterable, Entered};
+ghost use Rattle.enter.specs.Enter.{sweptIn, Enterable, Entered};
 use boxes::BoxAt;
 use desk::CutList;
+use desk::Desk;
 use desk::Memo;
 use desk::Report;
 use desk::Waiting;
+use entries::Entries;
 use entries::Entry;
 use entries::Lookup;
 use sweep::Swept;
+
+// What a report leaves beside the memo's words, which are lent: the table, and how many lines there are.
+struct Step {
+    table: Entries,
+    lines: usize,
+}
 
 // A report as an entry.
 fn entry_of(report: Report) -> Entry
@@ -35,78 +43,89 @@ fn entry_of(report: Report) -> Entry
     }
 }
 
-// The memo as an entry is added: "if not marked new, add 1 to the missed count (made as 1 if absent); any memo line takes the new place".
-fn memo_added(memo: Memo, report: Report) -> Memo
-    requires { ⌜ Whole memo × (memo .n < lineSlots) × Rising 0 (linesOf memo) × (missedOf (find (linesOf memo) (report .radio)) < mostMissed) ⌝ }
-    ensures { λ r. ⌜ r ≡ memoOf (alter (entered false (waits report .new) (waits report .place)) (report .radio) (linesOf memo)) ⌝ }
+// The memo as an entry is added: "if not marked new, add 1 to the missed count (made as 1 if absent); any memo line takes the new place". The answer is how many lines there are then.
+fn memo_added<'a>(words: &'a mut [u16; Desk::MEMO_WORDS], n: usize, report: Report) -> usize
+    requires { ⌜ Whole (memoIn n (now words)) × (n < lineSlots) × Rising 0 (linesOf (memoIn n (now words))) × (missedOf (find (linesOf (memoIn n (now words))) (report .radio)) < mostMissed) ⌝ }
+    ensures { λ r. ⌜ memoIn r (now (words .exit)) ≡ memoOf (alter (entered false (waits report .new) (waits report .place)) (report .radio) (linesOf (memoIn n (now (words .entry))))) ⌝ }
 {
     if report.new == 0 {
-        return memo::raised(memo, report.radio, report.east, report.north);
+        return memo::raised(words, n, report.radio, report.east, report.north);
     }
-    memo::placed(memo, report.radio, report.east, report.north)
+    memo::placed(words, n, report.radio, report.east, report.north);
+    n
 }
 
 // d has no entry of the radio: "add the entry".
-fn added(swept: Swept, report: Report) -> Swept
-    requires { ⌜ Enterable swept (rowOf report ∷ []) × (lookupOf (report .radio) (rowsOf (swept .table)) ≡ Lookup.Missing) ⌝ }
-    ensures { λ r. ⌜ Entered swept (rowOf report ∷ []) r ⌝ }
+fn added<'a>(
+    table: Entries,
+    words: &'a mut [u16; Desk::MEMO_WORDS],
+    lines: usize,
+    report: Report,
+) -> Step
+    requires { ⌜ Enterable (sweptIn table lines (now words)) (rowOf report ∷ []) × (lookupOf (report .radio) (rowsOf table) ≡ Lookup.Missing) ⌝ }
+    ensures { λ r. ⌜ Entered (sweptIn table lines (now (words .entry))) (rowOf report ∷ []) (sweptIn (r .table) (r .lines) (now (words .exit))) ⌝ }
 {
-    let table = swept.table;
-    let memo = swept.memo;
-    Swept {
+    Step {
         table: table.inserted(entry_of(report)),
-        memo: memo_added(memo, report),
+        lines: memo_added(words, lines, report),
     }
 }
 
 // d has an entry of the radio: "it and any memo line take the new place".
-fn moved(swept: Swept, at: usize, report: Report) -> Swept
-    requires { ⌜ Enterable swept (rowOf report ∷ []) × (lookupOf (report .radio) (rowsOf (swept .table)) ≡ Lookup.Found at) ⌝ }
-    ensures { λ r. ⌜ Entered swept (rowOf report ∷ []) r ⌝ }
+fn moved<'a>(
+    table: Entries,
+    words: &'a mut [u16; Desk::MEMO_WORDS],
+    lines: usize,
+    at: usize,
+    report: Report,
+) -> Step
+    requires { ⌜ Enterable (sweptIn table lines (now words)) (rowOf report ∷ []) × (lookupOf (report .radio) (rowsOf table) ≡ Lookup.Found at) ⌝ }
+    ensures { λ r. ⌜ Entered (sweptIn table lines (now (words .entry))) (rowOf report ∷ []) (sweptIn (r .table) (r .lines) (now (words .exit))) ⌝ }
 {
-    let table = swept.table;
-    let memo = swept.memo;
-    Swept {
+    memo::placed(words, lines, report.radio, report.east, report.north);
+    Step {
         table: table.replaced(at, entry_of(report)),
-        memo: memo::placed(memo, report.radio, report.east, report.north),
+        lines,
     }
 }
 
 // One report: "if d has an entry of that radio, it and any memo line take the new place; else add the entry".
-fn enter_report(swept: Swept, report: Report) -> Swept
-    requires { ⌜ Enterable swept (rowOf report ∷ []) ⌝ }
-    ensures { λ r. ⌜ Entered swept (rowOf report ∷ []) r ⌝ }
+fn enter_report<'a>(
+    table: Entries,
+    words: &'a mut [u16; Desk::MEMO_WORDS],
+    lines: usize,
+    report: Report,
+) -> Step
+    requires { ⌜ Enterable (sweptIn table lines (now words)) (rowOf report ∷ []) ⌝ }
+    ensures { λ r. ⌜ Entered (sweptIn table lines (now (words .entry))) (rowOf report ∷ []) (sweptIn (r .table) (r .lines) (now (words .exit))) ⌝ }
 {
-    let table = swept.table;
     let Lookup::Found(at) = table.lookup(report.radio) else {
-        return added(swept, report);
+        return added(table, words, lines, report);
     };
-    moved(swept, at, report)
+    moved(table, words, lines, at, report)
 }
 
-// A waiting report, entered if it is one of m.
-fn enter_if(easts: CutList, norths: CutList, m: BoxAt, swept: Swept, report: Report) -> Swept
-    requires { ⌜ (easts .n ≤ maxCuts) × (norths .n ≤ maxCuts) × Enterable swept (filter (inBox (cutsBy easts norths) (boxIn m)) (rowOf report ∷ [])) ⌝ }
-    ensures { λ r. ⌜ Entered swept (filter (inBox (cutsBy easts norths) (boxIn m)) (rowOf report ∷ [])) r ⌝ }
-{
-    if boxes::in_box(easts, norths, m, report) {
-        return enter_report(swept, report);
-    }
-    swept
-}
-
-// "For each waiting report of m": by rising radio.
+// "For each waiting report of m": by rising radio. The memo's words are copied once, and lent for each report.
 pub fn enter_all(easts: CutList, norths: CutList, waiting: Waiting, m: BoxAt, swept: Swept) -> Swept
     requires { ⌜ (easts .n ≤ maxCuts) × (norths .n ≤ maxCuts) × (waiting .n ≤ fullMemory) × Enterable swept (filter (inBox (cutsBy easts norths) (boxIn m)) (reportsOf waiting)) ⌝ }
     ensures { λ r. ⌜ Entered swept (filter (inBox (cutsBy easts norths) (boxIn m)) (reportsOf waiting)) r ⌝ }
 {
-    let n = waiting.n;
-    let mut done = swept;
+    let reports = boxes::gathered(easts, norths, waiting, m);
+    let n = reports.n;
+    let memo = swept.memo;
+    let mut words = memo.words;
+    let mut lines = memo.n;
+    let mut table = swept.table;
     let mut i: usize = 0;
     while i < n {
-        let x = waiting.rows[i];
-        done = enter_if(easts, norths, m, done, x);
+        let x = reports.rows[i];
+        let step = enter_report(table, &mut words, lines, x);
+        table = step.table;
+        lines = step.lines;
         i += 1;
     }
-    done
+    Swept {
+        table,
+        memo: Memo { n: lines, words },
+    }
 }

@@ -1,18 +1,20 @@
--- The reports of m among the first i are entered (`Entering`).
+-- The first i of the reports of m are entered (`Entering`).
 use Prim.Native.Nat.{_-_, _≤_}
 use borrow.Author.Needs.{needs}
 use Rattle.lists.proofs.ShiftLaws.{length-mapped}
-use Rattle.desk.specs.Views.{cutsBy}
-use Rattle.boxes.specs.Boxes.{boxIn}
+use Rattle.enter.specs.Enter.{sweptIn}
 use Rattle.enter.proofs.EnterLaws.{Entering, entering-start, entering-ready, entering-turn, entering-end}
 use Rattle.enter.proofs.enter_all.Statement.{statement}
 use Rattle.enter.proofs.enter_all.Tie as tie
 
 abbrev Inv-loop : tie.InvT-loop
-Inv-loop easts norths m waiting n done₀ i₀ done i = (i ≤ n) × Entering (cutsBy easts norths) (boxIn m) waiting done₀ i done
+Inv-loop reports n words₀ lines₀ table₀ i₀ words lines table i = (i ≤ n) × Entering reports (sweptIn table₀ lines₀ words₀) i (sweptIn table lines words)
 
 abbrev μ-loop : tie.MeasureT-loop
-μ-loop easts norths m waiting n done₀ i₀ done i = n - i
+μ-loop reports n words₀ lines₀ table₀ i₀ words lines table i = n - i
+
+gathered-requires : tie.Need-gathered-requires Inv-loop μ-loop
+gathered-requires c κs = search needs
 
 loop-holds : tie.Need-loop-holds Inv-loop μ-loop
 loop-holds c = (search needs, search entering-start)
@@ -23,8 +25,8 @@ mul-x c = search needs
 element-copy-out-x : tie.Need-element-copy-out-x Inv-loop μ-loop
 element-copy-out-x c = search needs
 
-enter-if-requires : tie.Need-enter-if-requires Inv-loop μ-loop
-enter-if-requires c κs = (search needs, search needs, search (entering-ready, length-mapped))
+enter-report-requires : tie.Need-enter-report-requires Inv-loop μ-loop
+enter-report-requires c κs = search (entering-ready, length-mapped)
 
 add-i : tie.Need-add-i Inv-loop μ-loop
 add-i c = search needs
@@ -44,10 +46,11 @@ enter-all-spec =
     (tie.spec
     Inv-loop
     μ-loop
+    gathered-requires
     loop-holds
     mul-x
     element-copy-out-x
-    enter-if-requires
+    enter-report-requires
     add-i
     loop-less
     loop-again
