@@ -1,9 +1,12 @@
--- What `map` does under cuts and stores: a table of structs read as a table of rows.
+-- What `map` does under cuts, filters and stores: a table of structs read as a table of rows.
+use mathlib.Core.Bool.{Bool}
 use mathlib.Core.Path.{_≡_, refl, ap, ap₂, _∙_}
 use mathlib.Core.List.{List, [], _∷_, _++_, map, map-append}
 use Prim.Native.Nat.{ℕ, zero, suc}
 use lib.ListN.{take, drop, set}
 use Rattle.lists.specs.Parts.{insertAt, removeAt}
+use Rattle.lists.specs.Sums.{filter}
+use Rattle.lists.proofs.Cases.{by-cases}
 
 module _ {A B : Type 0} (f : A → B) where
   pub map-take : (n : ℕ) (l : List A) → map f (take n l) ≡ take n (map f l)
@@ -15,6 +18,11 @@ module _ {A B : Type 0} (f : A → B) where
   map-drop zero l = refl
   map-drop (suc n) [] = refl
   map-drop (suc n) (x ∷ xs) = map-drop n xs
+
+  pub map-filter : (p : B → Bool) (l : List A) → map f (filter (λ x. p (f x)) l) ≡ filter p (map f l)
+  unfolding filter
+  map-filter p [] = refl
+  map-filter p (x ∷ xs) = by-cases (p (f x)) (λ t. rw (t, map-filter p xs)) (λ t. rw (t, map-filter p xs))
 
   pub map-set : (l : List A) (i : ℕ) (v : A) → map f (set l i v) ≡ set (map f l) i (f v)
   map-set [] i v = refl

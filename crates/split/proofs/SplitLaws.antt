@@ -14,6 +14,7 @@ use Rattle.lists.specs.Rows.{Row}
 use Rattle.lists.specs.Sums.{keep, filter}
 use Rattle.lists.specs.Tests.{one-if}
 use Rattle.lists.proofs.Cases.{by-cases}
+use Rattle.lists.proofs.MapLaws.{map-filter}
 use Rattle.entries.specs.declared.Entry.{Entry}
 use Rattle.entries.specs.declared.Entries.{Entries}
 use Rattle.entries.specs.Entries.{rowOf, rowsOf}
@@ -46,12 +47,6 @@ module _ {A : Type 0} where
       ap (λ (n : ℕ). take n (set ys kept x)) z ∙ take-suc-set ys kept x k ∙ ap (λ (l : List A). l ++ (x ∷ [])) done ∙ ap (λ (b : Bool). filter p (take i xs) ++ keep b x []) (sym t) ∙ sym next)
       (λ t. let z : kept + e ≡ kept = omega (arith, said, ap one-if t) in
       ap (λ (n : ℕ). take n (set ys kept x)) z ∙ take-set-le kept ys kept x (omega arith) ∙ done ∙ sym (append-nil (filter p (take i xs))) ∙ ap (λ (b : Bool). filter p (take i xs) ++ keep b x []) (sym t) ∙ sym next)
-
-module _ {A B : Type 0} where
-  filter-map : (p : B → Bool) (f : A → B) (l : List A) → map f (filter (λ x. p (f x)) l) ≡ filter p (map f l)
-  unfolding filter
-  filter-map p f [] = refl
-  filter-map p f (x ∷ l) = by-cases (p (f x)) (λ t. rw t (ap (λ (m : List B). f x ∷ m) (filter-map p f l))) (λ t. rw t (filter-map p f l))
 
 -- ---- the side of an entry
 
@@ -108,7 +103,7 @@ module _ {es : Entries} {low : Bool} {c : Cut} {i kept : ℕ} {all : List Entry}
   unfolding rowsOf
   part-rows h k =
       let z : i ≡ es .n = omega arith in
-      ap (map rowOf) (r .list ∙ ap (λ (n : ℕ). filter (on low c) (take n (es .all))) z) ∙ filter-map (sideOf low c) rowOf (take (es .n) (es .all))
+      ap (map rowOf) (r .list ∙ ap (λ (n : ℕ). filter (on low c) (take n (es .all))) z) ∙ map-filter rowOf (sideOf low c) (take (es .n) (es .all))
 
   pub part-count : i ≤ es .n → es .n ≤ i → kept ≤ i → kept ≡ length (filter (sideOf low c) (rowsOf es))
   part-count h k room = sym (length-rows (record { n = kept; all = all }) (omega (arith, r .fits, r .size))) ∙ ap length (part-rows h k)
