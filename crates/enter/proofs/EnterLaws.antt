@@ -32,8 +32,7 @@ use Rattle.memo.specs.Memo.{memoIn, linesOf}
 use Rattle.memo.proofs.MemoLaws.{lines-are, whole-is, count-is}
 use Rattle.waiting.specs.Waiting.{waits, rowOf, reportsOf}
 use Rattle.waiting.proofs.WaitingLaws.{noRow as noReportRow, length-reports, reports-get}
-use Rattle.sweep.specs.declared.Swept.{Swept}
-use Rattle.enter.specs.Enter.{sweptIn, workOf, Room, Enterable, Entered}
+use Rattle.enter.specs.Enter.{Held, heldIn, workOf, Room, Enterable, Entered}
 
 -- ---- what a lookup says
 
@@ -116,7 +115,7 @@ module _ (w : Row StoreReport) (ws : Rows StoreReport) (k : Work) (r : Room k (w
 
 -- ---- table and memo as they are laid out
 
-module _ {s t : Swept} {ws : Rows StoreReport} (done : Entered s ws t) where
+module _ {s t : Held} {ws : Rows StoreReport} (done : Entered s ws t) where
   entered-work : workOf t ≡ enterEach ws (workOf s)
   entered-work = λ i. record { entries = done .table i; memo = lines-are (enterEach ws (workOf s) .memo) (done .memo) i }
 
@@ -129,10 +128,10 @@ module _ {s t : Swept} {ws : Rows StoreReport} (done : Entered s ws t) where
 
 -- ---- one report
 
-module _ (table : Entries) (lines : ℕ) (words : List ℕ) {w : Row StoreReport} (ready : Enterable (sweptIn table lines words) (w ∷ [])) where
+module _ (table : Entries) (lines : ℕ) (words : List ℕ) {w : Row StoreReport} (ready : Enterable (heldIn table lines words) (w ∷ [])) where
   pub table-fits : table .n ≤ maxOn
   table-fits =
-      omega (arith, ready .counted, length-entered 0 (w ∷ []) (workOf (sweptIn table lines words)) (ready .room .reports-rise) (ready .room .rows-rise), ready .room .entries-fit)
+      omega (arith, ready .counted, length-entered 0 (w ∷ []) (workOf (heldIn table lines words)) (ready .room .reports-rise) (ready .room .rows-rise), ready .room .entries-fit)
 
   pub memo-fits : lines < lineSlots
   memo-fits = omega (arith, count-is (linesOf (memoIn lines words)) (ready .whole), ready .room .lines-fit)
@@ -140,9 +139,9 @@ module _ (table : Entries) (lines : ℕ) (words : List ℕ) {w : Row StoreReport
   pub memo-within : lines ≤ lineSlots
   memo-within = omega (arith, memo-fits)
 
-module _ (table : Entries) (lines : ℕ) (words : List ℕ) (e : Report) (ready : Enterable (sweptIn table lines words) (rowOf e ∷ [])) where
-  abbrev from : Swept
-  from = sweptIn table lines words
+module _ (table : Entries) (lines : ℕ) (words : List ℕ) (e : Report) (ready : Enterable (heldIn table lines words) (rowOf e ∷ [])) where
+  abbrev from : Held
+  from = heldIn table lines words
 
   abbrev rows : Rows Place
   rows = rowsOf table
@@ -206,14 +205,14 @@ module _ (m : Memo) (e : Report) {x : Memo} where
 -- ---- one report after the other
 
 -- the first i reports are entered: what the others still leave is what all leave
-pub record Entering (w : Waiting) (from : Swept) (i : ℕ) (to : Swept) : Type 0 where
+pub record Entering (w : Waiting) (from : Held) (i : ℕ) (to : Held) : Type 0 where
   pub ready : Enterable to (drop i (reportsOf w))
   pub same : enterEach (drop i (reportsOf w)) (workOf to) ≡ enterEach (reportsOf w) (workOf from)
 
-pub entering-start : (w : Waiting) {ws : Rows StoreReport} {s : Swept} → reportsOf w ≡ ws → Enterable s ws → Entering w s 0 s
+pub entering-start : (w : Waiting) {ws : Rows StoreReport} {s : Held} → reportsOf w ≡ ws → Enterable s ws → Entering w s 0 s
 entering-start w {ws} {s} these r = record { ready = subst (λ (l : Rows StoreReport). Enterable s l) (sym these) r; same = refl }
 
-module _ (w : Waiting) (size : length (w .rows) ≡ fullMemory) (fits : w .n ≤ fullMemory) {from to : Swept} {i : ℕ} (done : Entering w from i to) where
+module _ (w : Waiting) (size : length (w .rows) ≡ fullMemory) (fits : w .n ≤ fullMemory) {from to : Held} {i : ℕ} (done : Entering w from i to) where
   module _ (more : i < w .n) where
     abbrev here : Row StoreReport
     here = rowOf (getD (w .rows) i noReport)
@@ -230,7 +229,7 @@ module _ (w : Waiting) (size : length (w .rows) ≡ fullMemory) (fits : w .n ≤
     pub entering-ready : Enterable to (here ∷ [])
     entering-ready = record { counted = ready-here .counted; whole = ready-here .whole; room = room-one here later (workOf to) (ready-here .room) }
 
-    pub entering-turn : {r : Swept} → Entered to (here ∷ []) r → Entering w from (i + 1) r
+    pub entering-turn : {r : Held} → Entered to (here ∷ []) r → Entering w from (i + 1) r
     unfolding enterEach
     entering-turn {r} e = record {
       ready = entered-ready e later (room-next here later (workOf to) (ready-here .room));

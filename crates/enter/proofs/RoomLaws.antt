@@ -38,8 +38,7 @@ use Rattle.boxes.specs.Boxes.{boxIn}
 use Rattle.waiting.specs.Waiting.{reportsOf}
 use Rattle.boxes.proofs.BoxLaws.{cuts-laid}
 use Rattle.waiting.proofs.WaitingLaws.{reports-laid, count-laid}
-use Rattle.sweep.specs.declared.Swept.{Swept}
-use Rattle.enter.specs.Enter.{workOf, Room, Enterable, Entered}
+use Rattle.enter.specs.Enter.{Held, workOf, Room, Enterable, Entered}
 
 -- ---- counts
 
@@ -110,7 +109,7 @@ unfolding cutListOf
 cuts-count cuts e = ap (λ (x : CutList). x .n) e
 
 -- the desk's parts are the store's, and the sweep of d has left `from`
-module _ (s : Store) (d : Cell) (m : BoxAt) (easts norths : CutList) (waiting : Waiting) (from : Swept) (east-laid : easts ≡ cutListOf (s .cuts .easts)) (north-laid : norths ≡ cutListOf (s .cuts .norths))
+module _ (s : Store) (d : Cell) (m : BoxAt) (easts norths : CutList) (waiting : Waiting) (from : Held) (east-laid : easts ≡ cutListOf (s .cuts .easts)) (north-laid : norths ≡ cutListOf (s .cuts .norths))
     (waits : waiting ≡ waitingOf (s .waiting)) (rows : rowsOf (from .table) ≡ swept (s .memo) d .entries) (held : from .memo ≡ memoOf (sweptMemo (s .memo) (d .entries))) where
   abbrev entering : Rows Report
   entering = filter (inBox (cutsBy easts norths) (boxIn m)) (reportsOf waiting)
@@ -140,7 +139,7 @@ module _ (s : Store) (d : Cell) (m : BoxAt) (easts norths : CutList) (waiting : 
         },
       )
 
-  pub enter-gives : (r : Swept) → Entered from entering r
+  pub enter-gives : (r : Held) → Entered from entering r
       → (rowsOf (r .table) ≡ flushedInto (boxIn m) s d .cell .entries) × (r .table .n ≡ length (flushedInto (boxIn m) s d .cell .entries)) × (r .memo ≡ memoOf (flushedInto (boxIn m) s d .store .memo))
   unfolding flushedInto swept
   enter-gives r e =

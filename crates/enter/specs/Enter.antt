@@ -12,15 +12,20 @@ use Rattle.rules.specs.Store.{Report}
 use Rattle.rules.specs.Flush.{Work, enterEach}
 use Rattle.rules.proofs.Parts.{missedOf}
 use Rattle.desk.specs.Layout.{lineSlots, memoOf}
+use Rattle.desk.specs.declared.Memo.{Memo}
 use Rattle.memo.specs.Memo.{memoIn, linesOf, Whole, mostMissed}
-use Rattle.sweep.specs.declared.Swept.{Swept}
 
--- d's table, and the memo of so many lines in these words
-abbrev pub sweptIn : Entries → ℕ → List ℕ → Swept
-sweptIn table lines words = record { table = table; memo = memoIn lines words }
+-- d's table and the memo, as the reports come in
+pub record Held : Type 0 where
+  pub table : Entries
+  pub memo : Memo
 
--- d's entries and the memo, as the reports come in
-abbrev pub workOf : Swept → Work
+-- the same, of a memo of so many lines in these words
+abbrev pub heldIn : Entries → ℕ → List ℕ → Held
+heldIn table lines words = record { table = table; memo = memoIn lines words }
+
+-- as rows
+abbrev pub workOf : Held → Work
 workOf s = record { entries = rowsOf (s .table); memo = linesOf (s .memo) }
 
 -- these reports have room: the table for the entries that they leave, the memo for a line and a miss more for each
@@ -33,13 +38,13 @@ pub record Room (k : Work) (ws : Rows Report) : Type 0 where
   pub misses-fit : Each (λ w. missedOf (find (k .memo) (w .key)) < mostMissed) ws
 
 -- these reports may come next: table and memo are as they are laid out, and there is room
-pub record Enterable (from : Swept) (ws : Rows Report) : Type 0 where
+pub record Enterable (from : Held) (ws : Rows Report) : Type 0 where
   pub counted : from .table .n ≡ length (rowsOf (from .table))
   pub whole : Whole (from .memo)
   pub room : Room (workOf from) ws
 
 -- these reports are entered, one after the other
-pub record Entered (from : Swept) (ws : Rows Report) (to : Swept) : Type 0 where
+pub record Entered (from : Held) (ws : Rows Report) (to : Held) : Type 0 where
   pub table : rowsOf (to .table) ≡ enterEach ws (workOf from) .entries
   pub count : to .table .n ≡ length (enterEach ws (workOf from) .entries)
   pub memo : to .memo ≡ memoOf (enterEach ws (workOf from) .memo)

@@ -14,23 +14,16 @@ ghost use Rattle.desk.specs.Views.{cutsBy};
 ghost use Rattle.memo.specs.Memo.{memoIn, linesOf, Whole, mostMissed};
 ghost use Rattle.boxes.specs.Boxes.{boxIn};
 ghost use Rattle.waiting.specs.Waiting.{waits, rowOf, reportsOf};
-ghost use Rattle.enter.specs.Enter.{sweptIn, Enterable, Entered};
+ghost use Rattle.enter.specs.Enter.{heldIn, Enterable, Entered};
 use boxes::BoxAt;
 use desk::CutList;
 use desk::Desk;
-use desk::Memo;
 use desk::Report;
 use desk::Waiting;
 use entries::Entries;
 use entries::Entry;
 use entries::Lookup;
 use sweep::Swept;
-
-// What a report leaves beside the memo's words, which are lent: the table, and how many lines there are.
-struct Step {
-    table: Entries,
-    lines: usize,
-}
 
 // A report as an entry.
 fn entry_of(report: Report) -> Entry
@@ -61,11 +54,11 @@ fn added<'a>(
     words: &'a mut [u16; Desk::MEMO_WORDS],
     lines: usize,
     report: Report,
-) -> Step
-    requires { ⌜ Enterable (sweptIn table lines (now words)) (rowOf report ∷ []) × (lookupOf (report .radio) (rowsOf table) ≡ Lookup.Missing) ⌝ }
-    ensures { λ r. ⌜ Entered (sweptIn table lines (now (words .entry))) (rowOf report ∷ []) (sweptIn (r .table) (r .lines) (now (words .exit))) ⌝ }
+) -> Swept
+    requires { ⌜ Enterable (heldIn table lines (now words)) (rowOf report ∷ []) × (lookupOf (report .radio) (rowsOf table) ≡ Lookup.Missing) ⌝ }
+    ensures { λ r. ⌜ Entered (heldIn table lines (now (words .entry))) (rowOf report ∷ []) (heldIn (r .table) (r .lines) (now (words .exit))) ⌝ }
 {
-    Step {
+    Swept {
         table: table.inserted(entry_of(report)),
         lines: memo_added(words, lines, report),
     }
@@ -78,12 +71,12 @@ fn moved<'a>(
     lines: usize,
     at: usize,
     report: Report,
-) -> Step
-    requires { ⌜ Enterable (sweptIn table lines (now words)) (rowOf report ∷ []) × (lookupOf (report .radio) (rowsOf table) ≡ Lookup.Found at) ⌝ }
-    ensures { λ r. ⌜ Entered (sweptIn table lines (now (words .entry))) (rowOf report ∷ []) (sweptIn (r .table) (r .lines) (now (words .exit))) ⌝ }
+) -> Swept
+    requires { ⌜ Enterable (heldIn table lines (now words)) (rowOf report ∷ []) × (lookupOf (report .radio) (rowsOf table) ≡ Lookup.Found at) ⌝ }
+    ensures { λ r. ⌜ Entered (heldIn table lines (now (words .entry))) (rowOf report ∷ []) (heldIn (r .table) (r .lines) (now (words .exit))) ⌝ }
 {
     memo::placed(words, lines, report.radio, report.east, report.north);
-    Step {
+    Swept {
         table: table.replaced(at, entry_of(report)),
         lines,
     }
@@ -95,9 +88,9 @@ fn enter_report<'a>(
     words: &'a mut [u16; Desk::MEMO_WORDS],
     lines: usize,
     report: Report,
-) -> Step
-    requires { ⌜ Enterable (sweptIn table lines (now words)) (rowOf report ∷ []) ⌝ }
-    ensures { λ r. ⌜ Entered (sweptIn table lines (now (words .entry))) (rowOf report ∷ []) (sweptIn (r .table) (r .lines) (now (words .exit))) ⌝ }
+) -> Swept
+    requires { ⌜ Enterable (heldIn table lines (now words)) (rowOf report ∷ []) ⌝ }
+    ensures { λ r. ⌜ Entered (heldIn table lines (now (words .entry))) (rowOf report ∷ []) (heldIn (r .table) (r .lines) (now (words .exit))) ⌝ }
 {
     let Lookup::Found(at) = table.lookup(report.radio) else {
         return added(table, words, lines, report);
@@ -105,27 +98,33 @@ fn enter_report<'a>(
     moved(table, words, lines, at, report)
 }
 
-// "For each waiting report of m": by rising radio. The memo's words are copied once, and lent for each report.
-pub fn enter_all(easts: CutList, norths: CutList, waiting: Waiting, m: BoxAt, swept: Swept) -> Swept
-    requires { ⌜ (easts .n ≤ maxCuts) × (norths .n ≤ maxCuts) × (waiting .n ≤ fullMemory) × Enterable swept (filter (inBox (cutsBy easts norths) (boxIn m)) (reportsOf waiting)) ⌝ }
-    ensures { λ r. ⌜ Entered swept (filter (inBox (cutsBy easts norths) (boxIn m)) (reportsOf waiting)) r ⌝ }
+// "For each waiting report of m": by rising radio.
+pub fn enter_all<'a>(
+    easts: CutList,
+    norths: CutList,
+    waiting: Waiting,
+    m: BoxAt,
+    table: Entries,
+    words: &'a mut [u16; Desk::MEMO_WORDS],
+    lines: usize,
+) -> Swept
+    requires { ⌜ (easts .n ≤ maxCuts) × (norths .n ≤ maxCuts) × (waiting .n ≤ fullMemory) × Enterable (heldIn table lines (now words)) (filter (inBox (cutsBy easts norths) (boxIn m)) (reportsOf waiting)) ⌝ }
+    ensures { λ r. ⌜ Entered (heldIn table lines (now (words .entry))) (filter (inBox (cutsBy easts norths) (boxIn m)) (reportsOf waiting)) (heldIn (r .table) (r .lines) (now (words .exit))) ⌝ }
 {
     let reports = boxes::gathered(easts, norths, waiting, m);
     let n = reports.n;
-    let memo = swept.memo;
-    let mut words = memo.words;
-    let mut lines = memo.n;
-    let mut table = swept.table;
+    let mut all = table;
+    let mut notes = lines;
     let mut i: usize = 0;
     while i < n {
         let x = reports.rows[i];
-        let step = enter_report(table, &mut words, lines, x);
-        table = step.table;
-        lines = step.lines;
+        let step = enter_report(all, words, notes, x);
+        all = step.table;
+        notes = step.lines;
         i += 1;
     }
     Swept {
-        table,
-        memo: Memo { n: lines, words },
+        table: all,
+        lines: notes,
     }
 }

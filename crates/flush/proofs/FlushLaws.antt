@@ -38,7 +38,8 @@ use Rattle.directory.specs.Directory.{slotAt, foundAt}
 use Rattle.directory.specs.Cuts.{placeOf}
 use Rattle.directory.proofs.DirectoryLaws.{cuts-count, directory-count, found-cell, found-not}
 use Rattle.sweep.specs.declared.Swept.{Swept}
-use Rattle.enter.specs.Enter.{Enterable, Entered}
+use Rattle.memo.specs.Memo.{memoIn}
+use Rattle.enter.specs.Enter.{Held, heldIn, Enterable, Entered}
 use Rattle.enter.proofs.RoomLaws.{enter-asks, enter-gives}
 use Rattle.reshape.specs.Reshape.{Midway, Lays, Reshapes}
 use Rattle.reshape.proofs.MovedLaws.{lays-same}
@@ -129,11 +130,11 @@ module _ {grid : Grid} {at : ℕ} {waiting : Waiting} {memo : Memo} (m : BoxAt) 
   }
 
   -- `swept_at` has swept it
-  module _ (hand : Hand) (given : (y : AtPlace grid at memo b) → InHand (swept (y .store .memo) (y .cell)) (sweptMemo (y .store .memo) (y .cell .entries)) hand) where
-    abbrev from : Swept
-    from = record { table = hand .table; memo = hand .memo }
+  module _ (hand : Hand) (ws : List ℕ) (given : (y : AtPlace grid at memo b) → InHand (swept (y .store .memo) (y .cell)) (sweptMemo (y .store .memo) (y .cell .entries)) hand ws) where
+    abbrev from : Held
+    from = heldIn (hand .table) (hand .lines) ws
 
-    cell-swept : InHand (swept (store .memo) (x .cell)) (sweptMemo (store .memo) (x .cell .entries)) hand
+    cell-swept : InHand (swept (store .memo) (x .cell)) (sweptMemo (store .memo) (x .cell .entries)) hand ws
     cell-swept = given home-place
 
     abbrev entering : Rows Report
@@ -147,11 +148,11 @@ module _ {grid : Grid} {at : ℕ} {waiting : Waiting} {memo : Memo} (m : BoxAt) 
         (r .staged) (omega (arith, r .early)) (x .home) (r .few) (cell-swept .count)
 
     -- what it leaves
-    pub entered-gives : (r : Swept) → Entered from entering r → InHand (into .cell) (into .store .memo) (record { chain = hand .chain; table = r .table; memo = r .memo })
+    pub entered-gives : (r : Swept) {ws′ : List ℕ} → Entered from entering (heldIn (r .table) (r .lines) ws′) → InHand (into .cell) (into .store .memo) (record { chain = hand .chain; table = r .table; lines = r .lines }) ws′
     unfolding flushedInto swept
-    entered-gives r e =
+    entered-gives r {ws′} e =
         let y = x .reported in
-        let k = enter-gives store (x .cell) m (grid .easts) (grid .norths) waiting from (holds-easts (y .holds)) (holds-norths (y .holds)) (y .waiting-is) (cell-swept .rows) (cell-swept .memo-is) r e in
+        let k = enter-gives store (x .cell) m (grid .easts) (grid .norths) waiting from (holds-easts (y .holds)) (holds-norths (y .holds)) (y .waiting-is) (cell-swept .rows) (cell-swept .memo-is) (heldIn (r .table) (r .lines) ws′) e in
         record {
           bound = cell-swept .bound;
           chained = cell-swept .chained;
@@ -182,8 +183,8 @@ module _ {grid : Grid} {at : ℕ} {waiting : Waiting} {memo : Memo} (m : BoxAt) 
       (omega (arith, waiting-flushed (boxIn m) store (x .cell) k among home-inside, r .few))
 
   -- `entered` has entered the reports
-  module _ (hand : Hand) (given : (y : Homed grid at waiting memo (boxIn m) b) → InHand (flushedInto (boxIn m) (y .reported .store) (y .cell) .cell) (flushedInto (boxIn m) (y .reported .store) (y .cell) .store .memo) hand) where
-    midway : Midway grid at (pagesOf (hand .chain)) (rowsOf (hand .table)) (hand .memo) b
+  module _ (hand : Hand) (ws : List ℕ) (given : (y : Homed grid at waiting memo (boxIn m) b) → InHand (flushedInto (boxIn m) (y .reported .store) (y .cell) .cell) (flushedInto (boxIn m) (y .reported .store) (y .cell) .store .memo) hand ws) where
+    midway : Midway grid at (pagesOf (hand .chain)) (rowsOf (hand .table)) (memoIn (hand .lines) ws) b
     midway =
         let i = given x in
         record {
@@ -205,12 +206,12 @@ module _ {grid : Grid} {at : ℕ} {waiting : Waiting} {memo : Memo} (m : BoxAt) 
         }
 
     -- what `reshape` asks
-    pub reshape-asks : (hand .chain .n ≤ pages) × (hand .table .n ≤ maxOn) × (hand .table .n ≡ length (rowsOf (hand .table))) × Midway grid at (pagesOf (hand .chain)) (rowsOf (hand .table)) (hand .memo) b
+    pub reshape-asks : (hand .chain .n ≤ pages) × (hand .table .n ≤ maxOn) × (hand .table .n ≡ length (rowsOf (hand .table))) × Midway grid at (pagesOf (hand .chain)) (rowsOf (hand .table)) (memoIn (hand .lines) ws) b
     reshape-asks = let i = given x in (i .bound, i .few, i .count ∙ ap length (sym (i .rows)), midway)
 
     -- what it leaves
     reshape-gives : {g : Grid} {lines : Memo} {b′ : List ℕ}
-        → ((y : Midway grid at (pagesOf (hand .chain)) (rowsOf (hand .table)) (hand .memo) b) → Reshapes (y .flushed) g lines b′) → Reshapes into g lines b′
+        → ((y : Midway grid at (pagesOf (hand .chain)) (rowsOf (hand .table)) (memoIn (hand .lines) ws) b) → Reshapes (y .flushed) g lines b′) → Reshapes into g lines b′
     unfolding midway
     reshape-gives f = f midway
 
@@ -232,8 +233,8 @@ module _ {grid : Grid} {at : ℕ} {waiting : Waiting} {memo : Memo} (m : BoxAt) 
 -- the whole, in the words of the calls
 pub flush-returns : {grid : Grid} {waiting : Waiting} {memo : Memo} {b : List ℕ} (x : Reported grid waiting memo b) (m : BoxAt) {o : FoundCell} {at : ℕ}
     → o ≡ foundAt (slotAt (slotsIn (grid .cells)) (cornerOf (cutsBy (grid .easts) (grid .norths)) (boxIn m))) → o ≡ At at
-    → (hand : Hand) → ((y : Homed grid at waiting memo (boxIn m) b) → InHand (flushedInto (boxIn m) (y .reported .store) (y .cell) .cell) (flushedInto (boxIn m) (y .reported .store) (y .cell) .store .memo) hand)
-    → {g : Grid} {w : Waiting} {lines : Memo} {b′ : List ℕ} → ((y : Midway grid at (pagesOf (hand .chain)) (rowsOf (hand .table)) (hand .memo) b) → Reshapes (y .flushed) g lines b′)
+    → (hand : Hand) (ws : List ℕ) → ((y : Homed grid at waiting memo (boxIn m) b) → InHand (flushedInto (boxIn m) (y .reported .store) (y .cell) .cell) (flushedInto (boxIn m) (y .reported .store) (y .cell) .store .memo) hand ws)
+    → {g : Grid} {w : Waiting} {lines : Memo} {b′ : List ℕ} → ((y : Midway grid at (pagesOf (hand .chain)) (rowsOf (hand .table)) (memoIn (hand .lines) ws) b) → Reshapes (y .flushed) g lines b′)
     → w ≡ waitingOf (filter (λ v. not (inBox (cutsBy (grid .easts) (grid .norths)) (boxIn m) v)) (reportsOf waiting)) → Flushes (x .store) (boxIn m) g w lines b′
 unfolding homed
-flush-returns x m told e hand given f w = let y = homed x m told e in flush-gives m y (reshape-gives m y hand given f) w
+flush-returns x m told e hand ws given f w = let y = homed x m told e in flush-gives m y (reshape-gives m y hand ws given f) w

@@ -24,7 +24,7 @@ use Rattle.desk.specs.declared.Grid.{Grid}
 use Rattle.desk.specs.declared.Memo.{Memo}
 use Rattle.desk.specs.declared.Slot.{Slot}
 use Rattle.desk.specs.Layout.{lineSlots, noSlot, directoryOf, gridOf, memoOf}
-use Rattle.memo.specs.Memo.{linesOf, Whole}
+use Rattle.memo.specs.Memo.{memoIn, linesOf, Whole}
 use Rattle.reshape.specs.Reshape.{Lays}
 use Rattle.reshape.proofs.MovedLaws.{lays-same}
 use Rattle.sweep.specs.declared.Swept.{Swept}
@@ -69,12 +69,12 @@ module _ {grid : Grid} {at : ℕ} {memo : Memo} {b : List ℕ} (x : AtPlace grid
     place-asks = cell-asks sweepable-place chain memo first-place (x .holds .memo-is) (read .2) (few-lines (x .store) (x .c) (x .staged) (x .late)) (x .staged .core .books .memo-rises)
 
     -- what it leaves
-    pub place-gives : (s : Swept)
-        → (rowsOf (s .table) ≡ sweptEntries (linesOf memo) (entriesOn b (pagesOf chain))) × (s .table .n ≡ length (sweptEntries (linesOf memo) (entriesOn b (pagesOf chain)))) × (s .memo ≡ memoOf (sweptMemo (linesOf memo) (entriesOn b (pagesOf chain))))
-        → InHand (swept (x .store .memo) (x .cell)) (sweptMemo (x .store .memo) (x .cell .entries)) (record { chain = chain; table = s .table; memo = s .memo })
+    pub place-gives : (s : Swept) {ws : List ℕ}
+        → (rowsOf (s .table) ≡ sweptEntries (linesOf memo) (entriesOn b (pagesOf chain))) × (s .table .n ≡ length (sweptEntries (linesOf memo) (entriesOn b (pagesOf chain)))) × (memoIn (s .lines) ws ≡ memoOf (sweptMemo (linesOf memo) (entriesOn b (pagesOf chain))))
+        → InHand (swept (x .store .memo) (x .cell)) (sweptMemo (x .store .memo) (x .cell .entries)) (record { chain = chain; table = s .table; lines = s .lines }) ws
     unfolding swept
     place-gives s g =
-        let k = cell-gives sweepable-place chain memo first-place (x .holds .memo-is) s g in
+        let k = cell-gives sweepable-place chain memo first-place (x .holds .memo-is) (s .table) g in
         record {
           bound = read .2;
           chained = first-place ∙ sweepable-place .read;

@@ -24,6 +24,7 @@ use Rattle.desk.specs.declared.Grid.{Grid}
 use Rattle.desk.specs.declared.Memo.{Memo}
 use Rattle.directory.proofs.DirectoryLaws.{stands-index}
 use Rattle.reshape.specs.Reshape.{Loose, Lays, movedLast}
+use Rattle.memo.specs.Memo.{memoIn}
 use Rattle.flush.specs.declared.Hand.{Hand}
 use Rattle.flush.specs.Flush.{Holds, AtPlace, InHand, Tallied, Sixteenth, Ticks}
 use Rattle.flush.proofs.HandLaws.{holds-lays, holds-same, holds-cells, among-place}
@@ -44,8 +45,8 @@ module _ {grid : Grid} {memo : Memo} {b : List ℕ} (x : Sixteenth grid memo b) 
   front = front-place .cell
 
   -- `swept_at` has read it
-  module _ (hand : Hand) (given : (y : AtPlace grid 0 memo b) → InHand (swept (y .store .memo) (y .cell)) (sweptMemo (y .store .memo) (y .cell .entries)) hand) where
-    front-swept : InHand (swept (x .store .memo) front) (sweptMemo (x .store .memo) (front .entries)) hand
+  module _ (hand : Hand) (ws : List ℕ) (given : (y : AtPlace grid 0 memo b) → InHand (swept (y .store .memo) (y .cell)) (sweptMemo (y .store .memo) (y .cell .entries)) hand ws) where
+    front-swept : InHand (swept (x .store .memo) front) (sweptMemo (x .store .memo) (front .entries)) hand ws
     front-swept = given front-place
 
     front-loose : Loose grid 0 (pagesOf (hand .chain)) (rowsOf (hand .table)) b
@@ -84,10 +85,10 @@ module _ {grid : Grid} {memo : Memo} {b : List ℕ} (x : Sixteenth grid memo b) 
     -- what it leaves
     pub front-holds : {g : Grid} {b′ : List ℕ}
         → ((y : Loose grid 0 (pagesOf (hand .chain)) (rowsOf (hand .table)) b) → Lays (movedLast (y .store) (y .before ++ y .after) (y .cell)) g b′)
-        → Holds (sweepFront (x .store .cells) (x .store)) g (hand .memo) b′
+        → Holds (sweepFront (x .store .cells) (x .store)) g (memoIn (hand .lines) ws) b′
     unfolding sweepFront movedLast front-loose
     front-holds {g = g} {b′ = b′} l =
-        subst (λ (cells : List Cell). Holds (sweepFront cells (x .store)) g (hand .memo) b′) (sym (front-place .stands .split))
+        subst (λ (cells : List Cell). Holds (sweepFront cells (x .store)) g (memoIn (hand .lines) ws) b′) (sym (front-place .stands .split))
         (holds-same (movedLast (x .store) (drop 1 (x .store .cells)) (swept (x .store .memo) front)) (sweepFront (front ∷ drop 1 (x .store .cells)) (x .store)) refl refl refl (front-swept .memo-is) (l front-loose))
 
   front-tally : sweepFront (x .store .cells) (x .store) .tally ≡ 0

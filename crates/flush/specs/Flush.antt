@@ -22,6 +22,7 @@ use Rattle.desk.specs.declared.Grid.{Grid}
 use Rattle.desk.specs.declared.Waiting.{Waiting}
 use Rattle.desk.specs.declared.Memo.{Memo}
 use Rattle.desk.specs.Layout.{gridOf, waitingOf, memoOf, Laid}
+use Rattle.memo.specs.Memo.{memoIn}
 use Rattle.directory.proofs.DirectoryLaws.{Stands}
 use Rattle.flush.specs.declared.Hand.{Hand}
 
@@ -43,14 +44,14 @@ pub record AtPlace (grid : Grid) (at : ℕ) (memo : Memo) (bytes : List ℕ) : T
   pub cell : Cell
   pub stands : Stands (grid .cells) (store .cells) cell at
 
--- a cell's old pages and its entries are at hand, with the memo
-pub record InHand (c : Cell) (memo : Rows Line) (hand : Hand) : Type 0 where
+-- a cell's old pages and its entries are at hand, and the memo in these words
+pub record InHand (c : Cell) (memo : Rows Line) (hand : Hand) (words : List ℕ) : Type 0 where
   pub bound : hand .chain .n ≤ pages
   pub chained : pagesOf (hand .chain) ≡ c .chain
   pub few : hand .table .n ≤ maxOn
   pub count : hand .table .n ≡ length (c .entries)
   pub rows : rowsOf (hand .table) ≡ c .entries
-  pub memo-is : hand .memo ≡ memoOf memo
+  pub memo-is : memoIn (hand .lines) words ≡ memoOf memo
 
 -- ---- the tally
 

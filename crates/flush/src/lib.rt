@@ -8,6 +8,7 @@ ghost use Rattle.rules.specs.Sweep.{swept, sweptMemo, sweepFront};
 ghost use Rattle.rules.specs.Flush.{flushedInto};
 ghost use Rattle.rules.specs.Carry.{waitingIn, boxToFlush};
 ghost use Rattle.desk.specs.Views.{cutsBy, slotsIn};
+ghost use Rattle.memo.specs.Memo.{memoIn};
 ghost use Rattle.boxes.specs.Boxes.{boxIn};
 ghost use Rattle.waiting.specs.Waiting.{reportsOf};
 ghost use Rattle.directory.specs.Directory.{slotAt, foundAt};
@@ -17,87 +18,100 @@ use boxes::BoxDue;
 use desk::CutList;
 use desk::Desk;
 use desk::Grid;
-use desk::Memo;
 use desk::Waiting;
 use directory::FoundCell;
 use entries::Entries;
 use page::Chain;
-use sweep::Swept;
 
-// A cell's old pages, its entries as they now are, and the memo then.
+// A cell's old pages, its entries as they now are, and how many lines the memo then has.
 struct Hand {
     chain: Chain,
     table: Entries,
-    memo: Memo,
+    lines: usize,
 }
 
 // "Sweep a cell": the one at place `at` of the round.
-fn swept_at(buffer: &[u8], grid: Grid, at: usize, memo: Memo) -> Hand
-    requires { ⌜ AtPlace grid at memo (now buffer) ⌝ }
-    ensures { λ r. ⌜ ((x : AtPlace grid at memo (now (buffer .entry))) → InHand (swept (x .store .memo) (x .cell)) (sweptMemo (x .store .memo) (x .cell .entries)) r) ⌝ }
+fn swept_at(
+    buffer: &[u8],
+    grid: Grid,
+    at: usize,
+    words: &mut [u16; Desk::MEMO_WORDS],
+    lines: usize,
+) -> Hand
+    requires { ⌜ AtPlace grid at (memoIn lines (now words)) (now buffer) ⌝ }
+    ensures { λ r. ⌜ ((x : AtPlace grid at (memoIn lines (now (words .entry))) (now (buffer .entry))) → InHand (swept (x .store .memo) (x .cell)) (sweptMemo (x .store .memo) (x .cell .entries)) r (now (words .exit))) ⌝ }
 {
     let cells = grid.cells;
     let d = cells.slots[at];
     let chain = page_chain::read_chain(buffer, d.first);
-    let swept = sweep::sweep_chain(buffer, chain, memo);
+    let swept = sweep::sweep_chain(buffer, chain, words, lines);
     let table = swept.table;
-    let lines = swept.memo;
     Hand {
         chain,
         table,
-        memo: lines,
+        lines: swept.lines,
     }
 }
 
 // ---- the tally
 
-// What the tally changes.
+// What the tally changes, beside the memo's array.
 pub struct Ticked {
     pub grid: Grid,
-    pub memo: Memo,
+    pub lines: usize,
     pub tally: u16,
 }
 
 // "sweep the cell at the front of the round, move it to the end, set c to 0"
-fn sweep_front(buffer: &mut [u8], grid: Grid, memo: Memo) -> Ticked
-    requires { ⌜ Sixteenth grid memo (now buffer) ⌝ }
-    ensures { λ r. ⌜ (r .tally ≡ 0) × ((x : Sixteenth grid memo (now (buffer .entry))) → Holds (sweepFront (x .store .cells) (x .store)) (r .grid) (r .memo) (now (buffer .exit))) ⌝ }
+fn sweep_front(
+    buffer: &mut [u8],
+    grid: Grid,
+    words: &mut [u16; Desk::MEMO_WORDS],
+    lines: usize,
+) -> Ticked
+    requires { ⌜ Sixteenth grid (memoIn lines (now words)) (now buffer) ⌝ }
+    ensures { λ r. ⌜ (r .tally ≡ 0) × ((x : Sixteenth grid (memoIn lines (now (words .entry))) (now (buffer .entry))) → Holds (sweepFront (x .store .cells) (x .store)) (r .grid) (memoIn (r .lines) (now (words .exit))) (now (buffer .exit))) ⌝ }
 {
-    let d = swept_at(buffer, grid, 0, memo);
+    let d = swept_at(buffer, grid, 0, words, lines);
     let chain = d.chain;
     let table = d.table;
-    let lowered = d.memo;
     let moved = reshape::settled_last(buffer, grid, 0, chain, table);
     Ticked {
         grid: moved,
-        memo: lowered,
+        lines: d.lines,
         tally: 0,
     }
 }
 
 // "Each accepted sign-on, report or sign-off adds 1 to c. At 16, sweep the cell at the front of the round, move it to the end, set c to 0."
-pub fn tick(buffer: &mut [u8], grid: Grid, memo: Memo, tally: u16) -> Ticked
-    requires { ⌜ Tallied grid memo tally (now buffer) ⌝ }
-    ensures { λ r. ⌜ ((x : Tallied grid memo tally (now (buffer .entry))) → Ticks (x .store) (r .grid) (r .memo) (r .tally) (now (buffer .exit))) ⌝ }
+pub fn tick(
+    buffer: &mut [u8],
+    grid: Grid,
+    words: &mut [u16; Desk::MEMO_WORDS],
+    lines: usize,
+    tally: u16,
+) -> Ticked
+    requires { ⌜ Tallied grid (memoIn lines (now words)) tally (now buffer) ⌝ }
+    ensures { λ r. ⌜ ((x : Tallied grid (memoIn lines (now (words .entry))) tally (now (buffer .entry))) → Ticks (x .store) (r .grid) (memoIn (r .lines) (now (words .exit))) (r .tally) (now (buffer .exit))) ⌝ }
 {
     let c = tally + 1;
     if c < Desk::SWEEP_EVERY {
         return Ticked {
             grid,
-            memo,
+            lines,
             tally: c,
         };
     }
-    sweep_front(buffer, grid, memo)
+    sweep_front(buffer, grid, words, lines)
 }
 
 // ---- a flush
 
-// What a flush changes.
+// What a flush changes, beside the memo's array.
 pub struct Emptied {
     pub grid: Grid,
     pub waiting: Waiting,
-    pub memo: Memo,
+    pub lines: usize,
 }
 
 // Where the cell of m stands in the round.
@@ -113,53 +127,64 @@ fn home_of(grid: Grid, m: BoxAt) -> FoundCell
 }
 
 // "sweep d. For each waiting report of m ..": d, at place `at` of the round, with the reports.
-fn entered(buffer: &[u8], grid: Grid, at: usize, waiting: Waiting, memo: Memo, m: BoxAt) -> Hand
-    requires { ⌜ Homed grid at waiting memo (boxIn m) (now buffer) ⌝ }
-    ensures { λ r. ⌜ ((x : Homed grid at waiting memo (boxIn m) (now (buffer .entry))) → InHand (flushedInto (boxIn m) (x .reported .store) (x .cell) .cell) (flushedInto (boxIn m) (x .reported .store) (x .cell) .store .memo) r) ⌝ }
+fn entered(
+    buffer: &[u8],
+    grid: Grid,
+    at: usize,
+    waiting: Waiting,
+    words: &mut [u16; Desk::MEMO_WORDS],
+    lines: usize,
+    m: BoxAt,
+) -> Hand
+    requires { ⌜ Homed grid at waiting (memoIn lines (now words)) (boxIn m) (now buffer) ⌝ }
+    ensures { λ r. ⌜ ((x : Homed grid at waiting (memoIn lines (now (words .entry))) (boxIn m) (now (buffer .entry))) → InHand (flushedInto (boxIn m) (x .reported .store) (x .cell) .cell) (flushedInto (boxIn m) (x .reported .store) (x .cell) .store .memo) r (now (words .exit))) ⌝ }
 {
-    let d = swept_at(buffer, grid, at, memo);
+    let d = swept_at(buffer, grid, at, words, lines);
     let chain = d.chain;
     let table = d.table;
-    let lines = d.memo;
     let easts = grid.easts;
     let norths = grid.norths;
-    let done = enter::enter_all(easts, norths, waiting, m, Swept { table, memo: lines });
-    let table = done.table;
-    let lines = done.memo;
+    let done = enter::enter_all(easts, norths, waiting, m, table, words, d.lines);
+    let all = done.table;
     Hand {
         chain,
-        table,
-        memo: lines,
+        table: all,
+        lines: done.lines,
     }
 }
 
 // "Flush memory cell m": its reports go into the cell in which it lies, which is then grown, split or joined, and they wait no longer.
-pub fn flush(buffer: &mut [u8], grid: Grid, waiting: Waiting, memo: Memo, m: BoxAt) -> Emptied
-    requires { ⌜ Reported grid waiting memo (now buffer) × (m .east ≤ grid .easts .n) × (m .north ≤ grid .norths .n) ⌝ }
-    ensures { λ r. ⌜ ((x : Reported grid waiting memo (now (buffer .entry))) → Flushes (x .store) (boxIn m) (r .grid) (r .waiting) (r .memo) (now (buffer .exit))) ⌝ }
+pub fn flush(
+    buffer: &mut [u8],
+    grid: Grid,
+    waiting: Waiting,
+    words: &mut [u16; Desk::MEMO_WORDS],
+    lines: usize,
+    m: BoxAt,
+) -> Emptied
+    requires { ⌜ Reported grid waiting (memoIn lines (now words)) (now buffer) × (m .east ≤ grid .easts .n) × (m .north ≤ grid .norths .n) ⌝ }
+    ensures { λ r. ⌜ ((x : Reported grid waiting (memoIn lines (now (words .entry))) (now (buffer .entry))) → Flushes (x .store) (boxIn m) (r .grid) (r .waiting) (memoIn (r .lines) (now (words .exit))) (now (buffer .exit))) ⌝ }
 {
     let FoundCell::At(at) = home_of(grid, m) else {
         // not reached: each memory cell of a store lies in a cell
         return Emptied {
             grid,
             waiting,
-            memo,
+            lines,
         };
     };
-    let d = entered(buffer, grid, at, waiting, memo, m);
+    let d = entered(buffer, grid, at, waiting, words, lines, m);
     let chain = d.chain;
     let table = d.table;
-    let lines = d.memo;
-    let done = reshape::reshape(buffer, grid, at, chain, table, lines);
+    let done = reshape::reshape(buffer, grid, at, chain, table, words, d.lines);
     let easts = grid.easts;
     let norths = grid.norths;
     let left = boxes::cleared(easts, norths, waiting, m);
     let shape = done.grid;
-    let notes = done.memo;
     Emptied {
         grid: shape,
         waiting: left,
-        memo: notes,
+        lines: done.lines,
     }
 }
 
@@ -168,12 +193,13 @@ pub fn after_report(
     buffer: &mut [u8],
     grid: Grid,
     waiting: Waiting,
-    memo: Memo,
+    words: &mut [u16; Desk::MEMO_WORDS],
+    lines: usize,
     east: u16,
     north: u16,
 ) -> Emptied
-    requires { ⌜ Reported grid waiting memo (now buffer) ⌝ }
-    ensures { λ r. ⌜ ((x : Reported grid waiting memo (now (buffer .entry))) → After (x .store) (record { east = east; north = north }) (r .grid) (r .waiting) (r .memo) (now (buffer .exit))) ⌝ }
+    requires { ⌜ Reported grid waiting (memoIn lines (now words)) (now buffer) ⌝ }
+    ensures { λ r. ⌜ ((x : Reported grid waiting (memoIn lines (now (words .entry))) (now (buffer .entry))) → After (x .store) (record { east = east; north = north }) (r .grid) (r .waiting) (memoIn (r .lines) (now (words .exit))) (now (buffer .exit))) ⌝ }
 {
     let easts = grid.easts;
     let norths = grid.norths;
@@ -181,10 +207,10 @@ pub fn after_report(
         return Emptied {
             grid,
             waiting,
-            memo,
+            lines,
         };
     };
-    flush(buffer, grid, waiting, memo, m)
+    flush(buffer, grid, waiting, words, lines, m)
 }
 
 // Whether nothing follows a report but that it is counted, as after most: no memory cell is due, and the tally does not come to 16.

@@ -39,7 +39,6 @@ use Rattle.directory.specs.Directory.{WholeDirectory}
 use Rattle.directory.proofs.CellLaws.{slots-at}
 use Rattle.directory.proofs.DirectoryLaws.{directory-whole, directory-count, directory-slots, directory-removed}
 use Rattle.settle.specs.declared.Settled.{Settled}
-use Rattle.sweep.specs.declared.Swept.{Swept}
 use Rattle.sweep.specs.Sweep.{entriesOn}
 use Rattle.sweep.proofs.CellLaws.{Sweepable, sweepable, cell-asks, cell-gives}
 use Rattle.join.specs.Join.{joinedSlot}
@@ -132,20 +131,20 @@ module _ {grid : Grid} {at : ℕ} {rest : Directory} {k : ℕ} {chain : List ℕ
     pub other-is : pagesOf other ≡ m .chain
     other-is = from-first ∙ near-swept .read
 
-    module _ (r : Swept) (said : (rowsOf (r .table) ≡ sweptEntries (linesOf memo) (entriesOn b (pagesOf other))) × (r .table .n ≡ length (sweptEntries (linesOf memo) (entriesOn b (pagesOf other)))) × (r .memo ≡ memoOf (sweptMemo (linesOf memo) (entriesOn b (pagesOf other))))) where
-      gives : (rowsOf (r .table) ≡ swept (f .store .memo) m .entries) × (r .table .n ≡ length (swept (f .store .memo) m .entries)) × (r .memo ≡ memoOf (sweptMemo (f .store .memo) (m .entries)))
-      gives = cell-gives near-swept other memo from-first (x .midway .noted) r said
+    module _ (stay : Entries) {after : Memo} (said : (rowsOf stay ≡ sweptEntries (linesOf memo) (entriesOn b (pagesOf other))) × (stay .n ≡ length (sweptEntries (linesOf memo) (entriesOn b (pagesOf other)))) × (after ≡ memoOf (sweptMemo (linesOf memo) (entriesOn b (pagesOf other))))) where
+      gives : (rowsOf stay ≡ swept (f .store .memo) m .entries) × (stay .n ≡ length (swept (f .store .memo) m .entries)) × (after ≡ memoOf (sweptMemo (f .store .memo) (m .entries)))
+      gives = cell-gives near-swept other memo from-first (x .midway .noted) stay said
 
-      pub stays : rowsOf (r .table) ≡ sweptEntries (f .store .memo) (m .entries)
+      pub stays : rowsOf stay ≡ sweptEntries (f .store .memo) (m .entries)
       unfolding swept
       stays = gives .0
 
-      count-stays : r .table .n ≤ length (m .entries)
+      count-stays : stay .n ≤ length (m .entries)
       unfolding swept
       count-stays = omega (arith, gives .1, few-stay)
 
       pub near-merges : (table : Entries) → table .n ≡ length (rowsOf table) → rows ≡ rowsOf table
-          → Rising 0 (rowsOf (r .table)) × Rising 0 (rowsOf table) × (r .table .n + table .n ≤ maxOn)
+          → Rising 0 (rowsOf stay) × Rising 0 (rowsOf table) × (stay .n + table .n ≤ maxOn)
       unfolding sweptEntries
       near-merges table n e = (
         rw stays (rising-filter (λ e. not (stale (f .store .memo) e)) 0 (m .entries) (rowed .rising)),
@@ -153,7 +152,7 @@ module _ {grid : Grid} {at : ℕ} {rest : Directory} {k : ℕ} {chain : List ℕ
         omega (arith, count-stays, small, n, ap length e, ap length (x .midway .entered)),
       )
 
-      abbrev pub near-joins : (all : Rows Place) → all ≡ merge (rowsOf (r .table)) rows → Joining (grid .free) (getD (grid .cells .slots) at noSlot) chain (getD (rest .slots) k noSlot) (pagesOf other) all b
+      abbrev pub near-joins : (all : Rows Place) → all ≡ merge (rowsOf stay) rows → Joining (grid .free) (getD (grid .cells .slots) at noSlot) chain (getD (rest .slots) k noSlot) (pagesOf other) all b
       near-joins all e = record {
         flushed = f;
         old = x .midway .d;
@@ -175,16 +174,16 @@ module _ {grid : Grid} {at : ℕ} {rest : Directory} {k : ℕ} {chain : List ℕ
         laid = x .midway .laid;
       }
 
-      pub near-fits : (all : Rows Place) → all ≡ merge (rowsOf (r .table)) rows → length all ≤ maxOn
+      pub near-fits : (all : Rows Place) → all ≡ merge (rowsOf stay) rows → length all ≤ maxOn
       near-fits all e = omega (arith, few-joined (x .midway .ready) b (x .midway .laid) m among small, small, ap length (e ∙ ap₂ merge stays (x .midway .entered)))
 
-      noted : r .memo ≡ memoOf (sweptMemo (f .store .memo) (m .entries))
+      noted : after ≡ memoOf (sweptMemo (f .store .memo) (m .entries))
       noted = gives .2
 
       pub near-returns : {ends : Settled} {b′ : List ℕ} {cells′ : Directory} {g : Grid} → JoinedPages f m ends b′
           → cells′ ≡ directoryWith (removeAt (slotsIn rest) k ++ (joinedSlot (getD (grid .cells .slots) at noSlot) (getD (rest .slots) k noSlot) (ends .first) ∷ []))
           → g ≡ record { easts = grid .easts; norths = grid .norths; cells = cells′; free = ends .free }
-          → Joined f m g (r .memo) b′
+          → Joined f m g after b′
       unfolding gridOf joinedWith
       near-returns {ends = ends} {cells′ = cells′} {g = g} laid is-cells is-g =
           let d-slot : getD (grid .cells .slots) at noSlot ≡ slotOf (f .cell) = sym (slots-at (grid .cells) at (loose-in (midway-loose (x .midway)))) ∙ midway-slot (x .midway) in

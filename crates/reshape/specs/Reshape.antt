@@ -96,6 +96,11 @@ pub record Midway (grid : Grid) (at : ℕ) (chain : List ℕ) (rows : Rows Place
   pub noted : memo ≡ memoOf (flushed .store .memo)
   pub laid : Laid (flushed .store) bytes
 
+-- the same with some memo, of which a split looks at nothing
+pub record Underway (grid : Grid) (at : ℕ) (chain : List ℕ) (rows : Rows Place) (bytes : List ℕ) : Type 0 where
+  pub memo : Memo
+  pub midway : Midway grid at chain rows memo bytes
+
 -- ---- split
 
 abbrev isEast : Axis → Bool

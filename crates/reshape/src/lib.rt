@@ -16,13 +16,13 @@ ghost use Rattle.split.specs.Split.{lowSlot, highSlot};
 ghost use Rattle.join.specs.Join.{joinedSlot};
 ghost use Rattle.cut.specs.Choice.{cutAt};
 ghost use Rattle.directory.specs.Cuts.{CutReady};
-ghost use Rattle.reshape.specs.Reshape.{Loose, movedLast, Lays, Cuttable, cutGrid, Splitting, SidesLaid, Joining, JoinedPages, Nearing, Joined, Midway, Reshapes};
+ghost use Rattle.memo.specs.Memo.{memoIn};
+ghost use Rattle.reshape.specs.Reshape.{Loose, movedLast, Lays, Cuttable, cutGrid, Splitting, SidesLaid, Joining, JoinedPages, Nearing, Joined, Midway, Underway, Reshapes};
 use cut::CutChoice;
 use cut::EAST;
 use desk::Desk;
 use desk::Directory;
 use desk::Grid;
-use desk::Memo;
 use desk::Slot;
 use entries::Entries;
 use join::Neighbour;
@@ -31,10 +31,10 @@ use page::ChainEnd;
 use settle::Settled;
 use terms::PAGE_ENTRIES;
 
-// The grid and the memo once d is settled, split or joined.
+// The grid once d is settled, split or joined, and how many lines the memo then has.
 pub struct Reshaped {
     pub grid: Grid,
-    pub memo: Memo,
+    pub lines: usize,
 }
 
 // ---- a cell goes to the end of the round
@@ -263,24 +263,24 @@ fn join(
     k: usize,
     chain: Chain,
     table: Entries,
-    memo: Memo,
+    words: &mut [u16; Desk::MEMO_WORDS],
+    lines: usize,
 ) -> Reshaped
-    requires { ⌜ (chain .n ≤ pages) × (table .n ≡ length (rowsOf table)) × Nearing grid at rest k (pagesOf chain) (rowsOf table) memo (now buffer) ⌝ }
-    ensures { λ r. ⌜ ((x : Nearing grid at rest k (pagesOf chain) (rowsOf table) memo (now (buffer .entry))) → Joined (x .midway .flushed) (x .neighbour) (r .grid) (r .memo) (now (buffer .exit))) ⌝ }
+    requires { ⌜ (chain .n ≤ pages) × (table .n ≡ length (rowsOf table)) × Nearing grid at rest k (pagesOf chain) (rowsOf table) (memoIn lines (now words)) (now buffer) ⌝ }
+    ensures { λ r. ⌜ ((x : Nearing grid at rest k (pagesOf chain) (rowsOf table) (memoIn lines (now (words .entry))) (now (buffer .entry))) → Joined (x .midway .flushed) (x .neighbour) (r .grid) (memoIn (r .lines) (now (words .exit))) (now (buffer .exit))) ⌝ }
 {
     let cells = grid.cells;
     let d = cells.slots[at];
     let m = rest.slots[k];
     let other = page_chain::read_chain(buffer, m.first);
-    let swept = sweep::sweep_chain(buffer, other, memo);
+    let swept = sweep::sweep_chain(buffer, other, words, lines);
     let stays = swept.table;
     let all = join::merged(stays, table);
     let ends = join_pages(buffer, grid.free, d, chain, m, other, all);
     let joined = joined_cells(rest, k, d, m, ends.first);
-    let lines = swept.memo;
     Reshaped {
         grid: with_cells(grid, joined, ends.free),
-        memo: lines,
+        lines: swept.lines,
     }
 }
 
@@ -293,25 +293,21 @@ fn split_or_grown(
     at: usize,
     chain: Chain,
     table: Entries,
-    memo: Memo,
-) -> Reshaped
-    requires { ⌜ (chain .n ≤ pages) × (table .n ≤ maxOn) × (pageEntries < length (rowsOf table)) × Midway grid at (pagesOf chain) (rowsOf table) memo (now buffer) ⌝ }
-    ensures { λ r. ⌜ ((x : Midway grid at (pagesOf chain) (rowsOf table) memo (now (buffer .entry))) → Reshapes (x .flushed) (r .grid) (r .memo) (now (buffer .exit))) ⌝ }
+) -> Grid
+    requires { ⌜ (chain .n ≤ pages) × (table .n ≤ maxOn) × (pageEntries < length (rowsOf table)) × Underway grid at (pagesOf chain) (rowsOf table) (now buffer) ⌝ }
+    ensures { λ r. ⌜ ((x : Underway grid at (pagesOf chain) (rowsOf table) (now (buffer .entry))) → Reshapes (x .midway .flushed) r (x .memo) (now (buffer .exit))) ⌝ }
 {
     let cells = grid.cells;
     if Desk::MAX_CELLS <= cells.n {
-        let grown = settled_last(buffer, grid, at, chain, table);
-        return Reshaped { grid: grown, memo };
+        return settled_last(buffer, grid, at, chain, table);
     }
     let d = cells.slots[at];
     let easts = grid.easts;
     let norths = grid.norths;
     let CutChoice::At(axis, cut) = cut::chosen_cut(easts, norths, d, table) else {
-        let grown = settled_last(buffer, grid, at, chain, table);
-        return Reshaped { grid: grown, memo };
+        return settled_last(buffer, grid, at, chain, table);
     };
-    let in_two = split(buffer, grid, at, chain, table, axis, cut);
-    Reshaped { grid: in_two, memo }
+    split(buffer, grid, at, chain, table, axis, cut)
 }
 
 // "after a flush that left d at most 32 entries": joined, if a cell beside it may be.
@@ -321,19 +317,20 @@ fn joined_or_grown(
     at: usize,
     chain: Chain,
     table: Entries,
-    memo: Memo,
+    words: &mut [u16; Desk::MEMO_WORDS],
+    lines: usize,
 ) -> Reshaped
-    requires { ⌜ (chain .n ≤ pages) × (table .n ≡ length (rowsOf table)) × (length (rowsOf table) ≤ pageEntries) × Midway grid at (pagesOf chain) (rowsOf table) memo (now buffer) ⌝ }
-    ensures { λ r. ⌜ ((x : Midway grid at (pagesOf chain) (rowsOf table) memo (now (buffer .entry))) → Reshapes (x .flushed) (r .grid) (r .memo) (now (buffer .exit))) ⌝ }
+    requires { ⌜ (chain .n ≤ pages) × (table .n ≡ length (rowsOf table)) × (length (rowsOf table) ≤ pageEntries) × Midway grid at (pagesOf chain) (rowsOf table) (memoIn lines (now words)) (now buffer) ⌝ }
+    ensures { λ r. ⌜ ((x : Midway grid at (pagesOf chain) (rowsOf table) (memoIn lines (now (words .entry))) (now (buffer .entry))) → Reshapes (x .flushed) (r .grid) (memoIn (r .lines) (now (words .exit))) (now (buffer .exit))) ⌝ }
 {
     let cells = grid.cells;
     let d = cells.slots[at];
     let rest = directory::taken_out(cells, at);
     let Neighbour::At(k) = join::find_neighbour(buffer, rest, d, table.n) else {
         let grown = settled_last(buffer, grid, at, chain, table);
-        return Reshaped { grid: grown, memo };
+        return Reshaped { grid: grown, lines };
     };
-    join(buffer, grid, at, rest, k, chain, table, memo)
+    join(buffer, grid, at, rest, k, chain, table, words, lines)
 }
 
 // d, with the reports in it, is split, joined, or keeps to itself; it goes to the end of the round with the pages that it needs.
@@ -343,13 +340,15 @@ pub fn reshape(
     at: usize,
     chain: Chain,
     table: Entries,
-    memo: Memo,
+    words: &mut [u16; Desk::MEMO_WORDS],
+    lines: usize,
 ) -> Reshaped
-    requires { ⌜ (chain .n ≤ pages) × (table .n ≤ maxOn) × (table .n ≡ length (rowsOf table)) × Midway grid at (pagesOf chain) (rowsOf table) memo (now buffer) ⌝ }
-    ensures { λ r. ⌜ ((x : Midway grid at (pagesOf chain) (rowsOf table) memo (now (buffer .entry))) → Reshapes (x .flushed) (r .grid) (r .memo) (now (buffer .exit))) ⌝ }
+    requires { ⌜ (chain .n ≤ pages) × (table .n ≤ maxOn) × (table .n ≡ length (rowsOf table)) × Midway grid at (pagesOf chain) (rowsOf table) (memoIn lines (now words)) (now buffer) ⌝ }
+    ensures { λ r. ⌜ ((x : Midway grid at (pagesOf chain) (rowsOf table) (memoIn lines (now (words .entry))) (now (buffer .entry))) → Reshapes (x .flushed) (r .grid) (memoIn (r .lines) (now (words .exit))) (now (buffer .exit))) ⌝ }
 {
     if PAGE_ENTRIES < table.n {
-        return split_or_grown(buffer, grid, at, chain, table, memo);
+        let shape = split_or_grown(buffer, grid, at, chain, table);
+        return Reshaped { grid: shape, lines };
     }
-    joined_or_grown(buffer, grid, at, chain, table, memo)
+    joined_or_grown(buffer, grid, at, chain, table, words, lines)
 }

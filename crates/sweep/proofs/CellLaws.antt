@@ -27,7 +27,7 @@ use Rattle.desk.specs.Layout.{lineSlots, memoOf, Laid}
 use Rattle.desk.proofs.ReadLaws.{CellRead, Paged, cells-read, pages-enough}
 use Rattle.memo.specs.Memo.{linesOf, Whole}
 use Rattle.memo.proofs.MemoLaws.{lines-are, whole-is, count-is}
-use Rattle.sweep.specs.declared.Swept.{Swept}
+use Rattle.entries.specs.declared.Entries.{Entries}
 use Rattle.sweep.specs.Sweep.{entriesOn}
 
 -- ---- lists
@@ -104,8 +104,8 @@ module _ {b : List ℕ} {memo : Rows Line} {c : Cell} (cell : Sweepable b memo c
     rw (on-chain, lines-are memo held) (cell .room),
   )
 
-  pub cell-gives : (r : Swept)
-      → (rowsOf (r .table) ≡ sweptEntries (linesOf m) (entriesOn b (pagesOf chain))) × (r .table .n ≡ length (sweptEntries (linesOf m) (entriesOn b (pagesOf chain)))) × (r .memo ≡ memoOf (sweptMemo (linesOf m) (entriesOn b (pagesOf chain))))
-      → (rowsOf (r .table) ≡ swept memo c .entries) × (r .table .n ≡ length (swept memo c .entries)) × (r .memo ≡ memoOf (sweptMemo memo (c .entries)))
+  pub cell-gives : (table : Entries) {after : Memo}
+      → (rowsOf table ≡ sweptEntries (linesOf m) (entriesOn b (pagesOf chain))) × (table .n ≡ length (sweptEntries (linesOf m) (entriesOn b (pagesOf chain)))) × (after ≡ memoOf (sweptMemo (linesOf m) (entriesOn b (pagesOf chain))))
+      → (rowsOf table ≡ swept memo c .entries) × (table .n ≡ length (swept memo c .entries)) × (after ≡ memoOf (sweptMemo memo (c .entries)))
   unfolding swept
-  cell-gives r = rw (on-chain, lines-are memo held) (λ g. g)
+  cell-gives table = rw (on-chain, lines-are memo held) (λ g. g)

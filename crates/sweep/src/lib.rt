@@ -12,11 +12,10 @@ ghost use Rattle.page.specs.Page.{entries};
 ghost use Rattle.page.specs.Buffer.{pageAt, there, pagesOf};
 ghost use Rattle.rules.specs.Sweep.{isAt, sweptEntries, sweptMemo};
 ghost use Rattle.desk.specs.Layout.{lineSlots, lineFields, memoOf};
-ghost use Rattle.memo.specs.Memo.{rowOf, linesOf, Plain, Whole};
+ghost use Rattle.memo.specs.Memo.{rowOf, memoIn, linesOf, Plain, Whole};
 ghost use Rattle.sweep.specs.Sweep.{entriesOn, linePlaces, radiosIn, lastAt, lastsIn, lastsOf, isStale, stay, slotAfter, Ready, Sweeps, SweepsAll, lowerIf, lineIf, lowerWhere, markOf};
 use desk::Desk;
 use desk::Line;
-use desk::Memo;
 use entries::Entries;
 use entries::Entry;
 use page::Chain;
@@ -29,10 +28,10 @@ const PLACES: usize = LINES + 1;
 
 const UNPLACED: u16 = 0;
 
-// What stays of the entries read, and the memo then.
+// What stays of the entries read, and how many lines the memo then has.
 pub struct Swept {
     pub table: Entries,
-    pub memo: Memo,
+    pub lines: usize,
 }
 
 // ---- the memo's lines in tables
@@ -237,39 +236,48 @@ fn line_stays(x: Line, mark: bool) -> bool
     1 < x.missed
 }
 
-// Each marked line has one miss less; those that stay, one after the other.
-fn lowered<'a>(memo: Memo, marks: &'a [bool; PLACES]) -> Memo
-    requires { ⌜ Whole memo × (memo .n ≤ lineSlots) × Rising 0 (linesOf memo) ⌝ }
-    ensures { λ r. ⌜ r ≡ memoOf (lowerWhere (markOf (now (marks .entry)) (linesOf memo)) (linesOf memo)) ⌝ }
+// Each marked line has one miss less; those that stay, one after the other, in an array of their own, which then takes the memo's place. How many they are.
+fn lowered<'a>(
+    words: &'a mut [u16; Desk::MEMO_WORDS],
+    n: usize,
+    marks: &'a [bool; PLACES],
+) -> usize
+    requires { ⌜ Whole (memoIn n (now words)) × (n ≤ lineSlots) × Rising 0 (linesOf (memoIn n (now words))) ⌝ }
+    ensures { λ r. ⌜ memoIn r (now (words .exit)) ≡ memoOf (lowerWhere (markOf (now (marks .entry)) (linesOf (memoIn n (now (words .entry))))) (linesOf (memoIn n (now (words .entry))))) ⌝ }
 {
-    let n = memo.n;
-    let mut words = [0u16; Desk::MEMO_WORDS];
+    let mut left = [0u16; Desk::MEMO_WORDS];
     let mut k: usize = 0;
     let mut i: usize = 0;
     while i < n {
-        let x = desk::line_at(&memo.words, i);
+        let x = desk::line_at(words, i);
         let mark = marks[i];
-        desk::put_line(&mut words, k, lowered_line(x, mark));
+        desk::put_line(&mut left, k, lowered_line(x, mark));
         k = k + one_if(line_stays(x, mark));
         i += 1;
     }
-    Memo { n: k, words }
+    *words = left;
+    k
 }
 
 // ---- a chain
 
 // "remove each entry whose radio has a memo line with another place or none; lower the missed count by 1; drop the line at 0": the entries on the pages of a chain.
-pub fn sweep_chain(buffer: &[u8], chain: Chain, memo: Memo) -> Swept
-    requires { ⌜ (chain .n ≤ pages) × Each (λ p. there (now buffer) p ≡ true) (pagesOf chain) × Rising 0 (entriesOn (now buffer) (pagesOf chain)) × Whole memo × (memo .n ≤ lineSlots) × Rising 0 (linesOf memo) × (length (sweptEntries (linesOf memo) (entriesOn (now buffer) (pagesOf chain))) ≤ maxOn) ⌝ }
-    ensures { λ r. ⌜ (rowsOf (r .table) ≡ sweptEntries (linesOf memo) (entriesOn (now (buffer .entry)) (pagesOf chain))) × (r .table .n ≡ length (sweptEntries (linesOf memo) (entriesOn (now (buffer .entry)) (pagesOf chain)))) × (r .memo ≡ memoOf (sweptMemo (linesOf memo) (entriesOn (now (buffer .entry)) (pagesOf chain)))) ⌝ }
+pub fn sweep_chain<'a>(
+    buffer: &'a [u8],
+    chain: Chain,
+    words: &'a mut [u16; Desk::MEMO_WORDS],
+    n: usize,
+) -> Swept
+    requires { ⌜ (chain .n ≤ pages) × Each (λ p. there (now buffer) p ≡ true) (pagesOf chain) × Rising 0 (entriesOn (now buffer) (pagesOf chain)) × Whole (memoIn n (now words)) × (n ≤ lineSlots) × Rising 0 (linesOf (memoIn n (now words))) × (length (sweptEntries (linesOf (memoIn n (now words))) (entriesOn (now buffer) (pagesOf chain))) ≤ maxOn) ⌝ }
+    ensures { λ r. ⌜ (rowsOf (r .table) ≡ sweptEntries (linesOf (memoIn n (now (words .entry)))) (entriesOn (now (buffer .entry)) (pagesOf chain))) × (r .table .n ≡ length (sweptEntries (linesOf (memoIn n (now (words .entry)))) (entriesOn (now (buffer .entry)) (pagesOf chain)))) × (memoIn (r .lines) (now (words .exit)) ≡ memoOf (sweptMemo (linesOf (memoIn n (now (words .entry)))) (entriesOn (now (buffer .entry)) (pagesOf chain)))) ⌝ }
 {
     let mut radios = [0u16; PLACES];
     let mut placed = [0u16; PLACES];
     let mut easts = [0u16; PLACES];
     let mut norths = [0u16; PLACES];
     read_lines(
-        &memo.words,
-        memo.n,
+        words,
+        n,
         &mut radios,
         &mut placed,
         &mut easts,
@@ -279,7 +287,7 @@ pub fn sweep_chain(buffer: &[u8], chain: Chain, memo: Memo) -> Swept
     let table = sweep_pages(
         buffer,
         chain,
-        memo.n,
+        n,
         &radios,
         &placed,
         &easts,
@@ -288,6 +296,6 @@ pub fn sweep_chain(buffer: &[u8], chain: Chain, memo: Memo) -> Swept
     );
     Swept {
         table,
-        memo: lowered(memo, &marks),
+        lines: lowered(words, n, &marks),
     }
 }

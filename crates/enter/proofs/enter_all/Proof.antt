@@ -2,16 +2,16 @@
 use Prim.Native.Nat.{_-_, _≤_}
 use borrow.Author.Needs.{needs}
 use Rattle.lists.proofs.ShiftLaws.{length-mapped}
-use Rattle.enter.specs.Enter.{sweptIn}
+use Rattle.enter.specs.Enter.{heldIn}
 use Rattle.enter.proofs.EnterLaws.{Entering, entering-start, entering-ready, entering-turn, entering-end}
 use Rattle.enter.proofs.enter_all.Statement.{statement}
 use Rattle.enter.proofs.enter_all.Tie as tie
 
 abbrev Inv-loop : tie.InvT-loop
-Inv-loop reports n words₀ lines₀ table₀ i₀ words lines table i = (i ≤ n) × Entering reports (sweptIn table₀ lines₀ words₀) i (sweptIn table lines words)
+Inv-loop words₀ lines reports n all₀ notes₀ i₀ words all notes i = (i ≤ n) × Entering reports (heldIn all₀ notes₀ words₀) i (heldIn all notes words)
 
 abbrev μ-loop : tie.MeasureT-loop
-μ-loop reports n words₀ lines₀ table₀ i₀ words lines table i = n - i
+μ-loop words₀ lines reports n all₀ notes₀ i₀ words all notes i = n - i
 
 gathered-requires : tie.Need-gathered-requires Inv-loop μ-loop
 gathered-requires c κs = search needs

@@ -21,22 +21,22 @@ entered-requires c κs = search homed
 reshape-requires : tie.Need-reshape-requires
 reshape-requires c κs =
     let d = c .before .before .before .before in
-    let k = d .before .before .before in
+    let k = d .before .before .before .before in
     let e = k .before .before .before .before in
-    reshape-asks (e .args .m) (homed (e .pre .0) (e .args .m) (k .before .before .home-of .ensures) (k .at .given .1)) _ (d .entered .ensures)
+    reshape-asks (e .args .m) (homed (e .pre .0) (e .args .m) (k .before .before .home-of .ensures) (k .at .given .1)) _ _ (d .entered .ensures)
 
 cleared-requires : tie.Need-cleared-requires
-cleared-requires c κs = clear-asks (c .before .before .before .before .before .before .before .before .before .before .before .before .before .before .before .before .pre .0)
+cleared-requires c κs = clear-asks (c .before .before .before .before .before .before .before .before .before .before .before .before .before .before .before .before .before .pre .0)
 
 same-length : tie.Need-same-length
 same-length c = search needs
 
 returns-2 : tie.Need-returns-2
 returns-2 c =
-    let h = c .before .before .before .before .before .before .before in
+    let h = c .before .before .before .before .before .before in
     let d = h .before .before .before .before .before in
-    let k = d .before .before .before in
-    λ x. flush-returns x (k .before .before .before .before .args .m) (k .before .before .home-of .ensures) (k .at .given .1) _ (d .entered .ensures) (h .reshape .ensures) (c .before .before .cleared .ensures)
+    let k = d .before .before .before .before in
+    λ x. flush-returns x (k .before .before .before .before .args .m) (k .before .before .home-of .ensures) (k .at .given .1) _ _ (d .entered .ensures) (h .reshape .ensures) (c .before .cleared .ensures)
 
 pub flush-spec : {M : Type 1} → statement M
 flush-spec =

@@ -9,16 +9,16 @@ swept-at-requires c κs = search front-place
 
 settled-last-requires : tie.Need-settled-last-requires
 settled-last-requires c κs =
-    let d = c .before .before .before .before in
-    front-asks (d .before .before .before .pre) _ (d .swept-at .ensures)
+    let d = c .before .before .before in
+    front-asks (d .before .before .before .before .pre) _ _ (d .swept-at .ensures)
 
 same-length : tie.Need-same-length
 same-length c = search needs
 
 returns : tie.Need-returns
 returns c =
-    let d = c .before .before .before .before .before .before .before in
-    (refl, λ x. front-holds x _ (d .swept-at .ensures) (c .before .before .settled-last .ensures))
+    let d = c .before .before .before .before .before .before in
+    (refl, λ x. front-holds x _ _ (d .swept-at .ensures) (c .before .before .settled-last .ensures))
 
 pub sweep-front-spec : {M : Type 1} → statement M
 sweep-front-spec = tie.close (tie.spec swept-at-requires settled-last-requires same-length returns)

@@ -6,14 +6,6 @@ use Rattle.entries.specs.Entries.{rowsOf}
 use Rattle.reshape.proofs.NearLaws.{near-d, near-m, near-asks, near-merges, near-fits, near-joins, near-puts, near-returns}
 use Rattle.reshape.proofs.join.Statement.{statement}
 use Rattle.reshape.proofs.join.Tie as tie
-use Rattle.reshape.proofs.join.Reads as reads
-use Rattle.reshape.proofs.join.Lts as lts
-use Rattle.join.proofs.merged.Reads as merged-reads
-use Rattle.page_chain.proofs.read_chain.Reads as read-chain-reads
-use Rattle.reshape.proofs.join_pages.Reads as join-pages-reads
-use Rattle.reshape.proofs.joined_cells.Reads as joined-cells-reads
-use Rattle.reshape.proofs.with_cells.Reads as with-cells-reads
-use Rattle.sweep.proofs.sweep_chain.Reads as sweep-chain-reads
 
 mul-d : tie.Need-mul-d
 mul-d c = let h = near-d (c .before .before .pre .2) in omega arith
@@ -32,32 +24,32 @@ read-chain-requires c κs = search needs
 
 sweep-chain-requires : tie.Need-sweep-chain-requires
 sweep-chain-requires c κs =
-    let o = c .before in
+    let o = c .before .before in
     let e = o .before .before .before .before .before .before in
     near-asks (e .pre .2) (o .read-chain .result) (o .read-chain .ensures .0) (o .read-chain .ensures .2)
 
 merged-requires : tie.Need-merged-requires
 merged-requires c κs =
     let w = c .before in
-    let o = w .before .before in
+    let o = w .before .before .before in
     let e = o .before .before .before .before .before .before in
-    near-merges (e .pre .2) (o .read-chain .result) (o .read-chain .ensures .0) (w .sweep-chain .result) (w .sweep-chain .ensures) (e .args .table) (e .pre .1) refl
+    near-merges (e .pre .2) (o .read-chain .result) (o .read-chain .ensures .0) (w .sweep-chain .result .table) (w .sweep-chain .ensures) (e .args .table) (e .pre .1) refl
 
 join-pages-requires : tie.Need-join-pages-requires
 join-pages-requires c κs =
     let a = c .before in
     let w = a .before .before in
-    let o = w .before .before in
+    let o = w .before .before .before in
     let e = o .before .before .before .before .before .before in
-    let n = near-fits (e .pre .2) (o .read-chain .result) (o .read-chain .ensures .0) (w .sweep-chain .result) (w .sweep-chain .ensures) (rowsOf (a .merged .result)) (a .merged .ensures .0) in (
+    let n = near-fits (e .pre .2) (o .read-chain .result) (o .read-chain .ensures .0) (w .sweep-chain .result .table) (w .sweep-chain .ensures) (rowsOf (a .merged .result)) (a .merged .ensures .0) in (
       e .pre .0,
       o .read-chain .ensures .2,
       omega (arith, n, a .merged .ensures .1, ap length (a .merged .ensures .0)),
-      near-joins (e .pre .2) (o .read-chain .result) (o .read-chain .ensures .0) (w .sweep-chain .result) (w .sweep-chain .ensures) (rowsOf (a .merged .result)) (a .merged .ensures .0),
+      near-joins (e .pre .2) (o .read-chain .result) (o .read-chain .ensures .0) (w .sweep-chain .result .table) (w .sweep-chain .ensures) (rowsOf (a .merged .result)) (a .merged .ensures .0),
     )
 
 joined-cells-requires : tie.Need-joined-cells-requires
-joined-cells-requires c κs = near-puts (c .before .before .before .before .before .before .before .before .before .before .before .before .before .before .pre .2)
+joined-cells-requires c κs = near-puts (c .before .before .before .before .before .before .before .before .before .before .before .before .before .before .before .pre .2)
 
 with-cells-requires : tie.Need-with-cells-requires
 with-cells-requires c κs = search needs
@@ -67,13 +59,13 @@ same-length c = search needs
 
 returns : tie.Need-returns
 returns c = λ x.
-    let j = c .before .before in
+    let j = c .before in
     let p = j .before .before .before in
     let a = p .before .before in
     let w = a .before .before in
-    let o = w .before .before in
-    let b = near-joins x (o .read-chain .result) (o .read-chain .ensures .0) (w .sweep-chain .result) (w .sweep-chain .ensures) (rowsOf (a .merged .result)) (a .merged .ensures .0) in
-    near-returns x (o .read-chain .result) (o .read-chain .ensures .0) (w .sweep-chain .result) (w .sweep-chain .ensures) (p .join-pages .ensures b) (j .joined-cells .ensures) (c .with-cells .ensures)
+    let o = w .before .before .before in
+    let b = near-joins x (o .read-chain .result) (o .read-chain .ensures .0) (w .sweep-chain .result .table) (w .sweep-chain .ensures) (rowsOf (a .merged .result)) (a .merged .ensures .0) in
+    near-returns x (o .read-chain .result) (o .read-chain .ensures .0) (w .sweep-chain .result .table) (w .sweep-chain .ensures) (p .join-pages .ensures b) (j .joined-cells .ensures) (c .with-cells .ensures)
 
 pub join-spec : {M : Type 1} → statement M
 join-spec =

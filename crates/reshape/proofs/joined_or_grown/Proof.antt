@@ -5,12 +5,6 @@ use Rattle.reshape.proofs.SplitLaws.{midway-loose}
 use Rattle.reshape.proofs.WholeLaws.{midway-in, lone-asks, lone-returns, nears, near-returns}
 use Rattle.reshape.proofs.joined_or_grown.Statement.{statement}
 use Rattle.reshape.proofs.joined_or_grown.Tie as tie
-use Rattle.reshape.proofs.joined_or_grown.Reads as reads
-use Rattle.reshape.proofs.joined_or_grown.Lts as lts
-use Rattle.directory.proofs.taken_out.Reads as taken-out-reads
-use Rattle.join.proofs.find_neighbour.Reads as find-neighbour-reads
-use Rattle.reshape.proofs.join.Reads as join-reads
-use Rattle.reshape.proofs.settled_last.Reads as settled-last-reads
 
 mul-d : tie.Need-mul-d
 mul-d c = let h = midway-in (c .before .before .pre .3) in omega arith
@@ -40,7 +34,7 @@ returns : tie.Need-returns
 returns c = λ x. search (lone-returns x)
 
 join-requires : tie.Need-join-requires
-join-requires c κs = let e = c .before .before .before .before .before .before .before .before .before .before in (e .pre .0, e .pre .1, search (nears (e .pre .3)))
+join-requires c κs = let e = c .before .before .before .before .before .before .before .before .before .before .before in (e .pre .0, e .pre .1, search (nears (e .pre .3)))
 
 same-length-2 : tie.Need-same-length-2
 same-length-2 c = search needs
@@ -48,10 +42,10 @@ same-length-2 c = search needs
 returns-2 : tie.Need-returns-2
 returns-2 c = λ x.
     let j = c .before .before in
-    let n = j .before .before .before .before .before in
+    let n = j .before .before .before .before .before .before in
     let t = n .before .before in
     let e = t .before .before .before .before in
-    near-returns x (t .taken-out .ensures) (e .pre .1) (e .pre .2) (n .find-neighbour .ensures) _ (search (needs, j .before .before .before .k, j .before .before .before .before .match)) (j .join .ensures)
+    near-returns x (t .taken-out .ensures) (e .pre .1) (e .pre .2) (n .find-neighbour .ensures) _ (search (needs, j .before .before .before .before .k, j .before .before .before .before .before .match)) (j .join .ensures)
 
 pub joined-or-grown-spec : {M : Type 1} → statement M
 joined-or-grown-spec =

@@ -1,27 +1,29 @@
 -- Those of the first i lines that stay are in the slots, and every other slot is unused (`Lowering`).
 use Prim.Native.Nat.{_-_, _≤_}
 use borrow.Author.Needs.{needs}
+use Rattle.memo.specs.Memo.{memoIn}
+use Rattle.memo.proofs.MemoLaws.{whole-size}
 use Rattle.sweep.proofs.LowerLaws.{Lowering, lower-start, line-plain, lower-turn, lower-end}
 use Rattle.sweep.proofs.lowered.Statement.{statement}
 use Rattle.sweep.proofs.lowered.Tie as tie
 
 abbrev Inv-loop : tie.InvT-loop
-Inv-loop marks memo n words₀ k₀ i₀ words k i = (k ≤ i) × (i ≤ n) × Lowering marks memo i k words
+Inv-loop words n marks left₀ k₀ i₀ left k i = (k ≤ i) × (i ≤ n) × Lowering marks (memoIn n words) i k left
 
 abbrev μ-loop : tie.MeasureT-loop
-μ-loop marks memo n words₀ k₀ i₀ words k i = n - i
+μ-loop words n marks left₀ k₀ i₀ left k i = n - i
 
 loop-holds : tie.Need-loop-holds Inv-loop μ-loop
 loop-holds c = (search needs, search needs, lower-start _ _)
 
 line-at-requires : tie.Need-line-at-requires Inv-loop μ-loop
-line-at-requires c κs = search needs
+line-at-requires c κs = let s = c .before .before .before in (search needs, whole-size (s .pre .0) (s .pre .1))
 
 element-copy-out-mark : tie.Need-element-copy-out-mark Inv-loop μ-loop
 element-copy-out-mark c = search needs
 
 lowered-line-requires : tie.Need-lowered-line-requires Inv-loop μ-loop
-lowered-line-requires c κs = search line-plain
+lowered-line-requires c κs = line-plain _ (c .before .before .before .before .before .before .pre .0) (c .before .before .line-at .ensures) (c .before .before .before .before .loop-test .taken)
 
 put-line-requires : tie.Need-put-line-requires Inv-loop μ-loop
 put-line-requires c κs = search needs
