@@ -2,7 +2,7 @@
 use mathlib.Core.Bool.{true, false, cond}
 use mathlib.Core.List.{List}
 use mathlib.Core.Option.{Option, none, some}
-use mathlib.Core.Path.{_≡_, refl, sym, subst}
+use mathlib.Core.Path.{_≡_, refl}
 use Prim.Native.Nat.{ℕ, _+_, _≤_, _<_}
 use lib.ListN.{length}
 use Rattle.terms.specs.Terms.{Place}
@@ -12,19 +12,20 @@ use Rattle.rules.specs.Grid.{Box, sameBox, boxOf}
 use Rattle.rules.specs.Store.{Report, Store}
 use Rattle.rules.specs.Sweep.{tick}
 use Rattle.rules.specs.Flush.{raised}
-use Rattle.rules.specs.Records.{Request, signOn, report, signOff}
+use Rattle.rules.specs.Records.{signOn, report, signOff}
 use Rattle.rules.specs.Carry.{wasNew, signedOn, reported, signedOff, waitingIn, allowedIn, carriedOut}
 use Rattle.rules.proofs.FlushLaws.{Staged}
 use Rattle.rules.proofs.StepLaws.{put-few, put-boxes, put-bounded, on-core, report-core, off-done}
 use Rattle.rules.specs.WellFormed.{WellFormed}
 use Rattle.desk.specs.declared.Waiting.{Waiting}
+use Rattle.desk.specs.declared.Memo.{Memo}
+use Rattle.desk.specs.declared.On.{On}
 use Rattle.desk.specs.declared.Desk.{Desk}
 use Rattle.desk.specs.Layout.{waitingOf, memoOf, onOf}
 use Rattle.desk.specs.Views.{radiosOf}
 use Rattle.memo.specs.Memo.{linesOf}
 use Rattle.waiting.specs.Waiting.{reportsOf}
 use Rattle.own.specs.declared.SignedOn.{SignedOn}
-use Rattle.own.specs.declared.SignedOff.{SignedOff}
 use Rattle.own.proofs.StoreLaws.{on-gives, report-gives, off-gives, on-laid, report-laid, off-laid}
 use Rattle.records.proofs.AskedLaws.{SignsOn, Reports}
 use Rattle.effects.specs.Effects.{Stands, Effected, Followed, Left, AskedOn, AskedReport, AskedOff, Carries}
@@ -64,18 +65,6 @@ report-put s w r p x =
 put-effect : {desk : Desk} {p : Place} {b : List ℕ} (s : Store) → Put s p → Stands s desk b → Effected desk p b
 put-effect s x h = record { store = s; early = x .early; staged = x .staged; few = x .few; others-few = x .others-few; stands = h }
 
--- ---- the desk put together, and in its parts again
-
--- what is told of a desk is told of one that is the same
-pub same-followed : {v w d : Desk} {p : Place} {b b′ : List ℕ} → w ≡ v → ((y : Effected w p b) → Followed (y .store) p d b′) → (y : Effected v p b) → Followed (y .store) p d b′
-same-followed {d = d} {p = p} {b = b} {b′ = b′} e = subst (λ (z : Desk). (y : Effected z p b) → Followed (y .store) p d b′) e
-
-pub same-effect : {v w : Desk} {p : Place} {b : List ℕ} → w ≡ v → Effected v p b → Effected w p b
-same-effect {p = p} {b = b} e = subst (λ (z : Desk). Effected z p b) (sym e)
-
-pub same-carries : {d d′ : Desk} {s : Store} {q : Request} {b : List ℕ} → d′ ≡ d → Carries s q d b → Carries s q d′ b
-same-carries {s = s} {q = q} {b = b} e = subst (λ (z : Desk). Carries s q z b) (sym e)
-
 -- ---- sign-on
 
 module _ {desk : Desk} {r : ℕ} {p : Place} {b : List ℕ} (x : AskedOn desk r p b) where
@@ -114,14 +103,12 @@ module _ {desk : Desk} {r : ℕ} {p : Place} {b : List ℕ} (x : AskedReport des
 -- ---- sign-off
 
 module _ {desk : Desk} {r : ℕ} {b : List ℕ} (x : AskedOff desk r b) where
-  module _ (o : SignedOff)
-      (own : o ≡ record {
-        waiting = waitingOf (alter (λ _. none) r (reportsOf (desk .waiting)));
-        memo = memoOf (cond (wasNew (find (reportsOf (desk .waiting)) r)) (linesOf (desk .memo)) (alter (raised none) r (linesOf (desk .memo))));
-        on = onOf (alter (λ _. none) r (radiosOf (desk .on)));
-      }) where
+  module _ {waiting : Waiting} {memo : Memo} {on : On}
+      (own : (waiting ≡ waitingOf (alter (λ _. none) r (reportsOf (desk .waiting))))
+      × (memo ≡ memoOf (cond (wasNew (find (reportsOf (desk .waiting)) r)) (linesOf (desk .memo)) (alter (raised none) r (linesOf (desk .memo)))))
+      × (on ≡ onOf (alter (λ _. none) r (radiosOf (desk .on))))) where
     abbrev signed-off : Desk
-    signed-off = record { grid = desk .grid; waiting = o .waiting; memo = o .memo; on = o .on; tally = desk .tally }
+    signed-off = record { grid = desk .grid; waiting = waiting; memo = memo; on = on; tally = desk .tally }
 
     early : signedOff r (x .sound .store) .tally < sweepEvery
     unfolding signedOff
@@ -132,7 +119,7 @@ module _ {desk : Desk} {r : ℕ} {b : List ℕ} (x : AskedOff desk r b) where
       store = signedOff r (x .sound .store);
       early = early;
       done = off-done (x .sound .store) (x .sound .well) r (x .signs .first) (x .signs .last) (x .signs .on);
-      stands = record { held = off-gives (x .sound .store) desk (x .sound .held) r o own; laid = off-laid (x .sound .store) b (x .sound .laid) r };
+      stands = record { held = off-gives (x .sound .store) desk (x .sound .held) r own; laid = off-laid (x .sound .store) b (x .sound .laid) r };
     }
 
     pub off-carries : {d : Desk} {b′ : List ℕ} → ((y : Left signed-off b) → Stands (tick (y .store)) d b′) → Carries (x .sound .store) (signOff r) d b′

@@ -1,71 +1,60 @@
-// A sign-on, a report and a sign-off on a sound store: its own effect, and what follows. The desk comes in its parts, with the memo's array lent; where more follows than
-// that a report waits and is counted, it is put together and handed on by value.
-ghost use mathlib.Core.Path.{_≡_};
+// A sign-on, a report and a sign-off on a sound store: its own effect, and what follows. The desk comes in its parts, with the memo's array and the pages lent.
 ghost use Rattle.rules.specs.Sweep.{tick};
 ghost use Rattle.rules.specs.Records.{signOn, report, signOff};
 ghost use Rattle.desk.specs.Views.{deskWith};
 ghost use Rattle.effects.specs.Effects.{Stands, Effected, Followed, Left, AskedOn, AskedReport, AskedOff, Carries};
 use desk::Desk;
-use desk::Memo;
 use desk::Parts;
 
 // ---- what follows a record's own effect
 
 // The desk with what the tally changes.
-fn ticked(desk: Desk, pages: &mut [u8]) -> Desk
-    requires { ⌜ Left desk (now pages) ⌝ }
-    ensures { λ r. ⌜ ((x : Left desk (now (pages .entry))) → Stands (tick (x .store)) r (now (pages .exit))) ⌝ }
+fn ticked(parts: Parts, words: &mut [u16; Desk::MEMO_WORDS], pages: &mut [u8]) -> Parts
+    requires { ⌜ Left (deskWith parts (now words)) (now pages) ⌝ }
+    ensures { λ r. ⌜ ((x : Left (deskWith parts (now (words .entry))) (now (pages .entry))) → Stands (tick (x .store)) (deskWith r (now (words .exit))) (now (pages .exit))) ⌝ }
 {
-    let grid = desk.grid;
-    let waiting = desk.waiting;
-    let memo = desk.memo;
-    let on = desk.on;
-    let done = flush::tick(pages, grid, memo, desk.tally);
+    let grid = parts.grid;
+    let waiting = parts.waiting;
+    let on = parts.on;
+    let done = flush::tick(pages, grid, words, parts.lines, parts.tally);
     let shape = done.grid;
-    let lines = done.memo;
-    Desk {
+    Parts {
         grid: shape,
         waiting,
-        memo: lines,
+        lines: done.lines,
         on,
         tally: done.tally,
     }
 }
 
 // "After sign-on or report": the memory cell that is due is flushed, and the record is counted.
-fn followed(desk: Desk, pages: &mut [u8], east: u16, north: u16) -> Desk
-    requires { ⌜ Effected desk (record { east = east; north = north }) (now pages) ⌝ }
-    ensures { λ r. ⌜ ((x : Effected desk (record { east = east; north = north }) (now (pages .entry))) → Followed (x .store) (record { east = east; north = north }) r (now (pages .exit))) ⌝ }
+fn followed(
+    parts: Parts,
+    words: &mut [u16; Desk::MEMO_WORDS],
+    pages: &mut [u8],
+    east: u16,
+    north: u16,
+) -> Parts
+    requires { ⌜ Effected (deskWith parts (now words)) (record { east = east; north = north }) (now pages) ⌝ }
+    ensures { λ r. ⌜ ((x : Effected (deskWith parts (now (words .entry))) (record { east = east; north = north }) (now (pages .entry))) → Followed (x .store) (record { east = east; north = north }) (deskWith r (now (words .exit))) (now (pages .exit))) ⌝ }
 {
-    let grid = desk.grid;
-    let waiting = desk.waiting;
-    let memo = desk.memo;
-    let on = desk.on;
-    let after = flush::after_report(pages, grid, waiting, memo, east, north);
+    let grid = parts.grid;
+    let waiting = parts.waiting;
+    let on = parts.on;
+    let after = flush::after_report(pages, grid, waiting, words, parts.lines, east, north);
     let shape = after.grid;
     let left = after.waiting;
-    let lines = after.memo;
-    let flushed = Desk {
+    let flushed = Parts {
         grid: shape,
         waiting: left,
-        memo: lines,
+        lines: after.lines,
         on,
-        tally: desk.tally,
+        tally: parts.tally,
     };
-    ticked(flushed, pages)
+    ticked(flushed, words, pages)
 }
 
 // ---- the records
-
-// The desk in its parts again: the memo's array goes to where it is lent.
-fn parted(desk: Desk, words: &mut [u16; Desk::MEMO_WORDS]) -> Parts
-    ensures { λ r. ⌜ deskWith r (now (words .exit)) ≡ desk ⌝ }
-{
-    let memo = desk.memo;
-    let lines = memo.words;
-    *words = lines;
-    desk.parts()
-}
 
 // "Sign-on puts a report marked new among the waiting."
 pub fn sign_on(
@@ -92,12 +81,11 @@ pub fn sign_on(
         on: radios,
         tally: parts.tally,
     };
-    let done = followed(signed.whole(words), pages, east, north);
-    parted(done, words)
+    followed(signed, words, pages, east, north)
 }
 
-// "Report replaces a waiting report of that radio, keeping its mark new; otherwise it waits unmarked." After most reports nothing more is due: these are counted, and nothing is
-// put together.
+// "Report replaces a waiting report of that radio, keeping its mark new; otherwise it waits unmarked." After most reports nothing more is due: these are counted, and the
+// parts are handed to no further function, for each that takes them copies them.
 pub fn reported(
     parts: Parts,
     words: &mut [u16; Desk::MEMO_WORDS],
@@ -132,8 +120,7 @@ pub fn reported(
         on,
         tally,
     };
-    let done = followed(told.whole(words), pages, east, north);
-    parted(done, words)
+    followed(told, words, pages, east, north)
 }
 
 // "Sign-off discards a waiting report."
@@ -149,22 +136,15 @@ pub fn sign_off(
     let grid = parts.grid;
     let waiting = parts.waiting;
     let on = parts.on;
-    let before = *words;
-    let memo = Memo {
-        n: parts.lines,
-        words: before,
-    };
-    let own = own::signed_off(waiting, memo, on, radio);
+    let own = own::signed_off(waiting, words, parts.lines, on, radio);
     let reports = own.waiting;
-    let lines = own.memo;
     let radios = own.on;
-    let left = Desk {
+    let left = Parts {
         grid,
         waiting: reports,
-        memo: lines,
+        lines: own.lines,
         on: radios,
         tally: parts.tally,
     };
-    let done = ticked(left, pages);
-    parted(done, words)
+    ticked(left, words, pages)
 }

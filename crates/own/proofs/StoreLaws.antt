@@ -29,7 +29,6 @@ use Rattle.waiting.proofs.WaitingLaws.{reports-laid, whole-laid, count-laid}
 use Rattle.waiting.proofs.OnLaws.{radios-laid, whole-on-laid, count-on-laid}
 use Rattle.sweep.proofs.CellLaws.{well-memo}
 use Rattle.own.specs.declared.SignedOn.{SignedOn}
-use Rattle.own.specs.declared.SignedOff.{SignedOff}
 
 -- ---- room in the memo
 
@@ -127,12 +126,12 @@ module _ (s : Store) (d : Desk) (held : d ≡ deskOf s) where
           ∙ rw (reports-laid waiting-held) (ap₂ (λ (m : Memo) (o : On). withParts (waitingOf (alter keeping r (s .waiting))) m o) memo-held on-held)
           ∙ given (alter keeping r (s .waiting)) (s .memo) (s .on)
 
-    pub off-gives : (o : SignedOff)
-        → o ≡ record { waiting = waitingOf (alter (λ _. none) r (reportsOf (d .waiting))); memo = memoOf (cond (wasNew (find (reportsOf (d .waiting)) r)) (linesOf (d .memo)) (alter (raised none) r (linesOf (d .memo)))); on = onOf (alter (λ _. none) r (radiosOf (d .on))) }
-        → record { grid = d .grid; waiting = o .waiting; memo = o .memo; on = o .on; tally = d .tally } ≡ deskOf (signedOff r s)
+    pub off-gives : {waiting : Waiting} {memo : Memo} {on : On}
+        → (waiting ≡ waitingOf (alter (λ _. none) r (reportsOf (d .waiting)))) × (memo ≡ memoOf (cond (wasNew (find (reportsOf (d .waiting)) r)) (linesOf (d .memo)) (alter (raised none) r (linesOf (d .memo))))) × (on ≡ onOf (alter (λ _. none) r (radiosOf (d .on))))
+        → record { grid = d .grid; waiting = waiting; memo = memo; on = on; tally = d .tally } ≡ deskOf (signedOff r s)
     unfolding signedOff
-    off-gives o said =
-        ap (λ (x : SignedOff). withParts (x .waiting) (x .memo) (x .on)) said
+    off-gives said =
+        (λ i. withParts (said .0 i) (said .1 i) (said .2 i))
         ∙ rw (reports-laid waiting-held, radios-laid on-held, lines-are (s .memo) memo-held)
         (given (alter (λ _. none) r (s .waiting)) (cond (wasNew (find (s .waiting) r)) (s .memo) (alter (raised none) r (s .memo))) (alter (λ _. none) r (s .on)))
 

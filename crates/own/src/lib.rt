@@ -1,4 +1,4 @@
-// A record's own effect on the parts of the desk, before any flush: what waits, who is on, and the memo. By value.
+// A record's own effect on the parts of the desk, before any flush: what waits, who is on, and the memo, whose array is lent.
 ghost use mathlib.Core.Bool.{true, cond};
 ghost use mathlib.Core.Option.{none, some};
 ghost use mathlib.Core.Path.{_≡_};
@@ -11,10 +11,10 @@ ghost use Rattle.rules.specs.Carry.{wasNew};
 ghost use Rattle.rules.proofs.Parts.{missedOf};
 ghost use Rattle.desk.specs.Layout.{lineSlots, waitingOf, memoOf, onOf};
 ghost use Rattle.desk.specs.Views.{radiosOf};
-ghost use Rattle.memo.specs.Memo.{linesOf, Whole, mostMissed};
+ghost use Rattle.memo.specs.Memo.{memoIn, linesOf, Whole, mostMissed};
 ghost use Rattle.waiting.specs.Waiting.{reportsOf, WholeWaiting};
 ghost use Rattle.waiting.specs.On.{WholeOn};
-use desk::Memo;
+use desk::Desk;
 use desk::On;
 use desk::Waiting;
 use waiting::Waited;
@@ -25,10 +25,10 @@ pub struct SignedOn {
     pub on: On,
 }
 
-// What a sign-off changes.
+// What a sign-off changes, beside the memo's array.
 pub struct SignedOff {
     pub waiting: Waiting,
-    pub memo: Memo,
+    pub lines: usize,
     pub on: On,
 }
 
@@ -62,28 +62,32 @@ fn waits_new(waiting: Waiting, radio: u16) -> bool
     report.new != 0
 }
 
-// "If the discarded one was not marked new, or none waited, the memo's missed count for the radio grows by 1 (made as 1 if absent) and its place becomes none."
-fn missed(waiting: Waiting, memo: Memo, radio: u16) -> Memo
-    requires { ⌜ (waiting .n ≤ fullMemory) × WholeWaiting waiting × Rising 0 (reportsOf waiting) × Whole memo × (memo .n < lineSlots) × Rising 0 (linesOf memo) × (missedOf (find (linesOf memo) radio) < mostMissed) ⌝ }
-    ensures { λ r. ⌜ r ≡ memoOf (cond (wasNew (find (reportsOf waiting) radio)) (linesOf memo) (alter (raised none) radio (linesOf memo))) ⌝ }
+// "If the discarded one was not marked new, or none waited, the memo's missed count for the radio grows by 1 (made as 1 if absent) and its place becomes none." The answer is how
+// many lines there are then.
+fn missed(waiting: Waiting, words: &mut [u16; Desk::MEMO_WORDS], lines: usize, radio: u16) -> usize
+    requires { ⌜ (waiting .n ≤ fullMemory) × WholeWaiting waiting × Rising 0 (reportsOf waiting) × Whole (memoIn lines (now words)) × (lines < lineSlots) × Rising 0 (linesOf (memoIn lines (now words))) × (missedOf (find (linesOf (memoIn lines (now words))) radio) < mostMissed) ⌝ }
+    ensures { λ r. ⌜ memoIn r (now (words .exit)) ≡ memoOf (cond (wasNew (find (reportsOf waiting) radio)) (linesOf (memoIn lines (now (words .entry)))) (alter (raised none) radio (linesOf (memoIn lines (now (words .entry)))))) ⌝ }
 {
     if waits_new(waiting, radio) {
-        return memo;
+        return lines;
     }
-    let mut m = memo;
-    let n = memo::raised_none(&mut m.words, memo.n, radio);
-    m.n = n;
-    m
+    memo::raised_none(words, lines, radio)
 }
 
 // "Sign-off discards a waiting report", the memo counts what is missed, and the radio is on no longer.
-pub fn signed_off(waiting: Waiting, memo: Memo, on: On, radio: u16) -> SignedOff
-    requires { ⌜ (waiting .n ≤ fullMemory) × WholeWaiting waiting × Rising 0 (reportsOf waiting) × Whole memo × (memo .n < lineSlots) × Rising 0 (linesOf memo) × (missedOf (find (linesOf memo) radio) < mostMissed) × (on .n ≤ maxOn) × WholeOn on × Rising 0 (radiosOf on) ⌝ }
-    ensures { λ r. ⌜ r ≡ record { waiting = waitingOf (alter (λ _. none) radio (reportsOf waiting)); memo = memoOf (cond (wasNew (find (reportsOf waiting) radio)) (linesOf memo) (alter (raised none) radio (linesOf memo))); on = onOf (alter (λ _. none) radio (radiosOf on)) } ⌝ }
+pub fn signed_off(
+    waiting: Waiting,
+    words: &mut [u16; Desk::MEMO_WORDS],
+    lines: usize,
+    on: On,
+    radio: u16,
+) -> SignedOff
+    requires { ⌜ (waiting .n ≤ fullMemory) × WholeWaiting waiting × Rising 0 (reportsOf waiting) × Whole (memoIn lines (now words)) × (lines < lineSlots) × Rising 0 (linesOf (memoIn lines (now words))) × (missedOf (find (linesOf (memoIn lines (now words))) radio) < mostMissed) × (on .n ≤ maxOn) × WholeOn on × Rising 0 (radiosOf on) ⌝ }
+    ensures { λ r. ⌜ (r .waiting ≡ waitingOf (alter (λ _. none) radio (reportsOf waiting))) × (memoIn (r .lines) (now (words .exit)) ≡ memoOf (cond (wasNew (find (reportsOf waiting) radio)) (linesOf (memoIn lines (now (words .entry)))) (alter (raised none) radio (linesOf (memoIn lines (now (words .entry))))))) × (r .on ≡ onOf (alter (λ _. none) radio (radiosOf on))) ⌝ }
 {
     SignedOff {
         waiting: waiting::discarded(waiting, radio),
-        memo: missed(waiting, memo, radio),
+        lines: missed(waiting, words, lines, radio),
         on: waiting::signed_off(on, radio),
     }
 }

@@ -287,13 +287,7 @@ fn join(
 // ---- the whole
 
 // "when d has more than 32 entries": split, if there are "fewer than 64 cells" and a cut is found; else "d grows its chain".
-fn split_or_grown(
-    buffer: &mut [u8],
-    grid: Grid,
-    at: usize,
-    chain: Chain,
-    table: Entries,
-) -> Grid
+fn split_or_grown(buffer: &mut [u8], grid: Grid, at: usize, chain: Chain, table: Entries) -> Grid
     requires { ⌜ (chain .n ≤ pages) × (table .n ≤ maxOn) × (pageEntries < length (rowsOf table)) × Underway grid at (pagesOf chain) (rowsOf table) (now buffer) ⌝ }
     ensures { λ r. ⌜ ((x : Underway grid at (pagesOf chain) (rowsOf table) (now (buffer .entry))) → Reshapes (x .midway .flushed) r (x .memo) (now (buffer .exit))) ⌝ }
 {

@@ -237,11 +237,7 @@ fn line_stays(x: Line, mark: bool) -> bool
 }
 
 // Each marked line has one miss less; those that stay, one after the other, in an array of their own, which then takes the memo's place. How many they are.
-fn lowered<'a>(
-    words: &'a mut [u16; Desk::MEMO_WORDS],
-    n: usize,
-    marks: &'a [bool; PLACES],
-) -> usize
+fn lowered<'a>(words: &'a mut [u16; Desk::MEMO_WORDS], n: usize, marks: &'a [bool; PLACES]) -> usize
     requires { ⌜ Whole (memoIn n (now words)) × (n ≤ lineSlots) × Rising 0 (linesOf (memoIn n (now words))) ⌝ }
     ensures { λ r. ⌜ memoIn r (now (words .exit)) ≡ memoOf (lowerWhere (markOf (now (marks .entry)) (linesOf (memoIn n (now (words .entry))))) (linesOf (memoIn n (now (words .entry))))) ⌝ }
 {
@@ -275,14 +271,7 @@ pub fn sweep_chain<'a>(
     let mut placed = [0u16; PLACES];
     let mut easts = [0u16; PLACES];
     let mut norths = [0u16; PLACES];
-    read_lines(
-        words,
-        n,
-        &mut radios,
-        &mut placed,
-        &mut easts,
-        &mut norths,
-    );
+    read_lines(words, n, &mut radios, &mut placed, &mut easts, &mut norths);
     let mut marks = [false; PLACES];
     let table = sweep_pages(
         buffer,

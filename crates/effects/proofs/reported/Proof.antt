@@ -3,7 +3,7 @@ use borrow.Author.Needs.{needs}
 use Rattle.desk.specs.Views.{deskWith}
 use Rattle.own.proofs.StoreLaws.{report-asks}
 use Rattle.effects.proofs.EffectLaws.{quiet-asks, effect-quiet}
-use Rattle.effects.proofs.OwnLaws.{same-followed, same-effect, same-carries, report-effect, report-carries}
+use Rattle.effects.proofs.OwnLaws.{report-effect, report-carries}
 use Rattle.effects.proofs.reported.Statement.{statement}
 use Rattle.effects.proofs.reported.Tie as tie
 
@@ -18,8 +18,8 @@ is-quiet-requires c κs =
     let o = c .before .before in
     quiet-asks (report-effect (o .before .before .before .before .before .pre) (o .reported .result) (o .reported .ensures))
 
-add-t17 : tie.Need-add-t17
-add-t17 c =
+add-t16 : tie.Need-add-t16
+add-t16 c =
     let o = c .before .before .before .before in
     let k = quiet-asks (report-effect (o .before .before .before .before .before .pre) (o .reported .result) (o .reported .ensures)) in
     omega (arith, k .3)
@@ -29,26 +29,19 @@ returns c = λ x.
     let o = c .before .before .before .before in
     report-carries x (o .reported .result) (o .reported .ensures) (λ y. effect-quiet y (c .before .is-quiet .ensures) (c .if1 .taken))
 
-whole-requires : tie.Need-whole-requires
-whole-requires c κs = search needs
-
 followed-requires : tie.Need-followed-requires
 followed-requires c κs =
-    let o = c .before .before .before .before .before .before .before in
-    same-effect (c .before .whole .ensures) (report-effect (o .before .before .before .before .before .pre) (o .reported .result) (o .reported .ensures))
-
-parted-requires : tie.Need-parted-requires
-parted-requires c κs = search needs
+    let o = c .before .before .before .before .before .before in
+    report-effect (o .before .before .before .before .before .pre) (o .reported .result) (o .reported .ensures)
 
 same-length : tie.Need-same-length
 same-length c = search needs
 
 returns-2 : tie.Need-returns-2
 returns-2 c = λ x.
-    let f = c .before .before .before .before in
-    let w = f .before .before in
-    let o = w .before .before .before .before .before .before in
-    same-carries (c .parted .ensures) (report-carries x (o .reported .result) (o .reported .ensures) (same-followed (w .whole .ensures) (f .followed .ensures)))
+    let f = c .before .before in
+    let o = f .before .before .before .before .before .before .before in
+    report-carries x (o .reported .result) (o .reported .ensures) (f .followed .ensures)
 
 pub reported-spec : {M : Type 1} → statement M
 reported-spec =
@@ -56,10 +49,8 @@ reported-spec =
     (tie.spec
     reported-requires
     is-quiet-requires
-    add-t17
+    add-t16
     returns
-    whole-requires
     followed-requires
-    parted-requires
     same-length
     returns-2)

@@ -1,7 +1,7 @@
 use borrow.Author.Needs.{needs}
 use Rattle.desk.specs.Views.{deskWith}
 use Rattle.own.proofs.StoreLaws.{off-asks}
-use Rattle.effects.proofs.OwnLaws.{same-carries, off-left, off-carries}
+use Rattle.effects.proofs.OwnLaws.{off-left, off-carries}
 use Rattle.effects.proofs.sign_off.Statement.{statement}
 use Rattle.effects.proofs.sign_off.Tie as tie
 
@@ -14,19 +14,15 @@ signed-off-requires c κs =
 ticked-requires : tie.Need-ticked-requires
 ticked-requires c κs =
     let o = c .before .before .before .before in
-    off-left (o .before .before .before .before .before .before .pre) (o .signed-off .result) (o .signed-off .ensures)
-
-parted-requires : tie.Need-parted-requires
-parted-requires c κs = search needs
+    off-left (o .before .before .before .before .before .before .pre) (o .signed-off .ensures)
 
 same-length : tie.Need-same-length
 same-length c = search needs
 
 returns : tie.Need-returns
 returns c = λ x.
-    let t = c .before .before .before .before in
-    let o = t .before .before .before .before .before in
-    same-carries (c .parted .ensures) (off-carries x (o .signed-off .result) (o .signed-off .ensures) (t .ticked .ensures))
+    let t = c .before .before in
+    off-carries x (t .before .before .before .before .before .signed-off .ensures) (t .ticked .ensures)
 
 pub sign-off-spec : {M : Type 1} → statement M
-sign-off-spec = tie.close (tie.spec signed-off-requires ticked-requires parted-requires same-length returns)
+sign-off-spec = tie.close (tie.spec signed-off-requires ticked-requires same-length returns)

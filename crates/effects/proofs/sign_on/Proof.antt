@@ -1,7 +1,7 @@
 use borrow.Author.Needs.{needs}
 use Rattle.desk.specs.Views.{deskWith}
 use Rattle.own.proofs.StoreLaws.{on-asks}
-use Rattle.effects.proofs.OwnLaws.{same-followed, same-effect, same-carries, on-effect, on-carries}
+use Rattle.effects.proofs.OwnLaws.{on-effect, on-carries}
 use Rattle.effects.proofs.sign_on.Statement.{statement}
 use Rattle.effects.proofs.sign_on.Tie as tie
 
@@ -11,26 +11,19 @@ signed-on-requires c κs =
     let x = start .pre in
     on-asks (x .sound .store) (deskWith (start .args .parts) (start .args .words .now)) (x .sound .held) (x .sound .well) (x .signs .room)
 
-whole-requires : tie.Need-whole-requires
-whole-requires c κs = search needs
-
 followed-requires : tie.Need-followed-requires
 followed-requires c κs =
-    let o = c .before .before .before .before .before in
-    same-effect (c .before .whole .ensures) (on-effect (o .before .before .before .before .before .pre) (o .signed-on .result) (o .signed-on .ensures))
-
-parted-requires : tie.Need-parted-requires
-parted-requires c κs = search needs
+    let o = c .before .before .before .before in
+    on-effect (o .before .before .before .before .before .pre) (o .signed-on .result) (o .signed-on .ensures)
 
 same-length : tie.Need-same-length
 same-length c = search needs
 
 returns : tie.Need-returns
 returns c = λ x.
-    let f = c .before .before .before .before in
-    let w = f .before .before in
-    let o = w .before .before .before .before in
-    same-carries (c .parted .ensures) (on-carries x (o .signed-on .result) (o .signed-on .ensures) (same-followed (w .whole .ensures) (f .followed .ensures)))
+    let f = c .before .before in
+    let o = f .before .before .before .before .before in
+    on-carries x (o .signed-on .result) (o .signed-on .ensures) (f .followed .ensures)
 
 pub sign-on-spec : {M : Type 1} → statement M
-sign-on-spec = tie.close (tie.spec signed-on-requires whole-requires followed-requires parted-requires same-length returns)
+sign-on-spec = tie.close (tie.spec signed-on-requires followed-requires same-length returns)

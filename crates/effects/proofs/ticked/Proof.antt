@@ -2,9 +2,6 @@ use borrow.Author.Needs.{needs}
 use Rattle.effects.proofs.EffectLaws.{left-tallied, left-returns}
 use Rattle.effects.proofs.ticked.Statement.{statement}
 use Rattle.effects.proofs.ticked.Tie as tie
-use Rattle.effects.proofs.ticked.Reads as reads
-use Rattle.effects.proofs.ticked.Lts as lts
-use Rattle.flush.proofs.tick.Reads as tick-reads
 
 tick-requires : tie.Need-tick-requires
 tick-requires c κs = left-tallied (c .before .before .before .before .before .before .pre)
@@ -13,7 +10,7 @@ same-length : tie.Need-same-length
 same-length c = search needs
 
 returns : tie.Need-returns
-returns c = λ x. left-returns x (c .before .before .before .before .tick .ensures)
+returns c = λ x. left-returns x (c .before .before .before .tick .ensures)
 
 pub ticked-spec : {M : Type 1} → statement M
 ticked-spec = tie.close (tie.spec tick-requires same-length returns)

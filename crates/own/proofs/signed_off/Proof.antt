@@ -12,7 +12,7 @@ signed-off-requires : tie.Need-signed-off-requires
 signed-off-requires c κs = search needs
 
 returns : tie.Need-returns
-returns c = cc
+returns c = search needs
 
 pub signed-off-spec : {M : Type 1} → statement M
 signed-off-spec =
