@@ -14,7 +14,7 @@ use Rattle.lists.specs.Sums.{sumBy, concat, count}
 use Rattle.lists.specs.Tests.{one-if, both, Each, isSome, all}
 use Rattle.lists.proofs.Cases.{by-cases}
 use Rattle.lists.proofs.RowsLaws.{sum-key}
-use Rattle.lists.proofs.SumsLaws.{sum-append, sum-each, sum-const, sum-concat, count-at, each-count}
+use Rattle.lists.proofs.SumsLaws.{sum-each, sum-const, sum-concat, count-at, each-count}
 use Rattle.lists.proofs.TestsLaws.{both-left, both-right, both-intro, each-map, all-each, each-all, each-getD, getD-each, one-if-le}
 use Rattle.rules.specs.WellFormed.{RisingCuts}
 use Rattle.mirror.specs.Loops.{every, allTo, risesTo, lastFrom, eachOnce, onceAtMost, keys, passing}
@@ -233,10 +233,6 @@ module _ {Val : Type 0} where
   pub passing-cons : (t : Row Val → Bool) (r : ℕ) (x : Row Val) (l : Rows Val) → passing t r (x ∷ l) ≡ one-if (both (eqb r (x .key)) (t x)) + passing t r l
   unfolding passing sumBy
   passing-cons t r x l = refl
-
-  pub passing-append : (t : Row Val → Bool) (r : ℕ) (a b : Rows Val) → passing t r (a ++ b) ≡ passing t r a + passing t r b
-  unfolding passing
-  passing-append t r a b = sum-append (λ x. one-if (both (eqb r (x .key)) (t x))) a b
 
   pub passing-concat : (t : Row Val → Bool) (r : ℕ) (ls : List (Rows Val)) → passing t r (concat ls) ≡ sumBy (passing t r) ls
   unfolding passing
