@@ -1,4 +1,4 @@
--- The test says exactly that the store is well-formed: each of its parts is one clause.
+-- A store passes all tests exactly if it is well-formed: each test is one clause.
 use mathlib.Core.Path.{_≡_, sym, _∙_}
 use mathlib.Core.Bool.{Bool, true}
 use mathlib.Core.List.{List, [], _∷_}
