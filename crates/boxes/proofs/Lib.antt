@@ -1,4 +1,5 @@
 pub mod BoxLaws
 pub mod ReachLaws
 pub mod CrowdLaws
+pub mod StripesLaws
 pub mod DueLaws

@@ -2,9 +2,9 @@
 ghost use mathlib.Core.Bool.{not, cond};
 ghost use mathlib.Core.Option.{some};
 ghost use mathlib.Core.Path.{_≡_};
-ghost use Prim.Native.Nat.{_<_, _≤_, min, max};
-ghost use lib.Dec.{ltb};
-ghost use lib.ListN.{length};
+ghost use Prim.Native.Nat.{ℕ, _+_, _<_, _≤_, min, max};
+ghost use lib.Dec.{leb, ltb};
+ghost use lib.ListN.{length, getD};
 ghost use Rattle.lists.specs.Parts.{tab};
 ghost use Rattle.lists.specs.Sums.{filter, concat};
 ghost use Rattle.lists.specs.Tests.{one-if, best};
@@ -16,7 +16,7 @@ ghost use Rattle.rules.specs.Carry.{waitingIn, mostOf, boxToFlush};
 ghost use Rattle.desk.specs.Layout.{noReport, waitingOf};
 ghost use Rattle.desk.specs.Views.{cutsIn, cutsBy};
 ghost use Rattle.waiting.specs.Waiting.{waits, rowOf, reportsOf, WholeWaiting};
-ghost use Rattle.boxes.specs.Boxes.{boxIn, reportsIn, waitingWith, onSide, spanIn, boundedBy, Reaches, maxStripes, tableSize, boxAt, Crowd, Leads, fullerOf, boxRow, dueOf};
+ghost use Rattle.boxes.specs.Boxes.{boxIn, reportsIn, waitingWith, onSide, spanIn, boundedBy, Reaches, Coordinates, Passing, Striped, Boxed, maxStripes, tableSize, boxAt, Crowd, Leads, fullerOf, boxRow, dueOf};
 use desk::CutList;
 use desk::Desk;
 use desk::Report;
@@ -228,6 +228,92 @@ fn waiting_at(easts: CutList, norths: CutList, waiting: Waiting, east: u16, nort
     found
 }
 
+// ---- the memory cells of all waiting reports
+
+// The memory cell of each slot: its stripes, counted from 0.
+pub struct Stripes {
+    pub easts: [u16; FULL_MEMORY],
+    pub norths: [u16; FULL_MEMORY],
+}
+
+// The easts of the slots.
+fn easts_of(waiting: Waiting) -> [u16; FULL_MEMORY]
+    ensures { λ r. ⌜ Coordinates (λ x. x .east) (waiting .rows) fullMemory r ⌝ }
+{
+    let mut xs = [0u16; FULL_MEMORY];
+    let mut i: usize = 0;
+    while i < FULL_MEMORY {
+        let x = waiting.rows[i];
+        xs[i] = x.east;
+        i = i + 1;
+    }
+    xs
+}
+
+// The norths of the slots.
+fn norths_of(waiting: Waiting) -> [u16; FULL_MEMORY]
+    ensures { λ r. ⌜ Coordinates (λ x. x .north) (waiting .rows) fullMemory r ⌝ }
+{
+    let mut xs = [0u16; FULL_MEMORY];
+    let mut i: usize = 0;
+    while i < FULL_MEMORY {
+        let x = waiting.rows[i];
+        xs[i] = x.north;
+        i = i + 1;
+    }
+    xs
+}
+
+// The stripe of x by one cut more.
+fn further(stripe: u16, cut: u16, x: u16) -> u16
+    requires { ⌜ stripe ≤ maxCuts ⌝ }
+    ensures { λ r. ⌜ r ≡ stripe + one-if (leb cut x) ⌝ }
+{
+    if cut <= x { stripe + 1 } else { stripe }
+}
+
+// Every coordinate's stripe by one cut more. It never leaves early, so that many coordinates are compared at a time.
+fn pass_cut<'a>(cut: u16, xs: &'a [u16; FULL_MEMORY], stripes: &'a mut [u16; FULL_MEMORY])
+    requires { ⌜ (length (now xs) ≡ fullMemory) × (length (now stripes) ≡ fullMemory) × ((i : ℕ) → i < fullMemory → getD (now stripes) i 0 ≤ maxCuts) ⌝ }
+    ensures { λ _. ⌜ Passing cut (now (xs .entry)) (now (stripes .entry)) fullMemory (now (stripes .exit)) ⌝ }
+{
+    let mut i: usize = 0;
+    while i < FULL_MEMORY {
+        let before = stripes[i];
+        stripes[i] = further(before, cut, xs[i]);
+        i = i + 1;
+    }
+}
+
+// The stripe of every coordinate, cut by cut.
+fn stripes_of<'a>(cuts: CutList, xs: &'a [u16; FULL_MEMORY]) -> [u16; FULL_MEMORY]
+    requires { ⌜ (cuts .n ≤ maxCuts) × (length (now xs) ≡ fullMemory) ⌝ }
+    ensures { λ r. ⌜ Striped (cutsIn cuts) (now (xs .entry)) r ⌝ }
+{
+    let n = cuts.n;
+    let mut stripes = [0u16; FULL_MEMORY];
+    let mut i: usize = 0;
+    while i < n {
+        let cut = cuts.at[i];
+        pass_cut(cut, xs, &mut stripes);
+        i = i + 1;
+    }
+    stripes
+}
+
+// The memory cells of all slots at once.
+pub fn boxes_of(easts: CutList, norths: CutList, waiting: Waiting) -> Stripes
+    requires { ⌜ (easts .n ≤ maxCuts) × (norths .n ≤ maxCuts) ⌝ }
+    ensures { λ r. ⌜ Boxed (cutsBy easts norths) (waiting .rows) r ⌝ }
+{
+    let xs = easts_of(waiting);
+    let ys = norths_of(waiting);
+    Stripes {
+        easts: stripes_of(easts, &xs),
+        norths: stripes_of(norths, &ys),
+    }
+}
+
 // ---- tables with a number for each memory cell
 
 // The stripes of a direction are at most so many.
@@ -236,12 +322,12 @@ pub const STRIPES: usize = Desk::MAX_CUTS + 1;
 // A table has a number for each memory cell.
 pub const BOXES: usize = STRIPES * STRIPES;
 
-// The place of a place's memory cell in a table.
-pub fn box_index(easts: CutList, norths: CutList, east: u16, north: u16) -> usize
-    requires { ⌜ (easts .n ≤ maxCuts) × (norths .n ≤ maxCuts) ⌝ }
-    ensures { λ r. ⌜ (r ≡ boxAt (boxOf (cutsBy easts norths) (record { east = east; north = north }))) × (r < tableSize) ⌝ }
+// The place of a memory cell in a table.
+pub fn box_index(east: u16, north: u16) -> usize
+    requires { ⌜ (east < maxStripes) × (north < maxStripes) ⌝ }
+    ensures { λ r. ⌜ (r ≡ boxAt (record { east = east; north = north })) × (r < tableSize) ⌝ }
 {
-    STRIPES * stripe_of(norths, north) + stripe_of(easts, east)
+    STRIPES * north as usize + east as usize
 }
 
 // How many wait in each memory cell: each report counts in its own.
@@ -250,11 +336,11 @@ fn crowd_of(easts: CutList, norths: CutList, waiting: Waiting) -> [u8; BOXES]
     ensures { λ r. ⌜ Crowd (cutsBy easts norths) (reportsOf waiting) r ⌝ }
 {
     let n = waiting.n;
+    let at = boxes_of(easts, norths, waiting);
     let mut crowd = [0u8; BOXES];
     let mut i: usize = 0;
     while i < n {
-        let x = waiting.rows[i];
-        let k = box_index(easts, norths, x.east, x.north);
+        let k = box_index(at.easts[i], at.norths[i]);
         let others = crowd[k];
         crowd[k] = others + 1;
         i = i + 1;
