@@ -172,6 +172,6 @@ module _ {n : ℕ} {at : Stripes} {i : ℕ} {crowd : List ℕ} (c : CrowdingAt n
   pub crowding-at-turn : CrowdingAt n at (i + 1) (set crowd k (getD crowd k 0 + 1))
   crowding-at-turn = record {
     so = λ easts norths w s e.
-      let h : i < w .n = omega (arith, e) in
-      crowding-turn w (c .so easts norths w s e) (s .size) (s .fits) (s .east-cuts) (s .north-cuts) h (seat-at s h said);
+        let h : i < w .n = omega (arith, e) in
+        crowding-turn w (c .so easts norths w s e) (s .size) (s .fits) (s .east-cuts) (s .north-cuts) h (seat-at s h said);
   }

@@ -159,11 +159,11 @@ fn few_sound(easts: CutList, norths: CutList, w: Waiting) -> bool
     requires { ⌜ (easts .n ≤ maxCuts) × (norths .n ≤ maxCuts) × (w .n ≤ fullMemory) ⌝ }
     ensures { λ r. ⌜ r ≡ fewSound easts norths w ⌝ }
 {
+    let at = boxes::boxes_of(easts, norths, w);
     let mut crowd: [usize; BOXES] = [0; BOXES];
     let mut i: usize = 0;
     while i < w.n {
-        let x = w.rows[i];
-        let k = boxes::box_index(easts, norths, x.east, x.north);
+        let k = boxes::box_index(at.easts[i], at.norths[i]);
         let others = crowd[k];
         if MOST_IN_BOX <= others {
             return false;

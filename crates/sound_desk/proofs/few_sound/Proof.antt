@@ -1,28 +1,42 @@
--- Each report so far is counted at its memory cell, and none has 8 (`Few`).
+-- Each report so far is counted at its memory cell, and none has 8 (`FewAt`).
 use Prim.Native.Nat.{_≤_, _-_}
 use Rattle.lists.proofs.ShiftLaws.{length-mapped}
-use Rattle.sound_desk.proofs.FewLaws.{Few, few-start, few-full, few-turn, few-end}
+use Rattle.boxes.proofs.StripesLaws.{Seated, seat-east, seat-north}
+use Rattle.sound_desk.proofs.FewLaws.{FewAt, few-start, few-full, few-turn, few-end}
 use borrow.Author.Needs.{needs}
 use Rattle.sound_desk.proofs.few_sound.Statement.{statement}
 use Rattle.sound_desk.proofs.few_sound.Tie as tie
 
 abbrev Inv-loop : tie.InvT-loop
-Inv-loop easts norths w crowd₀ i₀ crowd i = (i ≤ w .n) × Few easts norths w i crowd
+Inv-loop w at crowd₀ i₀ crowd i = (i ≤ w .n) × FewAt w at i crowd
 
 abbrev μ-loop : tie.MeasureT-loop
-μ-loop easts norths w crowd₀ i₀ crowd i = w .n - i
+μ-loop w at crowd₀ i₀ crowd i = w .n - i
+
+boxes-of-requires : tie.Need-boxes-of-requires Inv-loop μ-loop
+boxes-of-requires c κs = search needs
 
 loop-holds : tie.Need-loop-holds Inv-loop μ-loop
-loop-holds c = (search needs, search (few-start, length-mapped))
+loop-holds c = (search needs, few-start _ _)
 
-mul-x : tie.Need-mul-x Inv-loop μ-loop
-mul-x c = search needs
+mul-box-index : tie.Need-mul-box-index Inv-loop μ-loop
+mul-box-index c = search needs
 
-element-copy-out-x : tie.Need-element-copy-out-x Inv-loop μ-loop
-element-copy-out-x c = search needs
+element-copy-out-box-index : tie.Need-element-copy-out-box-index Inv-loop μ-loop
+element-copy-out-box-index c = search needs
+
+mul-box-index-2 : tie.Need-mul-box-index-2 Inv-loop μ-loop
+mul-box-index-2 c = search needs
+
+element-copy-out-box-index-2 : tie.Need-element-copy-out-box-index-2 Inv-loop μ-loop
+element-copy-out-box-index-2 c = search needs
 
 box-index-requires : tie.Need-box-index-requires Inv-loop μ-loop
-box-index-requires c κs = search needs
+box-index-requires c κs =
+    let b = c .before .before .before .before .before in
+    let p = b .before in
+    let s : Seated _ _ (p .args .w) (b .boxes-of .result) = record { size = search (length-mapped, p .good .1 .1 .0 .1 .1 .1 .0 .1 .0 .1); fits = p .pre .2; east-cuts = p .pre .0; north-cuts = p .pre .1; boxes = b .boxes-of .ensures } in
+    (seat-east s (search needs), seat-north s (search needs))
 
 mul-others : tie.Need-mul-others Inv-loop μ-loop
 mul-others c = search needs
@@ -31,7 +45,12 @@ array-read-others : tie.Need-array-read-others Inv-loop μ-loop
 array-read-others c = search needs
 
 returns : tie.Need-returns Inv-loop μ-loop
-returns c = search few-full
+returns c =
+    let l = c .before .before .before .before .before .before in
+    let b = l .before in
+    let p = b .before in
+    let s : Seated _ _ (p .args .w) (b .boxes-of .result) = record { size = search (length-mapped, p .good .1 .1 .0 .1 .1 .1 .0 .1 .0 .1); fits = p .pre .2; east-cuts = p .pre .0; north-cuts = p .pre .1; boxes = b .boxes-of .ensures } in
+    few-full s (l .loop .inv .1 .so _ _ s) (search needs) (c .before .box-index .ensures .0) (search needs)
 
 add-crowd : tie.Need-add-crowd Inv-loop μ-loop
 add-crowd c = search needs
@@ -52,7 +71,12 @@ loop-again : tie.Need-loop-again Inv-loop μ-loop
 loop-again c = (search needs, search few-turn)
 
 returns-2 : tie.Need-returns-2 Inv-loop μ-loop
-returns-2 c = search few-end
+returns-2 c =
+    let l = c .before .before in
+    let b = l .before in
+    let p = b .before in
+    let s : Seated _ _ (p .args .w) (b .boxes-of .result) = record { size = search (length-mapped, p .good .1 .1 .0 .1 .1 .1 .0 .1 .0 .1); fits = p .pre .2; east-cuts = p .pre .0; north-cuts = p .pre .1; boxes = b .boxes-of .ensures } in
+    few-end s (l .loop .inv .1 .so _ _ s) (search needs)
 
 pub few-sound-spec : {M : Type 1} → statement M
 few-sound-spec =
@@ -60,9 +84,12 @@ few-sound-spec =
     (tie.spec
     Inv-loop
     μ-loop
+    boxes-of-requires
     loop-holds
-    mul-x
-    element-copy-out-x
+    mul-box-index
+    element-copy-out-box-index
+    mul-box-index-2
+    element-copy-out-box-index-2
     box-index-requires
     mul-others
     array-read-others
