@@ -79,7 +79,7 @@ fn carry_sound(
     ensures { λ r. ⌜ ((s : Sound (deskWith parts (now (words .entry))) (now (pages .entry))) → CarriedOut (record { desk = deskWith parts (now (words .entry)); pages = now (pages .entry); bytes = now (bytes .entry); buffer = now (buffer .entry) }) s (record { number = r .answer .number; count = r .answer .count; desk = deskWith (r .parts) (now (words .exit)); pages = now (pages .exit); buffer = now (buffer .exit) })) ⌝ }
 {
     let on = parts.on;
-    match records::asked_by(bytes, on) {
+    match records::asked_by(bytes, &on.radios, on.n) {
         Asked::Refused(number) => answered(parts, number, 0),
         Asked::SignOn(radio, east, north) => accepted(effects::sign_on(
             parts,

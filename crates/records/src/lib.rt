@@ -6,10 +6,9 @@ ghost use Rattle.terms.specs.Terms.{maxOn};
 ghost use Rattle.lists.specs.Rows.{Rising};
 ghost use Rattle.rules.specs.Records.{lengthField, kindField, lengthOf, radioField, placeField, rectField, requestOf, notAtHand, unknownKind, wrongLength, noRadio, reversed, onAlready, notOn, noRoom, refusal};
 ghost use Rattle.desk.specs.Views.{radiosOf};
-ghost use Rattle.waiting.specs.On.{WholeOn};
+ghost use Rattle.waiting.specs.On.{onWith, WholeOn};
 ghost use Rattle.records.specs.Asked.{headBytes, signOffBytes, placedBytes, rangeBytes, Whole, onIn, caseOf, askedOf};
 use desk::Desk;
-use desk::On;
 use terms::MAX_RADIO;
 
 pub const KIND_SIGN_ON: u16 = 1;
@@ -184,42 +183,42 @@ fn reversed(bytes: &[u8]) -> bool
 }
 
 // 8: "A sign-on names a radio that is on."
-fn on_already(bytes: &[u8], on: On) -> bool
-    requires { ⌜ Whole (now bytes) × (on .n ≤ maxOn) × WholeOn on × Rising 0 (radiosOf on) ⌝ }
-    ensures { λ r. ⌜ r ≡ onAlready (onIn on) (now (bytes .entry)) ⌝ }
+fn on_already<'a>(bytes: &[u8], radios: &'a [u16; Desk::MAX_ON], n: usize) -> bool
+    requires { ⌜ Whole (now bytes) × (n ≤ maxOn) × WholeOn (onWith n (now radios)) × Rising 0 (radiosOf (onWith n (now radios))) ⌝ }
+    ensures { λ r. ⌜ r ≡ onAlready (onIn (onWith n (now (radios .entry)))) (now (bytes .entry)) ⌝ }
 {
     if kind_field(bytes) != KIND_SIGN_ON {
         return false;
     }
-    waiting::is_on(on, radio_field(bytes))
+    waiting::is_on(radios, n, radio_field(bytes))
 }
 
 // 9: "A report or sign-off names a radio that isn't on."
-fn not_on(bytes: &[u8], on: On) -> bool
-    requires { ⌜ Whole (now bytes) × (on .n ≤ maxOn) × WholeOn on × Rising 0 (radiosOf on) ⌝ }
-    ensures { λ r. ⌜ r ≡ notOn (onIn on) (now (bytes .entry)) ⌝ }
+fn not_on<'a>(bytes: &[u8], radios: &'a [u16; Desk::MAX_ON], n: usize) -> bool
+    requires { ⌜ Whole (now bytes) × (n ≤ maxOn) × WholeOn (onWith n (now radios)) × Rising 0 (radiosOf (onWith n (now radios))) ⌝ }
+    ensures { λ r. ⌜ r ≡ notOn (onIn (onWith n (now (radios .entry)))) (now (bytes .entry)) ⌝ }
 {
     match kind_field(bytes) {
-        KIND_REPORT | KIND_SIGN_OFF => !waiting::is_on(on, radio_field(bytes)),
+        KIND_REPORT | KIND_SIGN_OFF => !waiting::is_on(radios, n, radio_field(bytes)),
         _ => false,
     }
 }
 
 // 10: "A sign-on comes while 512 are on."
-fn no_room(bytes: &[u8], on: On) -> bool
-    requires { ⌜ Whole (now bytes) × WholeOn on ⌝ }
-    ensures { λ r. ⌜ r ≡ noRoom (length (radiosOf on)) (now (bytes .entry)) ⌝ }
+fn no_room<'a>(bytes: &[u8], radios: &'a [u16; Desk::MAX_ON], n: usize) -> bool
+    requires { ⌜ Whole (now bytes) × WholeOn (onWith n (now radios)) ⌝ }
+    ensures { λ r. ⌜ r ≡ noRoom (length (radiosOf (onWith n (now (radios .entry))))) (now (bytes .entry)) ⌝ }
 {
     if kind_field(bytes) != KIND_SIGN_ON {
         return false;
     }
-    Desk::MAX_ON <= on.n
+    Desk::MAX_ON <= n
 }
 
 // The number of the first check that fails, 0 if none does.
-fn refusal(bytes: &[u8], on: On) -> u16
-    requires { ⌜ (on .n ≤ maxOn) × WholeOn on × Rising 0 (radiosOf on) ⌝ }
-    ensures { λ r. ⌜ r ≡ refusal (onIn on) (length (radiosOf on)) (now (bytes .entry)) ⌝ }
+fn refusal<'a>(bytes: &[u8], radios: &'a [u16; Desk::MAX_ON], n: usize) -> u16
+    requires { ⌜ (n ≤ maxOn) × WholeOn (onWith n (now radios)) × Rising 0 (radiosOf (onWith n (now radios))) ⌝ }
+    ensures { λ r. ⌜ r ≡ refusal (onIn (onWith n (now (radios .entry)))) (length (radiosOf (onWith n (now (radios .entry))))) (now (bytes .entry)) ⌝ }
 {
     if not_at_hand(bytes) {
         return 3;
@@ -236,13 +235,13 @@ fn refusal(bytes: &[u8], on: On) -> u16
     if reversed(bytes) {
         return 7;
     }
-    if on_already(bytes, on) {
+    if on_already(bytes, radios, n) {
         return 8;
     }
-    if not_on(bytes, on) {
+    if not_on(bytes, radios, n) {
         return 9;
     }
-    if no_room(bytes, on) {
+    if no_room(bytes, radios, n) {
         return 10;
     }
     0
@@ -272,11 +271,11 @@ fn request(bytes: &[u8]) -> Asked
 }
 
 // What the bytes at hand ask, or the number of the first check that fails.
-pub fn asked_by(bytes: &[u8], on: On) -> Asked
-    requires { ⌜ (on .n ≤ maxOn) × WholeOn on × Rising 0 (radiosOf on) ⌝ }
-    ensures { λ r. ⌜ r ≡ askedOf (refusal (onIn on) (length (radiosOf on)) (now (bytes .entry))) (requestOf (now (bytes .entry))) ⌝ }
+pub fn asked_by<'a>(bytes: &[u8], radios: &'a [u16; Desk::MAX_ON], n: usize) -> Asked
+    requires { ⌜ (n ≤ maxOn) × WholeOn (onWith n (now radios)) × Rising 0 (radiosOf (onWith n (now radios))) ⌝ }
+    ensures { λ r. ⌜ r ≡ askedOf (refusal (onIn (onWith n (now (radios .entry)))) (length (radiosOf (onWith n (now (radios .entry))))) (now (bytes .entry))) (requestOf (now (bytes .entry))) ⌝ }
 {
-    let number = refusal(bytes, on);
+    let number = refusal(bytes, radios, n);
     if number != 0 {
         return Asked::Refused(number);
     }
