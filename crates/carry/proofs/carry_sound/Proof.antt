@@ -4,7 +4,7 @@ use Rattle.carry.proofs.carry_sound.Statement.{statement}
 use Rattle.carry.proofs.carry_sound.Tie as tie
 
 asked-by-requires : tie.Need-asked-by-requires
-asked-by-requires c κs = let e = c .before .before .before .before in record-asks (e .args .parts) (e .args .words .now) (e .pre .1)
+asked-by-requires c κs = let e = c .before .before .before .before .before .before in record-asks (e .args .parts) (e .args .words .now) (e .pre .1)
 
 enum-known-number : tie.Need-enum-known-number
 enum-known-number c = search needs
@@ -18,8 +18,8 @@ enum-known-radio c = search needs
 sign-on-requires : tie.Need-sign-on-requires
 sign-on-requires c κs =
     let a = c .before .before .before .before .before in
-    let e = a .before .before .before .before .before in
-    search (on-asked (e .args .parts) (e .args .words .now) (e .pre .1) (e .args .bytes .now) (e .args .buffer .now) (λ i. a .before .before .before .shared-slice-known .given i .fits) (a .asked-by .ensures))
+    let e = a .before .before .before .before .before .before .before in
+    search (on-asked (e .args .parts) (e .args .words .now) (e .pre .1) (e .args .bytes .now) (e .args .buffer .now) (λ i. a .before .before .before .before .before .shared-slice-known .given i .fits) (a .asked-by .ensures))
 
 accepted-requires : tie.Need-accepted-requires
 accepted-requires c κs = search needs
@@ -30,8 +30,8 @@ enum-known-radio-2 c = search needs
 reported-requires : tie.Need-reported-requires
 reported-requires c κs =
     let a = c .before .before .before .before .before in
-    let e = a .before .before .before .before .before in
-    search (report-asked (e .args .parts) (e .args .words .now) (e .pre .1) (e .args .bytes .now) (e .args .buffer .now) (λ i. a .before .before .before .shared-slice-known .given i .fits) (a .asked-by .ensures))
+    let e = a .before .before .before .before .before .before .before in
+    search (report-asked (e .args .parts) (e .args .words .now) (e .pre .1) (e .args .bytes .now) (e .args .buffer .now) (λ i. a .before .before .before .before .before .shared-slice-known .given i .fits) (a .asked-by .ensures))
 
 accepted-requires-2 : tie.Need-accepted-requires-2
 accepted-requires-2 c κs = search needs
@@ -42,8 +42,8 @@ enum-known-radio-3 c = search needs
 sign-off-requires : tie.Need-sign-off-requires
 sign-off-requires c κs =
     let a = c .before .before .before .before .before in
-    let e = a .before .before .before .before .before in
-    search (off-asked (e .args .parts) (e .args .words .now) (e .pre .1) (e .args .bytes .now) (e .args .buffer .now) (λ i. a .before .before .before .shared-slice-known .given i .fits) (a .asked-by .ensures))
+    let e = a .before .before .before .before .before .before .before in
+    search (off-asked (e .args .parts) (e .args .words .now) (e .pre .1) (e .args .bytes .now) (e .args .buffer .now) (λ i. a .before .before .before .before .before .shared-slice-known .given i .fits) (a .asked-by .ensures))
 
 accepted-requires-3 : tie.Need-accepted-requires-3
 accepted-requires-3 c κs = search needs
@@ -57,8 +57,8 @@ listed-requires c κs = search needs
 returns : tie.Need-returns
 returns c = λ x.
     let a = c .before .before .before .before in
-    let e = a .before .before .before .before .before in
-    refused-returns (e .args .parts) (e .args .words .now) x (e .args .bytes .now) (e .args .buffer .now) (λ i. a .before .before .before .shared-slice-known .given i .fits) (a .asked-by .ensures) _ (search needs) (c .answered .ensures)
+    let e = a .before .before .before .before .before .before .before in
+    refused-returns (e .args .parts) (e .args .words .now) x (e .args .bytes .now) (e .args .buffer .now) (λ i. a .before .before .before .before .before .shared-slice-known .given i .fits) (a .asked-by .ensures) _ (search needs) (c .answered .ensures)
 
 same-length : tie.Need-same-length
 same-length c = search needs
@@ -66,8 +66,8 @@ same-length c = search needs
 returns-2 : tie.Need-returns-2
 returns-2 c = λ x.
     let a = c .before .before .before .before .before .before .before .before .before in
-    let e = a .before .before .before .before .before in
-    on-returns (e .args .parts) (e .args .words .now) x (e .args .bytes .now) (e .args .buffer .now) (λ i. a .before .before .before .shared-slice-known .given i .fits) (a .asked-by .ensures) _ _ (search (needs, c .before .before .before .before .before .before .before .radio)) (c .before .before .before .sign-on .ensures) (c .accepted .ensures)
+    let e = a .before .before .before .before .before .before .before in
+    on-returns (e .args .parts) (e .args .words .now) x (e .args .bytes .now) (e .args .buffer .now) (λ i. a .before .before .before .before .before .shared-slice-known .given i .fits) (a .asked-by .ensures) _ _ (search (needs, c .before .before .before .before .before .before .before .radio)) (c .before .before .before .sign-on .ensures) (c .accepted .ensures)
 
 same-length-2 : tie.Need-same-length-2
 same-length-2 c = search needs
@@ -75,8 +75,8 @@ same-length-2 c = search needs
 returns-3 : tie.Need-returns-3
 returns-3 c = λ x.
     let a = c .before .before .before .before .before .before .before .before .before in
-    let e = a .before .before .before .before .before in
-    report-returns (e .args .parts) (e .args .words .now) x (e .args .bytes .now) (e .args .buffer .now) (λ i. a .before .before .before .shared-slice-known .given i .fits) (a .asked-by .ensures) _ _ (search (needs, c .before .before .before .before .before .before .before .radio2)) (c .before .before .before .reported .ensures) (c .accepted2 .ensures)
+    let e = a .before .before .before .before .before .before .before in
+    report-returns (e .args .parts) (e .args .words .now) x (e .args .bytes .now) (e .args .buffer .now) (λ i. a .before .before .before .before .before .shared-slice-known .given i .fits) (a .asked-by .ensures) _ _ (search (needs, c .before .before .before .before .before .before .before .radio2)) (c .before .before .before .reported .ensures) (c .accepted2 .ensures)
 
 same-length-3 : tie.Need-same-length-3
 same-length-3 c = search needs
@@ -84,8 +84,8 @@ same-length-3 c = search needs
 returns-4 : tie.Need-returns-4
 returns-4 c = λ x.
     let a = c .before .before .before .before .before .before .before .before .before in
-    let e = a .before .before .before .before .before in
-    off-returns (e .args .parts) (e .args .words .now) x (e .args .bytes .now) (e .args .buffer .now) (λ i. a .before .before .before .shared-slice-known .given i .fits) (a .asked-by .ensures) _ (search (needs, c .before .before .before .before .before .before .before .radio3)) (c .before .before .before .sign-off .ensures) (c .accepted3 .ensures)
+    let e = a .before .before .before .before .before .before .before in
+    off-returns (e .args .parts) (e .args .words .now) x (e .args .bytes .now) (e .args .buffer .now) (λ i. a .before .before .before .before .before .shared-slice-known .given i .fits) (a .asked-by .ensures) _ (search (needs, c .before .before .before .before .before .before .before .radio3)) (c .before .before .before .sign-off .ensures) (c .accepted3 .ensures)
 
 same-length-4 : tie.Need-same-length-4
 same-length-4 c = search needs
@@ -96,8 +96,8 @@ same-length-5 c = search needs
 returns-5 : tie.Need-returns-5
 returns-5 c = λ x.
     let a = c .before .before .before .before .before .before .before .before .before in
-    let e = a .before .before .before .before .before in
-    range-returns (e .args .parts) (e .args .words .now) x (e .args .bytes .now) (e .args .buffer .now) (λ i. a .before .before .before .shared-slice-known .given i .fits) (a .asked-by .ensures) _ _ _ _ (search (needs, c .before .before .before .before .before .before .before .west)) (c .before .before .listed .ensures)
+    let e = a .before .before .before .before .before .before .before in
+    range-returns (e .args .parts) (e .args .words .now) x (e .args .bytes .now) (e .args .buffer .now) (λ i. a .before .before .before .before .before .shared-slice-known .given i .fits) (a .asked-by .ensures) _ _ _ _ (search (needs, c .before .before .before .before .before .before .before .west)) (c .before .before .listed .ensures)
 
 pub carry-sound-spec : {M : Type 1} → statement M
 carry-sound-spec =
