@@ -48,7 +48,7 @@ fn greater(a: u8, b: u8) -> u8
 }
 
 // The greatest byte from `from` on. It never leaves early, so that many bytes are compared at a time.
-fn top_from(page: &[u8], from: usize) -> u8
+pub fn top_from(page: &[u8], from: usize) -> u8
     requires { ⌜ from ≤ length (now page) ⌝ }
     ensures { λ r. ⌜ r ≡ top (drop from (now (page .entry))) ⌝ }
 {

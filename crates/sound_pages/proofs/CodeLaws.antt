@@ -9,19 +9,21 @@ use lib.Dec.{eqb, leb, ltb}
 use lib.ListN.{length, getD, drop, drop-of-length-le}
 use lib.Seq.{drop-cons}
 use borrow.Author.Tests.{eq-eqb, ne-eqb, le-ltb, lt-ltb, lt-leb, le-leb}
-use Rattle.terms.specs.Terms.{Place, pages, pageEntries, noPage}
+use Rattle.terms.specs.Terms.{Place, pages, pageEntries, noPage, noCell}
 use Rattle.lists.specs.Parts.{tab}
 use Rattle.lists.specs.Rows.{Row, Rows}
 use Rattle.lists.specs.Tests.{both, either, all}
+use Rattle.lists.proofs.Cases.{by-cases}
 use Rattle.lists.proofs.PartsLaws.{length-tab, getD-tab, tab-suc}
-use Rattle.lists.proofs.TestsLaws.{not-true, not-false, all-cons}
+use Rattle.lists.proofs.TestsLaws.{not-true, not-false, both-left-false, both-right-false, all-cons}
 use Rattle.entries.specs.declared.Entry.{Entry}
 use Rattle.entries.specs.Entries.{rowOf, noRow}
-use Rattle.page.specs.Page.{used, kind, next, cell, count, entryAt, entries}
-use Rattle.page_layout.specs.Layout.{laidOut}
+use Rattle.page.specs.Page.{pageBytes, headBytes, kindFree, used, kind, next, cell, count, entryAt, entries}
+use Rattle.page_layout.specs.Layout.{top, laidOut}
 use Rattle.page.specs.declared.Header.{Header}
 use Rattle.desk.specs.declared.Slot.{Slot}
 use Rattle.sound_pages.specs.Walks.{isPage, fullOrLast, startsAbove, lastRadio, insideOf, pageOk, unmarked}
+use Rattle.sound_pages.proofs.PageLaws.{free-used, free-zeros}
 
 -- ---- lists: two tests
 
@@ -43,7 +45,7 @@ unfolding both
 both-assoc true b c = refl
 both-assoc false b c = refl
 
--- ---- is_page, full_or_last
+-- ---- is_page
 
 abbrev headerOf : List ℕ → Header
 headerOf b = record { used = used b; kind = kind b; next = next b; cell = cell b }
@@ -64,6 +66,27 @@ module _ (k c : ℕ) (b : List ℕ) {l : Bool} (laid : l ≡ laidOut b) where
         ap (λ (x : Header). eqb (x .cell) c) head
         ∙ both-next _ (eq-eqb (kind b) k (sym (ap (λ (x : Header). x .kind) head) ∙ f))
         ∙ both-next _ (sym laid ∙ not-false l good)
+
+-- ---- is_free
+
+module _ (b : List ℕ) (h : Header) (head : h ≡ headerOf b) where
+  pub free-has-entry : (h .used ≡ headBytes → ⊥) → false ≡ isPage kindFree noCell b
+  free-has-entry f = by-cases (isPage kindFree noCell b) (λ t. absurd (f (ap (λ (x : Header). x .used) head ∙ free-used b t))) sym
+
+  pub free-other-kind : (h .kind ≡ kindFree → ⊥) → false ≡ isPage kindFree noCell b
+  unfolding isPage
+  free-other-kind f = sym (both-right-false _ (both-left-false _ (ne-eqb (kind b) kindFree (λ z. f (ap (λ (x : Header). x .kind) head ∙ z)))))
+
+  pub free-of-cell : (h .cell ≡ noCell → ⊥) → false ≡ isPage kindFree noCell b
+  unfolding isPage
+  free-of-cell f = sym (both-right-false _ (both-right-false _ (ne-eqb (cell b) noCell (λ z. f (ap (λ (x : Header). x .cell) head ∙ z)))))
+
+  pub free-tested : length b ≡ pageBytes → h .used ≡ headBytes → h .kind ≡ kindFree → h .cell ≡ noCell → {s : ℕ} → s ≡ top (drop headBytes b) → eqb s 0 ≡ isPage kindFree noCell b
+  free-tested l u k c e =
+      ap (λ (x : ℕ). eqb x 0) e
+      ∙ free-zeros b l (sym (ap (λ (x : Header). x .used) head) ∙ u) (sym (ap (λ (x : Header). x .kind) head) ∙ k) (sym (ap (λ (x : Header). x .cell) head) ∙ c)
+
+-- ---- full_or_last
 
 module _ (b : List ℕ) (h : Header) (head : h ≡ headerOf b) where
   pub last-page : h .next ≡ noPage → true ≡ fullOrLast b

@@ -3,11 +3,11 @@ ghost use mathlib.Core.Bool.{true};
 ghost use mathlib.Core.Path.{_≡_};
 ghost use Prim.Native.Nat.{_≤_};
 ghost use lib.ListN.{length, take};
-ghost use Rattle.terms.specs.Terms.{pageEntries};
+ghost use Rattle.terms.specs.Terms.{pageEntries, noCell};
 ghost use Rattle.lists.specs.Parts.{tab};
 ghost use Rattle.lists.specs.Tests.{both, all};
 ghost use Rattle.entries.specs.Entries.{rowOf};
-ghost use Rattle.page.specs.Page.{pageBytes, next, entryAt, entries};
+ghost use Rattle.page.specs.Page.{pageBytes, kindFree, next, entryAt, entries};
 ghost use Rattle.page.specs.Buffer.{bufferBytes};
 ghost use Rattle.rules.specs.Limits.{maxCells};
 ghost use Rattle.sound_pages.specs.PagesSound.{PagesSound};
@@ -16,6 +16,7 @@ use desk::Desk;
 use desk::Directory;
 use desk::Slot;
 use entries::Entry;
+use page::HEAD_BYTES;
 use page::KIND_FIRST;
 use page::KIND_FREE;
 use page::KIND_FURTHER;
@@ -40,6 +41,24 @@ fn is_page(page: &[u8], kind: u16, cell: u16) -> bool
         return false;
     }
     h.cell == cell
+}
+
+// A free page: no entries, so that all bytes past the header are zero. `is_page` says the same of it; here every bound is known beforehand.
+fn is_free(page: &[u8]) -> bool
+    requires { ⌜ length (now page) ≡ pageBytes ⌝ }
+    ensures { λ r. ⌜ r ≡ isPage kindFree noCell (now (page .entry)) ⌝ }
+{
+    let h = page::read_header(page);
+    if h.used as usize != HEAD_BYTES {
+        return false;
+    }
+    if h.kind != KIND_FREE {
+        return false;
+    }
+    if h.cell != NO_CELL {
+        return false;
+    }
+    page_layout::top_from(page, HEAD_BYTES) == 0
 }
 
 // "every page but the last full"
@@ -240,7 +259,7 @@ fn walk_free(pages: &[u8], marks: [bool; 128], front: u16) -> Walk
             };
         }
         let page = page::page_at(pages, p);
-        if !is_page(page, KIND_FREE, NO_CELL) {
+        if !is_free(page) {
             return Walk {
                 ok: false,
                 marks: m,

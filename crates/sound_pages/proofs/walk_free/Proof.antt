@@ -34,15 +34,15 @@ returns-2 c =
 page-at-requires : tie.Need-page-at-requires Inv-loop μ-loop
 page-at-requires c κs = (search unmarked-below, search unmarked-room)
 
-is-page-requires : tie.Need-is-page-requires Inv-loop μ-loop
-is-page-requires c κs = search needs
+is-free-requires : tie.Need-is-free-requires Inv-loop μ-loop
+is-free-requires c κs = search needs
 
 returns-3 : tie.Need-returns-3 Inv-loop μ-loop
 returns-3 c =
     let k = c .before .before .before in
     let e = k .before .before .before in
     let l = e .before in
-    free-wrong _ _ _ _ (l .loop-test .taken) (l .before .loop .inv) (e .if1 .left) (k .before .is-unmarked .ensures) (k .if2 .left) (c .before .before .page-at .ensures .0) (c .before .is-page .ensures) (c .if3 .taken)
+    free-wrong _ _ _ _ (l .loop-test .taken) (l .before .loop .inv) (e .if1 .left) (k .before .is-unmarked .ensures) (k .if2 .left) (c .before .before .page-at .ensures .0) (c .before .is-free .ensures) (c .if3 .taken)
 
 array-write-m : tie.Need-array-write-m Inv-loop μ-loop
 array-write-m c = search (unmarked-below, needs)
@@ -77,7 +77,7 @@ walk-free-spec =
     is-unmarked-requires
     returns-2
     page-at-requires
-    is-page-requires
+    is-free-requires
     returns-3
     array-write-m
     next-of-requires
