@@ -229,11 +229,6 @@ both-parts true false = refl
 both-parts false b = refl
 
 module _ {Val : Type 0} where
-  -- one row more
-  pub passing-cons : (t : Row Val → Bool) (r : ℕ) (x : Row Val) (l : Rows Val) → passing t r (x ∷ l) ≡ one-if (both (eqb r (x .key)) (t x)) + passing t r l
-  unfolding passing sumBy
-  passing-cons t r x l = refl
-
   pub passing-concat : (t : Row Val → Bool) (r : ℕ) (ls : List (Rows Val)) → passing t r (concat ls) ≡ sumBy (passing t r) ls
   unfolding passing
   passing-concat t r ls = sum-concat (λ x. one-if (both (eqb r (x .key)) (t x))) ls

@@ -30,7 +30,7 @@ use Rattle.sound_radios.specs.Entries.{entriesTest}
 
 -- ---- the tests of a store, by what they look at
 
--- those that look at the entries of all cells
+-- those that look at the entries of all cells, and that of unmarked reports
 abbrev pub rowsTest : Store → Bool
 rowsTest s = entriesTest (s .memo) (s .waiting) (s .on) (s .tally) (rowsOf (s .cells))
 
@@ -59,22 +59,22 @@ module _ (s : Store) where
     chained = cell-tests (λ c. chainTest (c .chain) (c .entries)) (λ c g. true-chain (c .chain) (c .entries) (g .paged)) good;
     radios = row-tests good;
     placed = cell-tests (λ c. insideTest (c .edges) (c .entries)) (λ c g. true-inside (c .edges) (c .entries) (g .placed)) good;
-    present = both-left _ _ r;
-    unmarked = t .unmarked;
+    present = both-left _ _ (both-right _ _ r);
+    unmarked = both-left _ _ r;
     memo = t .memo;
-    lines = both-left _ _ (both-right _ _ r);
+    lines = both-left _ _ (both-right _ _ (both-right _ _ r));
     lasts = t .lasts;
     waiting = t .waiting;
     places = t .places;
     boxed = t .boxed;
     round = t .round;
     tallied = t .tallied;
-    bounded = both-right _ _ (both-right _ _ r);
+    bounded = both-right _ _ (both-right _ _ (both-right _ _ r));
   }
 
   pub pass-rows : Passes s → rowsTest s ≡ true
   unfolding entriesTest
-  pass-rows p = both-intro (p .present) (both-intro (p .lines) (p .bounded))
+  pass-rows p = both-intro (p .unmarked) (both-intro (p .present) (both-intro (p .lines) (p .bounded)))
 
 -- ---- desk and pages that have passed their own tests
 

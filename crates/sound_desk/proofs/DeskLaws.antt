@@ -8,8 +8,6 @@ use native.Mathlib.Omega.{arith}
 use lib.Dec.{eqb, leb, ltb}
 use lib.ListN.{length, length-map}
 use borrow.Author.Tests.{le-leb, leb-true}
-use Rattle.terms.specs.Terms.{maxRadio, maxOn}
-use Rattle.lists.specs.Rows.{UpTo}
 use Rattle.lists.specs.Sums.{concat}
 use Rattle.lists.specs.Tests.{both, all}
 use Rattle.lists.proofs.TestsLaws.{both-left, both-right, both-intro, not-false}
@@ -24,28 +22,24 @@ use Rattle.desk.specs.declared.Memo.{Memo}
 use Rattle.desk.specs.declared.On.{On}
 use Rattle.desk.specs.declared.Desk.{Desk}
 use Rattle.desk.specs.Layout.{lineSlots, slotted, cutListOf, slotOf, noSlot, directoryOf, gridOf, deskOf}
-use Rattle.desk.specs.Views.{cutsBy, radiosOf, slotsIn, directoryWith, edgesOf as rectOf}
+use Rattle.desk.specs.Views.{cutsBy, slotsIn, directoryWith, edgesOf as rectOf}
 use Rattle.desk.proofs.UniqueLaws.{same-cuts, same-slots, same-waiting, same-memo, same-on, same-tally}
 use Rattle.mirror.specs.Grid.{edgesTest, tileTest}
 use Rattle.mirror.specs.Cells.{numbersOf, edgesOf, rowsOf, numbersTest, roundTest}
-use Rattle.mirror.specs.Radios.{onTest, unmarkedTest, staleAt, lineTest, linesTest}
+use Rattle.mirror.specs.Radios.{staleAt, lineTest, linesTest}
 use Rattle.mirror.specs.Round.{tallyTest}
-use Rattle.mirror.specs.Waiting.{waitingTest, fewTest}
+use Rattle.mirror.specs.Waiting.{fewTest}
 use Rattle.mirror.proofs.LoopsLaws.{all-both}
-use Rattle.mirror.proofs.RadiosLaws.{on-true}
-use Rattle.mirror.proofs.WaitingLaws.{waiting-true}
 use Rattle.mirror.proofs.WellLaws.{Passes}
 use Rattle.sound_grid.specs.Views.{rectsIn}
-use Rattle.sound_grid.specs.Sound.{slotsTest, number, cutsSound, directorySound, edgesSound, tileSound, gridSound}
+use Rattle.sound_grid.specs.Sound.{slotsTest, cutsSound, directorySound, edgesSound, tileSound, gridSound}
 use Rattle.sound_grid.proofs.LoopLaws.{stops, goes}
 use Rattle.sound_grid.proofs.SlotLaws.{slots-count}
 use Rattle.sound_grid.proofs.CutsLaws.{cuts-whole, cuts-in, whole-cuts}
 use Rattle.sound_grid.proofs.GridLaws.{directory-count, directory-whole, slots-in, whole-directory}
-use Rattle.waiting.specs.Waiting.{reportsOf}
 use Rattle.waiting.proofs.WaitingLaws.{reports-waitingOf}
-use Rattle.waiting.proofs.OnLaws.{radios-onOf}
 use Rattle.sound_desk.specs.Views.{cellOf}
-use Rattle.sound_desk.specs.Sound.{onSound, reportWeight, waitingSound, missedTest, memoSound, fewSound, unmarkedSound, radiosSound, deskSound, shown, Tests, DeskTests, Shaped}
+use Rattle.sound_desk.specs.Sound.{onSound, reportWeight, waitingSound, missedTest, memoSound, fewSound, radiosSound, deskSound, shown, Tests, DeskTests, Shaped}
 use Rattle.sound_desk.proofs.PartLaws.{map-map, map-same, on-whole, whole-on, waiting-whole, whole-waiting, memo-whole, whole-memo-sound}
 
 -- ---- what a part that has passed gives to the tests after it
@@ -53,19 +47,6 @@ use Rattle.sound_desk.proofs.PartLaws.{map-map, map-same, on-whole, who
 pub waiting-room : {a : Bool} (w : Waiting) → a ≡ waitingSound w → not a ≡ false → w .n ≤ fullMemory
 unfolding waitingSound
 waiting-room {a} w e f = let h = slots-count reportWeight (fullMemory - 1) (w .n) (w .rows) (both-left (slotsTest reportWeight (fullMemory - 1) (w .n) (w .rows)) _ (sym e ∙ not-false a f)) in omega arith
-
-pub waiting-below : {a : Bool} (w : Waiting) → a ≡ waitingSound w → not a ≡ false → UpTo maxRadio (reportsOf w)
-unfolding waitingSound
-waiting-below {a} w e f =
-    waiting-true (reportsOf w) (both-left (waitingTest (reportsOf w)) _ (both-right (slotsTest reportWeight (fullMemory - 1) (w .n) (w .rows)) _ (sym e ∙ not-false a f))) .2
-
-pub on-room : {a : Bool} (on : On) → a ≡ onSound on → not a ≡ false → on .n ≤ maxOn
-unfolding onSound
-on-room {a} on e f = slots-count number maxOn (on .n) (on .radios) (both-left (slotsTest number maxOn (on .n) (on .radios)) _ (sym e ∙ not-false a f))
-
-pub on-below : {a : Bool} (on : On) → a ≡ onSound on → not a ≡ false → UpTo maxRadio (radiosOf on)
-unfolding onSound
-on-below {a} on e f = on-true (radiosOf on) (both-right (slotsTest number maxOn (on .n) (on .radios)) (onTest (radiosOf on)) (sym e ∙ not-false a f)) .2
 
 -- ---- waiting reports and radios on
 
@@ -79,14 +60,9 @@ module _ (easts norths : CutList) (w : Waiting) (on : On) {a : Bool} (waits : a 
     unfolding radiosSound
     radios-heard f = goes waits passed (stops _ heard f)
 
-    module _ (passed′ : not b ≡ false) {k : Bool} (few : k ≡ fewSound easts norths w) where
-      pub radios-few : not k ≡ true → false ≡ radiosSound easts norths w on
-      unfolding radiosSound
-      radios-few f = goes waits passed (goes heard passed′ (stops _ few f))
-
-      pub radios-unmarked : {r : Bool} → not k ≡ false → r ≡ unmarkedSound w on → r ≡ radiosSound easts norths w on
-      unfolding radiosSound
-      radios-unmarked f q = goes waits passed (goes heard passed′ (goes few f q))
+    pub radios-few : {r : Bool} → not b ≡ false → r ≡ fewSound easts norths w → r ≡ radiosSound easts norths w on
+    unfolding radiosSound
+    radios-few f q = goes waits passed (goes heard f q)
 
 -- ---- the desk
 
@@ -144,7 +120,6 @@ record Parts (easts norths : CutList) (cells : Directory) (w : Waiting) (memo : 
   waits : waitingSound w ≡ true
   heard : onSound on ≡ true
   few : fewSound easts norths w ≡ true
-  unmarked : unmarkedSound w on ≡ true
   lines : memoSound memo ≡ true
   tallied : tallyTest tally ≡ true
 
@@ -159,15 +134,14 @@ desk-parts d t =
     let q = parts _ _ (p .1) in
     let w = parts _ _ (q .0) in
     let x = parts _ _ (w .1) in
-    let y = parts _ _ (x .1) in
     let m = parts _ _ (q .1) in
-    record { east = g .0; north = h .0; directory = k .0; edges = l .0; tile = l .1; waits = w .0; heard = x .0; few = y .0; unmarked = y .1; lines = m .0; tallied = m .1 }
+    record { east = g .0; north = h .0; directory = k .0; edges = l .0; tile = l .1; waits = w .0; heard = x .0; few = x .1; lines = m .0; tallied = m .1 }
 
 parts-desk : (d : Desk) → Parts (d .grid .easts) (d .grid .norths) (d .grid .cells) (d .waiting) (d .memo) (d .on) (d .tally) → deskSound d ≡ true
 unfolding deskSound gridSound radiosSound
 parts-desk d p =
     both-intro (both-intro (p .east) (both-intro (p .north) (both-intro (p .directory) (both-intro (p .edges) (p .tile)))))
-    (both-intro (both-intro (p .waits) (both-intro (p .heard) (both-intro (p .few) (p .unmarked)))) (both-intro (p .lines) (p .tallied)))
+    (both-intro (both-intro (p .waits) (both-intro (p .heard) (p .few))) (both-intro (p .lines) (p .tallied)))
 
 module _ (d : Desk) (shape : Shaped d) (sound : deskSound d ≡ true) where
   have : Parts (d .grid .easts) (d .grid .norths) (d .grid .cells) (d .waiting) (d .memo) (d .on) (d .tally)
@@ -197,7 +171,7 @@ module _ (d : Desk) (shape : Shaped d) (sound : deskSound d ≡ true) where
 
   -- and the mirror's tests hold of it
   pub desk-tested : DeskTests (shown d)
-  unfolding edgesSound tileSound fewSound unmarkedSound
+  unfolding edgesSound tileSound fewSound
   desk-tested =
       let c = directory-whole (d .grid .cells) (have .directory) (shape .cells) in
       let w = waiting-whole (d .waiting) (shape .waiting) (have .waits) in
@@ -212,7 +186,6 @@ module _ (d : Desk) (shape : Shaped d) (sound : deskSound d ≡ true) where
         numbered = ap numbersTest (shown-numbers slots) ∙ c .1;
         edges = ap (all (edgesTest cuts)) (shown-edges slots) ∙ have .edges;
         tile = ap (tileTest cuts) (shown-edges slots) ∙ have .tile;
-        unmarked = have .unmarked;
         memo = m .1;
         missed = m .2;
         lasts = m .3;
@@ -233,7 +206,7 @@ cuts-of cuts = let e = cuts-in (cuts .easts) in let n = cuts-in (cuts .norths) i
 
 -- the desk of a store whose tests hold passes
 pub tested-desk : (s : Store) → length (s .memo) ≤ lineSlots → DeskTests s → deskSound (deskOf s) ≡ true
-unfolding deskOf gridOf edgesSound tileSound fewSound unmarkedSound
+unfolding deskOf gridOf edgesSound tileSound fewSound
 tested-desk s short t =
     let cuts = cuts-of (s .cuts) in
     let rects = rects-of (s .cells) in
@@ -251,7 +224,6 @@ tested-desk s short t =
       waits = whole-waiting (s .waiting) (t .waiting) (t .places);
       heard = whole-on (s .on) (t .on);
       few = ap₂ fewTest cuts waits ∙ t .boxed;
-      unmarked = ap₂ unmarkedTest waits (radios-onOf (s .on)) ∙ t .unmarked;
       lines = whole-memo-sound (s .memo) short (t .memo) (t .missed) (t .lasts);
       tallied = t .tallied;
     })
@@ -284,7 +256,6 @@ well-tests s p = record {
   numbered = p .numbers;
   edges = p .edges;
   tile = p .tile;
-  unmarked = p .unmarked;
   memo = p .memo;
   missed = both-left (all (λ l. ltb 0 (l .val .missed)) (s .memo)) _ (sym (all-both (λ l. ltb 0 (l .val .missed)) (λ l. eqb (staleAt (s .memo) (l .key) (concat (rowsOf (s .cells)))) (l .val .missed)) (s .memo)) ∙ p .lines);
   lasts = p .lasts;

@@ -3,10 +3,10 @@
 use mathlib.Core.Bool.{Bool, true}
 use mathlib.Core.List.{List, [], _∷_, map}
 use mathlib.Core.Path.{_≡_}
-use Prim.Native.Nat.{ℕ, suc, _+_, _-_, _*_}
+use Prim.Native.Nat.{ℕ, _+_, _-_, _*_}
 use lib.Dec.{eqb, leb, ltb}
-use lib.ListN.{length, set, take}
-use Rattle.terms.specs.Terms.{maxRadio, maxOn}
+use lib.ListN.{length, take}
+use Rattle.terms.specs.Terms.{maxOn}
 use Rattle.lists.specs.Rows.{Rows}
 use Rattle.lists.specs.Tests.{both, either, all}
 use Rattle.rules.specs.Limits.{maxCells, maxCuts, fullMemory}
@@ -24,7 +24,7 @@ use Rattle.desk.specs.Views.{cutsBy, linesIn, radiosOf, slotsIn}
 use Rattle.memo.specs.Memo.{lastOf, linesOf}
 use Rattle.mirror.specs.Grid.{cutsTest, placeTest, edgesTest, tileTest}
 use Rattle.mirror.specs.Cells.{numbersOf, edgesOf, numbersTest, roundTest}
-use Rattle.mirror.specs.Radios.{onTest, unmarkedTest, memoTest, lastTest, lastsTest}
+use Rattle.mirror.specs.Radios.{onTest, memoTest, lastTest, lastsTest}
 use Rattle.mirror.specs.Round.{tallyTest}
 use Rattle.mirror.specs.Waiting.{waitingTest, placesTest, fewTest}
 use Rattle.sound_grid.specs.Sound.{slotsTest, number, gridSound}
@@ -74,27 +74,15 @@ memoSound m =
     both (slotsTest lineWeight lineSlots (m .n) (linesIn (m .words)))
     (both (memoTest (linesOf m)) (both (all lineMarked (take (m .n) (linesIn (m .words)))) (both (missedTest (linesOf m)) (lastsTest (linesOf m)))))
 
--- ---- waiting reports against cuts and who is on
+-- ---- waiting reports against cuts
 
 unfoldable pub fewSound : CutList → CutList → Waiting → Bool
 fewSound easts norths w = fewTest (cutsBy easts norths) (reportsOf w)
 
--- a mark for each radio, and one for 0
-abbrev pub markSlots : ℕ
-markSlots = suc maxRadio
-
--- each of these radios marked
-unfoldable pub marked : List Bool → List ℕ → List Bool
-marked marks [] = marks
-marked marks (x ∷ xs) = marked (set marks x true) xs
-
-unfoldable pub unmarkedSound : Waiting → On → Bool
-unmarkedSound w on = unmarkedTest (reportsOf w) (radiosOf on)
-
 -- ---- the desk
 
 unfoldable pub radiosSound : CutList → CutList → Waiting → On → Bool
-radiosSound easts norths w on = both (waitingSound w) (both (onSound on) (both (fewSound easts norths w) (unmarkedSound w on)))
+radiosSound easts norths w on = both (waitingSound w) (both (onSound on) (fewSound easts norths w))
 
 unfoldable pub deskSound : Desk → Bool
 deskSound d =
@@ -124,7 +112,6 @@ pub record Tests (cuts : Cuts) (numbers : List ℕ) (rects : List Rect) (waits :
   pub numbered : numbersTest numbers ≡ true
   pub edges : all (edgesTest cuts) rects ≡ true
   pub tile : tileTest cuts rects ≡ true
-  pub unmarked : unmarkedTest waits heard ≡ true
   pub memo : memoTest lines ≡ true
   pub missed : missedTest lines ≡ true
   pub lasts : lastsTest lines ≡ true

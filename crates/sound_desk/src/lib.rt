@@ -1,19 +1,11 @@
 // The test of soundness as far as it looks at the desk alone. The desk may be in any condition: a count is tested before a slot is looked at.
-ghost use mathlib.Core.Bool.{not};
 ghost use mathlib.Core.Path.{_≡_};
-ghost use mathlib.Core.List.{map};
 ghost use Prim.Native.Nat.{_+_, _*_, _<_, _≤_};
-ghost use lib.Dec.{eqb};
-ghost use lib.ListN.{length, take};
-ghost use Rattle.terms.specs.Terms.{maxRadio, maxOn};
-ghost use Rattle.lists.specs.Rows.{UpTo};
-ghost use Rattle.lists.specs.Tests.{either};
+ghost use lib.ListN.{length};
 ghost use Rattle.rules.specs.Limits.{maxCuts, fullMemory};
 ghost use Rattle.desk.specs.Layout.{lineSlots, lineFields};
-ghost use Rattle.desk.specs.Views.{radioRow, radiosOf};
 ghost use Rattle.sound_grid.specs.Sound.{mostField};
-ghost use Rattle.waiting.specs.Waiting.{reportsOf};
-ghost use Rattle.sound_desk.specs.Sound.{onSound, reportWeight, reportTest, waitingSound, lineTest, memoSound, fewSound, markSlots, marked, unmarkedSound, radiosSound, deskSound};
+ghost use Rattle.sound_desk.specs.Sound.{onSound, reportWeight, reportTest, waitingSound, lineTest, memoSound, fewSound, radiosSound, deskSound};
 use boxes::BOXES;
 use desk::CutList;
 use desk::Desk;
@@ -31,9 +23,6 @@ use sound_grid::wide;
 const WAITING_SLOTS: usize = Desk::MAX_WAITING + 1;
 
 const LINE_SLOTS: usize = Desk::MAX_LINES + 1;
-
-// A mark for every radio, and one for 0.
-const RADIOS: usize = terms::MAX_RADIO as usize + 1;
 
 const MOST_IN_BOX: usize = Desk::FULL_BOX - 1;
 
@@ -174,60 +163,9 @@ fn few_sound(easts: CutList, norths: CutList, w: Waiting) -> bool
     true
 }
 
-// ---- unmarked reports
-
-fn radio_index(radio: u16) -> usize
-    requires { ⌜ radio ≤ maxRadio ⌝ }
-    ensures { λ r. ⌜ (r ≡ radio) × (r < markSlots) ⌝ }
-{
-    radio as usize
-}
-
-// Each of the first n radios is marked.
-fn mark_radios(slots: &[u16], n: usize, marks: &mut [bool; RADIOS])
-    requires { ⌜ (n ≤ length (now slots)) × UpTo maxRadio (map radioRow (take n (now slots))) × (length (now marks) ≡ markSlots) ⌝ }
-    ensures { λ _. ⌜ now (marks .exit) ≡ marked (now (marks .entry)) (take n (now (slots .entry))) ⌝ }
-{
-    let mut i: usize = 0;
-    while i < n {
-        let k = radio_index(slots[i]);
-        marks[k] = true;
-        i += 1;
-    }
-}
-
-// Whether a report is marked new, or belongs to a radio on.
-fn belongs(x: Report, on: bool) -> bool
-    ensures { λ r. ⌜ r ≡ either (not (eqb (x .new) 0)) on ⌝ }
-{
-    if x.new != UNMARKED {
-        return true;
-    }
-    on
-}
-
-// Whether each unmarked report belongs to a radio on, by a mark for each radio on.
-fn unmarked_sound(w: Waiting, on: On) -> bool
-    requires { ⌜ (w .n ≤ fullMemory) × UpTo maxRadio (reportsOf w) × (on .n ≤ maxOn) × UpTo maxRadio (radiosOf on) ⌝ }
-    ensures { λ r. ⌜ r ≡ unmarkedSound w on ⌝ }
-{
-    let mut marks = [false; RADIOS];
-    mark_radios(&on.radios, on.n, &mut marks);
-    let mut i: usize = 0;
-    while i < w.n {
-        let x = w.rows[i];
-        let k = radio_index(x.radio);
-        if !belongs(x, marks[k]) {
-            return false;
-        }
-        i += 1;
-    }
-    true
-}
-
 // ---- the desk
 
-// Whether waiting reports and radios on are sound, but for entries.
+// Whether waiting reports and radios on are sound, but for entries and for each other.
 fn radios_sound(easts: CutList, norths: CutList, w: Waiting, on: On) -> bool
     requires { ⌜ (easts .n ≤ maxCuts) × (norths .n ≤ maxCuts) ⌝ }
     ensures { λ r. ⌜ r ≡ radiosSound easts norths w on ⌝ }
@@ -238,10 +176,7 @@ fn radios_sound(easts: CutList, norths: CutList, w: Waiting, on: On) -> bool
     if !on_sound(on) {
         return false;
     }
-    if !few_sound(easts, norths, w) {
-        return false;
-    }
-    unmarked_sound(w, on)
+    few_sound(easts, norths, w)
 }
 
 // Whether a desk in any condition is sound, as far as that shows without the pages. It comes in its parts, for the memo is lent.

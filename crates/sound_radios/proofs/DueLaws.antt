@@ -1,6 +1,6 @@
 -- Loops over radios on, waiting reports and memo lines: each row is added or written at its radio.
-use mathlib.Core.Path.{_≡_, refl, sym, ap, _∙_, subst}
-use mathlib.Core.Bool.{not}
+use mathlib.Core.Path.{_≡_, refl, sym, ap, ap₂, _∙_, subst}
+use mathlib.Core.Bool.{Bool, true, false, not, _&&_}
 use mathlib.Core.List.{List, [], _∷_}
 use mathlib.Core.Option.{Option, none, some}
 use Prim.Native.Nat.{ℕ, zero, suc, _+_, _-_, _*_, _%_, _≤_, _<_, min}
@@ -12,12 +12,12 @@ use lib.Seq.{getD-set-same, getD-set-other}
 use borrow.Author.Tests.{eqb-true, eqb-false}
 use Rattle.terms.specs.Terms.{maxRadio, maxOn}
 use Rattle.lists.specs.Rows.{Rows, Rising, UpTo, find}
-use Rattle.lists.specs.Tests.{one-if, orElse}
+use Rattle.lists.specs.Tests.{one-if, both, either, all, orElse}
 use Rattle.lists.proofs.Cases.{by-cases}
 use Rattle.lists.proofs.RowsLaws.{rising-less, find-below}
-use Rattle.lists.proofs.TestsLaws.{each-drop}
+use Rattle.lists.proofs.TestsLaws.{both-true, all-cons, each-drop}
 use Rattle.rules.specs.Limits.{fullMemory}
-use Rattle.rules.specs.Store.{Line as StoreLine}
+use Rattle.rules.specs.Store.{Report as StoreReport, Line as StoreLine}
 use Rattle.rules.specs.Sweep.{staleBy, stale}
 use Rattle.desk.specs.declared.Waiting.{Waiting}
 use Rattle.desk.specs.declared.Line.{Line}
@@ -26,8 +26,9 @@ use Rattle.desk.specs.Layout.{noReport, lineSlots, lineFields, noLine}
 use Rattle.desk.specs.Views.{linesIn, radioRow, radiosOf}
 use Rattle.desk.proofs.LinesLaws.{length-lines-in}
 use Rattle.memo.specs.Memo.{rowOf, linesOf}
+use Rattle.sound_grid.proofs.LoopLaws.{all-nil}
 use Rattle.waiting.specs.Waiting.{rowOf as reportRow, reportsOf}
-use Rattle.sound_radios.specs.Tables.{tableSize, fieldEnd, half, Blank, added, written, Named, lineNamed, judged, markNew, missedOff, oneOff}
+use Rattle.sound_radios.specs.Tables.{tableSize, fieldEnd, half, Blank, added, written, Named, lineNamed, judged, markNew, belongsBy, missedOff, oneOff}
 use Rattle.sound_radios.proofs.TableLaws.{row-next, row-none, Adding, adding-end, adding-key, adding-turn}
 
 -- ---- radios on
@@ -50,10 +51,38 @@ module _ (radios : List ℕ) (n : ℕ) {t₀ : List ℕ} {i : ℕ} {t : List ℕ
 
 -- ---- waiting reports
 
+-- those before i belong if so: with what is left to test it is the test
+pub record Belonging (t₀ : List ℕ) (l : Rows StoreReport) (i : ℕ) (so : Bool) (t : List ℕ) : Type 0 where
+  pub rise : Rising 0 (drop i l)
+  pub same : both so (all (belongsBy t) (drop i l)) ≡ all (belongsBy t₀) l
+
+and-then : (a b c : Bool) → both (a && b) c ≡ both a (both b c)
+unfolding both
+and-then true b c = refl
+and-then false b c = refl
+
+-- what a radio's number is says nothing of reports of later radios
+belongs-above : (t : List ℕ) (k v b : ℕ) (l : Rows StoreReport) → k ≤ b → Rising b l → all (belongsBy (set t k v)) l ≡ all (belongsBy t) l
+unfolding all
+belongs-above t k v b [] h r = refl
+belongs-above t k v b (x ∷ l) h r =
+    ap₂ both
+    (ap (λ (n : ℕ). either (x .val .new) (not (eqb (n % half) 0))) (getD-set-other t k (x .key) v 0 (λ z. absurd (omega (arith, r .0)))))
+    (belongs-above t k v (x .key) l (omega (arith, r .0)) (r .1))
+
+pub belonging-start : {t : List ℕ} {l : Rows StoreReport} → Rising 0 l → Belonging t l 0 true t
+unfolding both
+belonging-start r = record { rise = r; same = refl }
+
 module _ (w : Waiting) {t₀ : List ℕ} {i : ℕ} {t : List ℕ} (a : Adding markNew t₀ (reportsOf w) i t) where
   pub new-end : w .n ≤ i → t ≡ added markNew t₀ (reportsOf w)
   unfolding reportsOf
   new-end h = adding-end a (row-none reportRow (w .rows) (w .n) i h)
+
+  pub belonging-end : {so : Bool} → Belonging t₀ (reportsOf w) i so t → w .n ≤ i → so ≡ all (belongsBy t₀) (reportsOf w)
+  unfolding reportsOf
+  belonging-end {so} s h =
+      sym (both-true so) ∙ ap (both so) (sym (ap (all (belongsBy t)) (row-none reportRow (w .rows) (w .n) i h) ∙ all-nil (belongsBy t))) ∙ s .same
 
   module _ (size : length (w .rows) ≡ fullMemory) (few : w .n ≤ fullMemory) (more : i < w .n) where
     new-next : drop i (reportsOf w) ≡ reportRow (getD (w .rows) i noReport) ∷ drop (i + 1) (reportsOf w)
@@ -66,6 +95,24 @@ module _ (w : Waiting) {t₀ : List ℕ} {i : ℕ} {t : List ℕ} (a : Adding ma
     pub new-turn : {k m v : ℕ} → k ≡ getD (w .rows) i noReport .radio → m ≡ one-if (not (eqb (getD (w .rows) i noReport .new) 0)) → v ≡ (getD t k 0 + m) % fieldEnd
         → Adding markNew t₀ (reportsOf w) (i + 1) (set t k v)
     new-turn {k} e q r = adding-turn a new-next e (r ∙ ap (λ (n : ℕ). (getD t k 0 + n) % fieldEnd) q)
+
+    -- a radio waits once, so its number is that of the start
+    pub belonging-turn : {so b : Bool} {k : ℕ} (v : ℕ) → Belonging t₀ (reportsOf w) i so t → k ≡ getD (w .rows) i noReport .radio
+        → b ≡ either (not (eqb (getD (w .rows) i noReport .new) 0)) (not (eqb (getD t k 0 % half) 0))
+        → Belonging t₀ (reportsOf w) (i + 1) (so && b) (set t k v)
+    belonging-turn {so} {b} {k} v s e q =
+        let x = reportRow (getD (w .rows) i noReport) in
+        let l = drop (i + 1) (reportsOf w) in
+        let r : Rising 0 (x ∷ l) = subst (λ (y : Rows StoreReport). Rising 0 y) new-next (s .rise) in
+        let here : b ≡ belongsBy t x = q ∙ ap (λ (j : ℕ). either (x .val .new) (not (eqb (getD t j 0 % half) 0))) e in
+        record {
+          rise = rising-less 0 (x .key) l (omega (arith, r .0)) (r .1);
+          same =
+              ap (both (so && b)) (belongs-above t k v (x .key) l (omega (arith, e)) (r .1))
+              ∙ and-then so b (all (belongsBy t) l)
+              ∙ ap (both so) (ap (λ (y : Bool). both y (all (belongsBy t) l)) here ∙ sym (all-cons (belongsBy t) x l) ∙ ap (all (belongsBy t)) (sym new-next))
+              ∙ s .same;
+        }
 
 -- ---- memo lines
 

@@ -38,6 +38,7 @@ pub record Known (b : List ℕ) (d : Desk) : Type 0 where
   pub rise : Rising 0 (linesOf (d .memo))
   pub lines : UpTo maxRadio (linesOf (d .memo))
   pub missed : Each (λ l. 0 < l .val .missed) (linesOf (d .memo))
+  pub reports-rise : Rising 0 (reportsOf (d .waiting))
   pub reports : UpTo maxRadio (reportsOf (d .waiting))
   pub radios : UpTo maxRadio (radiosOf (d .on))
   pub on-once : (q : ℕ) → keyed q (radiosOf (d .on)) ≤ 1
@@ -71,6 +72,7 @@ module _ (b : List ℕ) (d : Desk) (shape : Shaped d) (sound : deskSound d ≡ t
         rise = m .0;
         lines = m .1;
         missed = all-each (λ l. ltb 0 (l .val .missed)) (λ l. 0 < l .val .missed) (linesOf (d .memo)) (λ l e. ltb-true 0 (l .val .missed) e) (t .missed);
+        reports-rise = w .1;
         reports = w .2;
         radios = o .2;
         on-once = λ q. one-row q (radiosOf (d .on)) (o .1);

@@ -8,7 +8,7 @@ use lib.ListN.{length, take}
 use Rattle.terms.specs.Terms.{Place, maxRadio, maxOn}
 use Rattle.lists.specs.Rows.{Row, Rows, Rising, UpTo}
 use Rattle.lists.specs.Sums.{concat}
-use Rattle.lists.specs.Tests.{both}
+use Rattle.lists.specs.Tests.{both, all}
 use Rattle.lists.proofs.TestsLaws.{not-true, not-false}
 use Rattle.rules.specs.Limits.{maxCells, fullMemory}
 use Rattle.rules.specs.Store.{Report as StoreReport, Line as StoreLine}
@@ -17,24 +17,25 @@ use Rattle.desk.specs.declared.Desk.{Desk}
 use Rattle.desk.specs.Layout.{lineSlots}
 use Rattle.desk.specs.Views.{radiosOf}
 use Rattle.memo.specs.Memo.{linesOf}
-use Rattle.mirror.specs.Radios.{onAt, presentTest, linesTest}
+use Rattle.mirror.specs.Radios.{onAt, presentTest, unmarkedTest, linesTest}
 use Rattle.mirror.specs.Round.{staleCount, staleCounts, boundTest}
+use Rattle.sound_grid.proofs.LoopLaws.{stops, goes}
 use Rattle.waiting.specs.Waiting.{reportsOf}
 use Rattle.sound_radios.specs.Entries.{rowsRead, entriesTest}
-use Rattle.sound_radios.specs.Tables.{Blank, added, written, Named, weigh, markNew, missedOff, oneOff, staleSum, allSettled}
+use Rattle.sound_radios.specs.Tables.{Blank, added, written, Named, weigh, markNew, belongsBy, missedOff, oneOff, staleSum, allSettled}
 use Rattle.sound_radios.proofs.KnownLaws.{Known}
-use Rattle.sound_radios.proofs.TestLaws.{balance-counts, settled-tests}
+use Rattle.sound_radios.proofs.TestLaws.{belong-unmarked, balance-counts, settled-tests}
 
-stops : (a b c : Bool) → both a b ≡ false → false ≡ both a (both b c)
+stops-two : (a b c : Bool) → both a b ≡ false → false ≡ both a (both b c)
 unfolding both
-stops true b c e = sym (ap (λ (x : Bool). both x c) e)
-stops false b c e = refl
+stops-two true b c e = sym (ap (λ (x : Bool). both x c) e)
+stops-two false b c e = refl
 
-goes : (a b c : Bool) → both a b ≡ true → c ≡ both a (both b c)
+goes-two : (a b c : Bool) → both a b ≡ true → c ≡ both a (both b c)
 unfolding both
-goes true b c e = sym (ap (λ (x : Bool). both x c) e)
-goes false true c e = cc
-goes false false c e = cc
+goes-two true b c e = sym (ap (λ (x : Bool). both x c) e)
+goes-two false true c e = cc
+goes-two false false c e = cc
 
 module _ {b : List ℕ} {d : Desk} (k : Known b d) where
   -- ---- what the calls ask
@@ -45,8 +46,8 @@ module _ {b : List ℕ} {d : Desk} (k : Known b d) where
   pub on-asks : (d .on .n ≤ maxOn) × UpTo maxRadio (radiosOf (d .on))
   on-asks = (k .few-on, k .radios)
 
-  pub new-asks : (d .waiting .n ≤ fullMemory) × UpTo maxRadio (reportsOf (d .waiting))
-  new-asks = (k .few-waiting, k .reports)
+  pub new-asks : (d .waiting .n ≤ fullMemory) × Rising 0 (reportsOf (d .waiting)) × UpTo maxRadio (reportsOf (d .waiting))
+  new-asks = (k .few-waiting, k .reports-rise, k .reports)
 
   pub cells-asks : {words lines : List ℕ} → Named words lines → (d .grid .cells .n ≤ maxCells) × Named words lines × UpTo maxRadio (concat (rowsRead b (d .grid .cells)))
   cells-asks n = (k .few-cells, n, k .entries)
@@ -68,37 +69,49 @@ module _ {b : List ℕ} {d : Desk} (k : Known b d) where
   abbrev rows : List (Rows Place)
   rows = rowsRead b (d .grid .cells)
 
-  module _ {z t₁ t₂ t₃ t₄ : List ℕ} {old : Row Place → Bool} (counts : List ℕ) {settled : Bool} (blank : Blank z)
-      (all-missed : t₁ ≡ written missedOff z (linesOf (d .memo))) (as-memo : old ≡ stale (linesOf (d .memo)))
-      (all-on : t₂ ≡ added oneOff t₁ (radiosOf (d .on))) (all-new : t₃ ≡ added markNew t₂ (reportsOf (d .waiting)))
-      (all-found : t₄ ≡ added (weigh old) t₃ (concat (rowsRead b (d .grid .cells))))
-      (all-stale : take (d .grid .cells .n) counts ≡ map (staleSum old) (rowsRead b (d .grid .cells)))
-      (said : settled ≡ allSettled t₄) where
-    balance : t₄ ≡ added (weigh (stale lines)) (added markNew (added oneOff (written missedOff z lines) heard) waits) (concat rows)
-    balance =
-        all-found
-        ∙ ap₂ (λ (o : Row Place → Bool) (t : List ℕ). added (weigh o) t (concat rows)) as-memo
-        (all-new ∙ ap (λ (t : List ℕ). added markNew t waits) (all-on ∙ ap (λ (t : List ℕ). added oneOff t heard) all-missed))
+  module _ {z t₁ t₂ : List ℕ} {so : Bool} (blank : Blank z) (all-missed : t₁ ≡ written missedOff z (linesOf (d .memo)))
+      (all-on : t₂ ≡ added oneOff t₁ (radiosOf (d .on))) (belong : so ≡ all (belongsBy t₂) (reportsOf (d .waiting))) where
+    due : t₂ ≡ added oneOff (written missedOff z lines) heard
+    due = all-on ∙ ap (λ (t : List ℕ). added oneOff t heard) all-missed
 
-    tests : allSettled t₄ ≡ both (presentTest lines (concat rows) waits heard) (linesTest lines (concat rows))
+    unmarked : so ≡ unmarkedTest waits heard
     unfolding onAt
-    tests =
-        settled-tests lines (concat rows) waits heard (k .once) (omega (arith, k .waits, k .few-waiting)) (k .on-once) t₄
-        (balance-counts lines (k .rise) (k .lines) blank (concat rows) waits heard (k .entries) (k .reports) (k .radios) balance)
-        (k .rise) (k .lines) (k .missed)
+    unmarked = belong ∙ ap (λ (t : List ℕ). all (belongsBy t) waits) due ∙ belong-unmarked lines (k .rise) (k .lines) blank waits heard (k .radios) (k .on-once)
 
-    counted : take (d .grid .cells .n) counts ≡ staleCounts lines rows
-    unfolding staleSum staleCount
-    counted = all-stale ∙ ap (λ (old : Row Place → Bool). map (staleSum old) rows) as-memo
-
-    pub radios-fail : not settled ≡ true → false ≡ entriesTest (linesOf (d .memo)) (reportsOf (d .waiting)) (radiosOf (d .on)) (d .tally) (rowsRead b (d .grid .cells))
+    pub radios-off : not so ≡ true → false ≡ entriesTest (linesOf (d .memo)) (reportsOf (d .waiting)) (radiosOf (d .on)) (d .tally) (rowsRead b (d .grid .cells))
     unfolding entriesTest
-    radios-fail t =
-        stops (presentTest lines (concat rows) waits heard) (linesTest lines (concat rows)) (boundTest (staleCounts lines rows) (length waits) (d .tally)) (sym tests ∙ sym said ∙ not-true settled t)
+    radios-off f = stops _ unmarked f
 
-    pub radios-bound : not settled ≡ false → {r : Bool} → r ≡ boundTest (take (d .grid .cells .n) counts) (d .waiting .n) (d .tally)
-        → r ≡ entriesTest (linesOf (d .memo)) (reportsOf (d .waiting)) (radiosOf (d .on)) (d .tally) (rowsRead b (d .grid .cells))
-    unfolding entriesTest
-    radios-bound t {r} e =
-        e ∙ ap₂ (λ (l : List ℕ) (n : ℕ). boundTest l n (d .tally)) counted (sym (k .waits))
-        ∙ goes (presentTest lines (concat rows) waits heard) (linesTest lines (concat rows)) (boundTest (staleCounts lines rows) (length waits) (d .tally)) (sym tests ∙ sym said ∙ not-false settled t)
+    module _ (passed : not so ≡ false) {t₃ t₄ : List ℕ} {old : Row Place → Bool} (counts : List ℕ) {settled : Bool} (as-memo : old ≡ stale (linesOf (d .memo)))
+        (all-new : t₃ ≡ added markNew t₂ (reportsOf (d .waiting))) (all-found : t₄ ≡ added (weigh old) t₃ (concat (rowsRead b (d .grid .cells))))
+        (all-stale : take (d .grid .cells .n) counts ≡ map (staleSum old) (rowsRead b (d .grid .cells)))
+        (said : settled ≡ allSettled t₄) where
+      balance : t₄ ≡ added (weigh (stale lines)) (added markNew (added oneOff (written missedOff z lines) heard) waits) (concat rows)
+      balance =
+          all-found
+          ∙ ap₂ (λ (o : Row Place → Bool) (t : List ℕ). added (weigh o) t (concat rows)) as-memo (all-new ∙ ap (λ (t : List ℕ). added markNew t waits) due)
+
+      tests : allSettled t₄ ≡ both (presentTest lines (concat rows) waits heard) (linesTest lines (concat rows))
+      unfolding onAt
+      tests =
+          settled-tests lines (concat rows) waits heard (k .once) (omega (arith, k .waits, k .few-waiting)) (k .on-once) t₄
+          (balance-counts lines (k .rise) (k .lines) blank (concat rows) waits heard (k .entries) (k .reports) (k .radios) balance)
+          (k .rise) (k .lines) (k .missed)
+
+      counted : take (d .grid .cells .n) counts ≡ staleCounts lines rows
+      unfolding staleSum staleCount
+      counted = all-stale ∙ ap (λ (old : Row Place → Bool). map (staleSum old) rows) as-memo
+
+      pub radios-fail : not settled ≡ true → false ≡ entriesTest (linesOf (d .memo)) (reportsOf (d .waiting)) (radiosOf (d .on)) (d .tally) (rowsRead b (d .grid .cells))
+      unfolding entriesTest
+      radios-fail t =
+          goes unmarked passed
+          (stops-two (presentTest lines (concat rows) waits heard) (linesTest lines (concat rows)) (boundTest (staleCounts lines rows) (length waits) (d .tally)) (sym tests ∙ sym said ∙ not-true settled t))
+
+      pub radios-bound : not settled ≡ false → {r : Bool} → r ≡ boundTest (take (d .grid .cells .n) counts) (d .waiting .n) (d .tally)
+          → r ≡ entriesTest (linesOf (d .memo)) (reportsOf (d .waiting)) (radiosOf (d .on)) (d .tally) (rowsRead b (d .grid .cells))
+      unfolding entriesTest
+      radios-bound t {r} e =
+          goes unmarked passed
+          (e ∙ ap₂ (λ (l : List ℕ) (n : ℕ). boundTest l n (d .tally)) counted (sym (k .waits))
+          ∙ goes-two (presentTest lines (concat rows) waits heard) (linesTest lines (concat rows)) (boundTest (staleCounts lines rows) (length waits) (d .tally)) (sym tests ∙ sym said ∙ not-false settled t))

@@ -1,17 +1,18 @@
 -- The theorem: what is found of every radio is what is due exactly if the tests of the entries pass, for each number holds two counts that do not meet.
-use mathlib.Core.Path.{_≡_, refl, sym, ap, _∙_}
+use mathlib.Core.Path.{_≡_, refl, sym, ap, _∙_, fun-ext}
 use mathlib.Core.Bool.{Bool, true, not, cond}
 use mathlib.Core.List.{List}
+use mathlib.Core.Logic.{_≢_}
 use mathlib.Core.Option.{Option, none, some}
 use Prim.Native.Nat.{ℕ, zero, suc, _+_, _-_, _*_, _%_, _≤_, _<_, min}
 use native.Mathlib.Omega.{arith}
-use lib.Dec.{eqb}
+use lib.Dec.{eqb, ltb}
 use lib.ListN.{length, getD, replicate, length-replicate}
-use borrow.Author.Tests.{eqb-true, eq-eqb, ne-eqb, lt-ltb}
+use borrow.Author.Tests.{ltb-true, ltb-false, eqb-true, lt-ltb, eq-eqb, ne-eqb}
 use Rattle.terms.specs.Terms.{Place, maxRadio}
 use Rattle.lists.specs.Rows.{Row, Rows, Rising, UpTo, find, countFound}
 use Rattle.lists.specs.Sums.{sumBy}
-use Rattle.lists.specs.Tests.{one-if, both, Each}
+use Rattle.lists.specs.Tests.{one-if, both, either, all, Each}
 use Rattle.lists.proofs.Cases.{by-cases}
 use Rattle.lists.proofs.RowsLaws.{sum-at-key, find-each}
 use Rattle.lists.proofs.SumsLaws.{sum-ext, sum-add, sum-times, sum-le, length-sum}
@@ -20,10 +21,10 @@ use Rattle.rules.specs.Limits.{maxCells, fullMemory}
 use Rattle.rules.specs.Store.{Report, Line}
 use Rattle.rules.specs.Sweep.{stale}
 use Rattle.mirror.specs.Loops.{passing}
-use Rattle.mirror.specs.Radios.{liveAt, staleAt, newAt, onAt, entriesAt, presentTest, lineTest, linesTest, missedAt}
+use Rattle.mirror.specs.Radios.{liveAt, staleAt, newAt, onAt, entriesAt, presentTest, unmarkedTest, lineTest, linesTest, missedAt}
 use Rattle.mirror.proofs.LoopsLaws.{bool-same, allTo-true, true-allTo}
 use Rattle.mirror.proofs.RadiosLaws.{stale-live, stale-missed}
-use Rattle.sound_radios.specs.Tables.{tableSize, fieldEnd, half, Blank, keyed, added, written, weigh, markNew, missedOff, oneOff, allSettled}
+use Rattle.sound_radios.specs.Tables.{tableSize, fieldEnd, half, Blank, keyed, added, written, weigh, markNew, belongsBy, missedOff, oneOff, allSettled}
 use Rattle.sound_radios.proofs.TableLaws.{Comes, share, added-comes, foundOr, written-found, length-added, length-written}
 
 -- ---- a table of zeros
@@ -65,6 +66,10 @@ share-weight old q es =
     (λ x. by-cases (eqb q (x .key)) (λ e. rw e (by-cases (old x) (λ t. rw t) (λ t. rw t))) (λ e. rw e))
     ∙ sum-add f (λ x. half * g x) es ∙ ap (λ (n : ℕ). sumBy f es + n) (sum-times half g es)
 
+-- of a number with 1 taken off, the low half is not 0
+low-short : (n m : ℕ) → (n + half * m) % fieldEnd ≡ fieldEnd - 1 → n % half ≢ 0
+low-short n m e h = absurd (omega arith)
+
 -- ---- what is found, less what is due
 
 -- of each radio: with its missed count it comes to what is found, less 1 where it is on
@@ -90,9 +95,33 @@ module _ (memo : Rows Line) (rise : Rising 0 memo) (ends : UpTo maxRadio memo) w
     off-missed q =
         rw (written-found missedOff z 0 memo q rise (in-table z memo (blank .size) ends), blank .zeros q, missed-found q) (off-found q (find memo q))
 
+    -- and 1 of each radio on
+    off-on : (on : Rows (Unit {0})) → UpTo maxRadio on → (q : ℕ) → Comes (added oneOff (written missedOff z memo) on) q (half * min (missedAt q memo) (half - 1)) ((fieldEnd - 1) * onAt q on)
+    unfolding onAt
+    off-on on heard q =
+        let t = written missedOff z memo in
+        let n : 0 + sumBy (share oneOff q) on ≡ (fieldEnd - 1) * onAt q on = omega (arith, share-each (fieldEnd - 1) q on) in
+        rw (← n)
+        (added-comes oneOff t on q (half * min (missedAt q memo) (half - 1)) 0 (in-table t on (length-written missedOff z memo ∙ blank .size) heard) (off-missed q))
+
+    -- so the low half tells who is on
+    on-half : (on : Rows (Unit {0})) → UpTo maxRadio on → (q : ℕ) → onAt q on ≤ 1 → not (eqb (getD (added oneOff (written missedOff z memo) on) q 0 % half) 0) ≡ ltb 0 (onAt q on)
+    on-half on heard q once =
+        let n = getD (added oneOff (written missedOff z memo) on) q 0 in
+        let k = off-on on heard q in
+        by-cases (ltb 0 (onAt q on))
+        (λ t.
+        let o : onAt q on ≡ 1 = let h = ltb-true 0 (onAt q on) t in omega arith in
+        ap not (ne-eqb (n % half) 0 (low-short n (min (missedAt q memo) (half - 1)) (k .1 ∙ ap (λ (m : ℕ). ((fieldEnd - 1) * m) % fieldEnd) o))) ∙ sym t)
+        (λ t. let h = ltb-false 0 (onAt q on) t in ap not (eq-eqb (n % half) 0 (omega (arith, k .0, k .1))) ∙ sym t)
+
+    pub belong-unmarked : (ws : Rows Report) (on : Rows (Unit {0})) → UpTo maxRadio on → ((q : ℕ) → onAt q on ≤ 1) → all (belongsBy (added oneOff (written missedOff z memo) on)) ws ≡ unmarkedTest ws on
+    unfolding unmarkedTest
+    belong-unmarked ws on heard once = ap (λ (p : Row Report → Bool). all p ws) (fun-ext (λ w. ap (either (w .val .new)) (on-half on heard (w .key) (once (w .key)))))
+
     module _ (es : Rows Place) (ws : Rows Report) (on : Rows (Unit {0})) (radios : UpTo maxRadio es) (reports : UpTo maxRadio ws) (heard : UpTo maxRadio on) where
       pub balance-counts : {t : List ℕ} → t ≡ added (weigh (stale memo)) (added markNew (added oneOff (written missedOff z memo) on) ws) es → Balance memo es ws on t
-      unfolding liveAt newAt staleAt onAt
+      unfolding liveAt newAt staleAt
       balance-counts {t} e q =
           let t₁ = written missedOff z memo in
           let t₂ = added oneOff t₁ on in
@@ -101,11 +130,10 @@ module _ (memo : Rows Line) (rise : Rising 0 memo) (ends : UpTo maxRadio memo) w
           let l₂ : length t₂ ≡ tableSize = length-added oneOff t₁ on ∙ l₁ in
           let l₃ : length t₃ ≡ tableSize = length-added markNew t₂ ws ∙ l₂ in
           let c = half * min (missedAt q memo) (half - 1) in
-          let k₂ = added-comes oneOff t₁ on q c 0 (in-table t₁ on l₁ heard) (off-missed q) in
-          let k₃ = added-comes markNew t₂ ws q c _ (in-table t₂ ws l₂ reports) k₂ in
+          let k₃ = added-comes markNew t₂ ws q c _ (in-table t₂ ws l₂ reports) (off-on on heard q) in
           let k₄ = added-comes (weigh (stale memo)) t₃ es q c _ (in-table t₃ es l₃ radios) k₃ in
-          let n : 0 + sumBy (share oneOff q) on + sumBy (share markNew q) ws + sumBy (share (weigh (stale memo)) q) es ≡ (fieldEnd - 1) * onAt q on + (liveAt memo q es + newAt q ws + half * staleAt memo q es) =
-          omega (arith, share-each (fieldEnd - 1) q on, share-one (λ w. w .val .new) q ws, share-weight (stale memo) q es) in
+          let n : (fieldEnd - 1) * onAt q on + sumBy (share markNew q) ws + sumBy (share (weigh (stale memo)) q) es ≡ (fieldEnd - 1) * onAt q on + (liveAt memo q es + newAt q ws + half * staleAt memo q es) =
+          omega (arith, share-one (λ w. w .val .new) q ws, share-weight (stale memo) q es) in
           rw (e, ← n) k₄
 
   -- ---- the lines' test, radio by radio

@@ -1,4 +1,4 @@
--- The test of soundness as far as it judges entries: by memo, marks and who is on, and the round's inequality (01, "A sound store").
+-- The test of soundness as far as it judges entries: by memo, marks and who is on, and the round's inequality; and unmarked reports, by who is on (01, "A sound store").
 use mathlib.Core.Bool.{Bool}
 use mathlib.Core.List.{List, map}
 use Prim.Native.Nat.{ℕ}
@@ -11,7 +11,7 @@ use Rattle.page.specs.Buffer.{chainFrom}
 use Rattle.rules.specs.Store.{Report, Line}
 use Rattle.desk.specs.declared.Directory.{Directory}
 use Rattle.desk.specs.Views.{slotsIn}
-use Rattle.mirror.specs.Radios.{presentTest, linesTest}
+use Rattle.mirror.specs.Radios.{presentTest, unmarkedTest, linesTest}
 use Rattle.mirror.specs.Round.{staleCounts, boundTest}
 use Rattle.sweep.specs.Sweep.{entriesOn}
 
@@ -23,12 +23,14 @@ entriesFrom b first = entriesOn b (chainFrom pages b first)
 unfoldable pub rowsRead : List ℕ → Directory → List (Rows Place)
 rowsRead b d = map (λ s. entriesFrom b (s .first)) (slotsIn d)
 
--- the mirror's tests that look at entries
+-- the mirror's tests that look at entries, and that of unmarked reports
 unfoldable pub entriesTest : Rows Line → Rows Report → Rows (Unit {0}) → ℕ → List (Rows Place) → Bool
 entriesTest memo ws on c rows =
+    -- "An unmarked waiting report belongs to a radio on."
+    both (unmarkedTest ws on)
     -- "Each radio on has one entry that isn't stale or a waiting report marked new, and not both. A radio off has neither."
-    both (presentTest memo (concat rows) ws on)
+    (both (presentTest memo (concat rows) ws on)
     -- "missed counts of 1 or more equal to that radio's stale entries, an entry being judged by the line's place"
     (both (linesTest memo (concat rows))
     -- "the stale entries in cells at place k and later, plus all waiting, are at most 16 × (63 − k) + c + 127"
-    (boundTest (staleCounts memo rows) (length ws) c))
+    (boundTest (staleCounts memo rows) (length ws) c)))

@@ -1,6 +1,6 @@
 -- Tables by radio, a number for each: what the code of the test keeps, and what it answers from them.
 use mathlib.Core.Path.{_≡_}
-use mathlib.Core.Bool.{Bool, true, false}
+use mathlib.Core.Bool.{Bool, true, false, not}
 use mathlib.Core.List.{List, [], _∷_}
 use mathlib.Core.Option.{Option, none, some}
 use Prim.Native.Nat.{ℕ, zero, suc, _+_, _-_, _*_, _%_, _≤_, min}
@@ -9,7 +9,7 @@ use lib.ListN.{length, getD, set}
 use Rattle.terms.specs.Terms.{Place, maxRadio}
 use Rattle.lists.specs.Rows.{Row, Rows}
 use Rattle.lists.specs.Sums.{sumBy}
-use Rattle.lists.specs.Tests.{one-if}
+use Rattle.lists.specs.Tests.{one-if, either}
 use Rattle.rules.specs.Store.{Report, Line}
 use Rattle.rules.specs.Sweep.{staleBy}
 use Rattle.desk.specs.Layout.{lineSlots, lineFields, noLine}
@@ -82,6 +82,10 @@ weigh old e = weight (old e)
 -- of a waiting report marked new: in the low half
 abbrev pub markNew : Row Report → ℕ
 markNew w = one-if (w .val .new)
+
+-- of a waiting report, before any is added: it is marked new, or its radio is on, for then 1 is taken off in the low half
+abbrev pub belongsBy : List ℕ → Row Report → Bool
+belongsBy t w = either (w .val .new) (not (eqb (getD t (w .key) 0 % half) 0))
 
 -- of a line: its missed count, or as much of it as the high half holds, is taken off there
 abbrev pub missedOff : Row Line → ℕ

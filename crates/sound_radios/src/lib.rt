@@ -1,4 +1,4 @@
-// The test of soundness as far as it judges entries: by memo, marks and who is on, and the round's inequality. Desk and pages have passed the tests of their own.
+// The test of soundness as far as it judges entries: by memo, marks and who is on, and the round's inequality; and unmarked reports, by who is on. Desk and pages have passed the tests of their own.
 // What is due of each radio is taken off its number in a table by radio, and what is found is added: each must come to 0 again.
 ghost use mathlib.Core.Bool.{true, not};
 ghost use mathlib.Core.List.{map};
@@ -9,7 +9,7 @@ ghost use lib.ListN.{length, take};
 ghost use Rattle.terms.specs.Terms.{maxRadio, maxOn, pageEntries};
 ghost use Rattle.lists.specs.Rows.{Rising, UpTo};
 ghost use Rattle.lists.specs.Sums.{concat};
-ghost use Rattle.lists.specs.Tests.{one-if};
+ghost use Rattle.lists.specs.Tests.{one-if, either, all};
 ghost use Rattle.entries.specs.Entries.{rowOf, placeOf};
 ghost use Rattle.page.specs.Page.{pageBytes, entries};
 ghost use Rattle.rules.specs.Limits.{maxCells, fullMemory, sweepEvery};
@@ -22,7 +22,7 @@ ghost use Rattle.sound_pages.specs.PagesSound.{PagesSound};
 ghost use Rattle.waiting.specs.Waiting.{reportsOf};
 ghost use Rattle.sound_desk.specs.Sound.{deskSound};
 ghost use Rattle.sound_radios.specs.Entries.{entriesFrom, rowsRead, entriesTest};
-ghost use Rattle.sound_radios.specs.Tables.{tableSize, fieldEnd, half, Blank, added, written, allSettled, Named, judged, weigh, markNew, missedOff, oneOff, staleSum};
+ghost use Rattle.sound_radios.specs.Tables.{tableSize, fieldEnd, half, Blank, added, written, allSettled, Named, judged, weigh, markNew, belongsBy, missedOff, oneOff, staleSum};
 use desk::Desk;
 use desk::Directory;
 use desk::Grid;
@@ -188,20 +188,31 @@ fn tally_cells<'a>(
     counts
 }
 
-// Each waiting report marked new adds 1 to its radio's low half.
-fn tally_new<'a>(w: Waiting, balance: &'a mut [u16; RADIOS])
-    requires { ⌜ (w .n ≤ fullMemory) × UpTo maxRadio (reportsOf w) ⌝ }
-    ensures { λ _. ⌜ now (balance .exit) ≡ added markNew (now (balance .entry)) (reportsOf w) ⌝ }
+// Whether a report is marked new, or of a radio on: its number has then 1 taken off, and the low half is not 0.
+fn belongs(new: u16, number: u16) -> bool
+    ensures { λ r. ⌜ r ≡ either (not (eqb new 0)) (not (eqb (number % half) 0)) ⌝ }
+{
+    (new != UNMARKED) | (number % HALF != 0)
+}
+
+// Each waiting report marked new adds 1 to its radio's low half; whether each unmarked one belongs to a radio on. One loop does both, for another function would get a copy
+// of all slots; a radio waits once, so what others add does not change its number.
+fn tally_new<'a>(w: Waiting, balance: &'a mut [u16; RADIOS]) -> bool
+    requires { ⌜ (w .n ≤ fullMemory) × Rising 0 (reportsOf w) × UpTo maxRadio (reportsOf w) ⌝ }
+    ensures { λ r. ⌜ (now (balance .exit) ≡ added markNew (now (balance .entry)) (reportsOf w)) × (r ≡ all (belongsBy (now (balance .entry))) (reportsOf w)) ⌝ }
 {
     let n = w.n;
+    let mut so = true;
     let mut i: usize = 0;
     while i < n {
         let x = w.rows[i];
         let k = radio_index(x.radio);
         let before = balance[k];
+        so = so & belongs(x.new, before);
         balance[k] = plus(before, apart(x.new, UNMARKED));
         i += 1;
     }
+    so
 }
 
 // ---- what is due
@@ -307,7 +318,7 @@ fn bound_ok(counts: [u16; CELLS], n: usize, waiting: usize, c: u16) -> bool
     true
 }
 
-// Whether the entries are those that memo, marks and who is on call for, and no more stale ones wait for the cleaner than may. The desk comes in its parts, for the memo is lent.
+// Whether unmarked reports belong to radios on, the entries are those that memo, marks and who is on call for, and no more stale ones wait for the cleaner than may. The desk comes in its parts, for the memo is lent.
 pub fn radios_sound<'a>(
     pages: &'a [u8],
     grid: Grid,
@@ -324,7 +335,9 @@ pub fn radios_sound<'a>(
     let mut lines = [NO_LINE; RADIOS];
     lines_due(words, n, &mut balance, &mut lines);
     on_due(&on.radios, on.n, &mut balance);
-    tally_new(waiting, &mut balance);
+    if !tally_new(waiting, &mut balance) {
+        return false;
+    }
     let cells = grid.cells;
     let counts = tally_cells(pages, cells, words, &lines, &mut balance);
     if !all_settled(&balance) {

@@ -1,4 +1,4 @@
-use Rattle.sound_desk.proofs.DeskLaws.{waiting-room, waiting-below, on-room, on-below, radios-waiting, radios-heard, radios-few, radios-unmarked}
+use Rattle.sound_desk.proofs.DeskLaws.{waiting-room, radios-waiting, radios-heard, radios-few}
 use borrow.Author.Needs.{needs}
 use Rattle.sound_desk.proofs.radios_sound.Statement.{statement}
 use Rattle.sound_desk.proofs.radios_sound.Tie as tie
@@ -21,12 +21,6 @@ few-sound-requires c κs = (search needs, search needs, search waiting-room)
 returns-3 : tie.Need-returns-3
 returns-3 c = search radios-few
 
-unmarked-sound-requires : tie.Need-unmarked-sound-requires
-unmarked-sound-requires c κs = (search waiting-room, search waiting-below, search on-room, search on-below)
-
-returns-4 : tie.Need-returns-4
-returns-4 c = search radios-unmarked
-
 pub radios-sound-spec : {M : Type 1} → statement M
 radios-sound-spec =
     tie.close
@@ -36,6 +30,4 @@ radios-sound-spec =
     on-sound-requires
     returns-2
     few-sound-requires
-    returns-3
-    unmarked-sound-requires
-    returns-4)
+    returns-3)

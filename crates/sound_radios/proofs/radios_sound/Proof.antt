@@ -1,8 +1,8 @@
--- What desk and pages have shown lets the tables be filled (`Known`); then the table is settled, and the inequality holds, exactly if the entries pass.
+-- What desk and pages have shown lets the tables be filled (`Known`); then the low halves show who is on, and the table is settled, and the inequality holds, exactly if the entries pass.
 use Rattle.lists.proofs.ShiftLaws.{length-mapped}
 use Rattle.sound_radios.proofs.KnownLaws.{Known, known}
 use Rattle.sound_radios.proofs.TestLaws.{blank-zeros}
-use Rattle.sound_radios.proofs.SoundLaws.{lines-asks, on-asks, new-asks, cells-asks, bound-asks, radios-fail, radios-bound}
+use Rattle.sound_radios.proofs.SoundLaws.{lines-asks, on-asks, new-asks, cells-asks, bound-asks, radios-off, radios-fail, radios-bound}
 use borrow.Author.Needs.{needs}
 use Rattle.sound_radios.proofs.radios_sound.Statement.{statement}
 use Rattle.sound_radios.proofs.radios_sound.Tie as tie
@@ -28,30 +28,39 @@ on-due-requires c κs = let a = on-asks (shown (c .before .before .before .befor
 tally-new-requires : tie.Need-tally-new-requires
 tally-new-requires c κs = new-asks (shown (c .before .before .before .before .before .before .before .before .before))
 
+returns : tie.Need-returns
+returns c =
+    let n = c .before in
+    let o = n .before .before in
+    let l = o .before .before .before .before in
+    radios-off (shown (l .before .before .before .before)) blank-zeros (l .lines-due .ensures .0) (o .on-due .ensures) (n .tally-new .ensures .1) (c .if1 .taken)
+
 tally-cells-requires : tie.Need-tally-cells-requires
-tally-cells-requires c κs = let l = c .before .before .before .before .before .before .before .before .before in cells-asks (shown (l .before .before .before .before)) (l .lines-due .ensures .1)
+tally-cells-requires c κs = let l = c .before .before .before .before .before .before .before .before .before .before in cells-asks (shown (l .before .before .before .before)) (l .lines-due .ensures .1)
 
 all-settled-requires : tie.Need-all-settled-requires
 all-settled-requires c κs = search needs
 
-returns : tie.Need-returns
-returns c =
-    let t = c .before .before .before in
-    let n = t .before .before .before .before in
-    let o = n .before .before in
-    let l = o .before .before .before .before in
-    radios-fail (shown (l .before .before .before .before)) _ blank-zeros (l .lines-due .ensures .0) (l .lines-due .ensures .2) (o .on-due .ensures) (n .tally-new .ensures) (t .tally-cells .ensures .0) (t .tally-cells .ensures .1) (c .before .all-settled .ensures) (c .if1 .taken)
-
-bound-ok-requires : tie.Need-bound-ok-requires
-bound-ok-requires c κs = bound-asks (shown (c .before .before .before .before .before .before .before .before .before .before .before .before .before .before .before .before .before))
-
 returns-2 : tie.Need-returns-2
 returns-2 c =
-    let t = c .before .before .before .before in
-    let n = t .before .before .before .before in
+    let t = c .before .before .before in
+    let i = t .before .before .before .before in
+    let n = i .before in
     let o = n .before .before in
     let l = o .before .before .before .before in
-    radios-bound (shown (l .before .before .before .before)) _ blank-zeros (l .lines-due .ensures .0) (l .lines-due .ensures .2) (o .on-due .ensures) (n .tally-new .ensures) (t .tally-cells .ensures .0) (t .tally-cells .ensures .1) (c .before .before .all-settled .ensures) (c .before .if1 .left) (c .bound-ok .ensures)
+    radios-fail (shown (l .before .before .before .before)) blank-zeros (l .lines-due .ensures .0) (o .on-due .ensures) (n .tally-new .ensures .1) (i .if1 .left) _ (l .lines-due .ensures .2) (n .tally-new .ensures .0) (t .tally-cells .ensures .0) (t .tally-cells .ensures .1) (c .before .all-settled .ensures) (c .if2 .taken)
+
+bound-ok-requires : tie.Need-bound-ok-requires
+bound-ok-requires c κs = bound-asks (shown (c .before .before .before .before .before .before .before .before .before .before .before .before .before .before .before .before .before .before))
+
+returns-3 : tie.Need-returns-3
+returns-3 c =
+    let t = c .before .before .before .before in
+    let i = t .before .before .before .before in
+    let n = i .before in
+    let o = n .before .before in
+    let l = o .before .before .before .before in
+    radios-bound (shown (l .before .before .before .before)) blank-zeros (l .lines-due .ensures .0) (o .on-due .ensures) (n .tally-new .ensures .1) (i .if1 .left) _ (l .lines-due .ensures .2) (n .tally-new .ensures .0) (t .tally-cells .ensures .0) (t .tally-cells .ensures .1) (c .before .before .all-settled .ensures) (c .before .if2 .left) (c .bound-ok .ensures)
 
 pub radios-sound-spec : {M : Type 1} → statement M
 radios-sound-spec =
@@ -60,8 +69,9 @@ radios-sound-spec =
     lines-due-requires
     on-due-requires
     tally-new-requires
+    returns
     tally-cells-requires
     all-settled-requires
-    returns
+    returns-2
     bound-ok-requires
-    returns-2)
+    returns-3)

@@ -1,4 +1,4 @@
--- The reports so far are added (`Adding`).
+-- The reports so far are added (`Adding`), and tested by what the table held before (`Belonging`).
 use mathlib.Core.Path.{_≡_}
 use Prim.Native.Nat.{_-_, _≤_}
 use lib.ListN.{length}
@@ -7,19 +7,19 @@ use Rattle.rules.specs.Limits.{fullMemory}
 use Rattle.waiting.specs.Waiting.{reportsOf}
 use Rattle.sound_radios.specs.Tables.{markNew}
 use Rattle.sound_radios.proofs.TableLaws.{Adding, adding-start}
-use Rattle.sound_radios.proofs.DueLaws.{new-radio, new-turn, new-end}
+use Rattle.sound_radios.proofs.DueLaws.{Belonging, belonging-start, new-radio, new-turn, new-end, belonging-turn, belonging-end}
 use borrow.Author.Needs.{needs}
 use Rattle.sound_radios.proofs.tally_new.Statement.{statement}
 use Rattle.sound_radios.proofs.tally_new.Tie as tie
 
 abbrev Inv-loop : tie.InvT-loop
-Inv-loop balance₀ w n i₀ balance i = (i ≤ w .n) × (length (w .rows) ≡ fullMemory) × Adding markNew balance₀ (reportsOf w) i balance
+Inv-loop balance₀ w n so₀ i₀ balance so i = (i ≤ w .n) × (length (w .rows) ≡ fullMemory) × Adding markNew balance₀ (reportsOf w) i balance × Belonging balance₀ (reportsOf w) i so balance
 
 abbrev μ-loop : tie.MeasureT-loop
-μ-loop balance₀ w n i₀ balance i = w .n - i
+μ-loop balance₀ w n so₀ i₀ balance so i = w .n - i
 
 loop-holds : tie.Need-loop-holds Inv-loop μ-loop
-loop-holds c = (search needs, search length-mapped, search adding-start)
+loop-holds c = (search needs, search length-mapped, search adding-start, search belonging-start)
 
 mul-x : tie.Need-mul-x Inv-loop μ-loop
 mul-x c = search needs
@@ -35,6 +35,9 @@ mul-before c = search needs
 
 element-copy-out-before : tie.Need-element-copy-out-before Inv-loop μ-loop
 element-copy-out-before c = search needs
+
+belongs-requires : tie.Need-belongs-requires Inv-loop μ-loop
+belongs-requires c κs = search needs
 
 apart-requires : tie.Need-apart-requires Inv-loop μ-loop
 apart-requires c κs = search needs
@@ -55,10 +58,10 @@ loop-less : tie.Need-loop-less Inv-loop μ-loop
 loop-less c = search needs
 
 loop-again : tie.Need-loop-again Inv-loop μ-loop
-loop-again c = (search needs, search needs, search new-turn)
+loop-again c = (search needs, search needs, search new-turn, search belonging-turn)
 
 returns : tie.Need-returns Inv-loop μ-loop
-returns c = search new-end
+returns c = (search new-end, search belonging-end)
 
 pub tally-new-spec : {M : Type 1} → statement M
 tally-new-spec =
@@ -72,6 +75,7 @@ tally-new-spec =
     radio-index-requires
     mul-before
     element-copy-out-before
+    belongs-requires
     apart-requires
     plus-requires
     mul-balance
