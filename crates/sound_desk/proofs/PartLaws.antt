@@ -1,7 +1,7 @@
 -- Radios on, waiting reports and memo lines: what the code's tests come to, and that the test of each part says just that the part is that of its rows
 -- and that the mirror's tests of these hold.
 use mathlib.Core.Path.{_≡_, refl, sym, ap, ap₂, _∙_}
-use mathlib.Core.Bool.{Bool, true, false, cond}
+use mathlib.Core.Bool.{Bool, true, false, not, cond}
 use mathlib.Core.List.{List, [], _∷_, map}
 use mathlib.Core.Logic.{_≢_}
 use mathlib.Core.Option.{Option, none, some}
@@ -35,7 +35,7 @@ use Rattle.mirror.specs.Waiting.{waitingTest, placesTest}
 use Rattle.mirror.proofs.LoopsLaws.{all-both}
 use Rattle.sound_grid.specs.Sound.{weighs, slotsTest, number}
 use Rattle.sound_grid.proofs.LoopLaws.{true-both, all-map, few-used, Weighed, weighed-end}
-use Rattle.sound_grid.proofs.SlotLaws.{slots-long, slots-heavy, slots-fit, slots-used, slots-slotted, slotted-slots}
+use Rattle.sound_grid.proofs.SlotLaws.{slots-long, slots-heavy, slots-fit, slots-unclear, slots-clear, slots-used, slots-slotted, slotted-slots}
 use Rattle.waiting.specs.Waiting.{rowOf as reportRow, reportsOf}
 use Rattle.waiting.proofs.WaitingLaws.{report-row, reports-waitingOf}
 use Rattle.waiting.proofs.OnLaws.{radios-onOf}
@@ -72,9 +72,9 @@ module _ (on : On) where
   unfolding onSound
   on-long h = sym (both-left-false (onTest (radiosOf on)) (slots-long number maxOn (on .n) (on .radios) h))
 
-  pub on-heavy : {s : ℕ} → s ≡ weighs number (on .n) (on .radios) → s ≢ 0 → false ≡ onSound on
+  pub on-unclear : {b : Bool} → b ≡ eqb (weighs number (on .n) (on .radios)) 0 → not b ≡ true → false ≡ onSound on
   unfolding onSound
-  on-heavy e h = sym (both-left-false (onTest (radiosOf on)) (slots-heavy number maxOn (on .n) (on .radios) e h))
+  on-unclear e f = sym (both-left-false (onTest (radiosOf on)) (slots-unclear number maxOn (on .n) (on .radios) e f))
 
   on-used : on .n ≤ maxOn → onTest (radiosOf on) ≡ risesTo maxRadio 0 heard
   unfolding onTest radiosOf
@@ -82,9 +82,9 @@ module _ (on : On) where
       true-both (risesTo maxRadio 0 (keys (map radioRow heard))) (le-leb (length (map radioRow heard)) maxOn (rw (length-map heard radioRow) (few-used (on .n) maxOn (on .radios) h)))
       ∙ ap (risesTo maxRadio 0) (keys-radios heard)
 
-  pub on-rise : {s : ℕ} {r : Bool} → on .n ≤ maxOn → s ≡ weighs number (on .n) (on .radios) → s ≡ 0 → r ≡ risesTo maxRadio 0 (take (on .n) (on .radios)) → r ≡ onSound on
+  pub on-rise : {b r : Bool} → on .n ≤ maxOn → b ≡ eqb (weighs number (on .n) (on .radios)) 0 → not b ≡ false → r ≡ risesTo maxRadio 0 (take (on .n) (on .radios)) → r ≡ onSound on
   unfolding onSound
-  on-rise h e z q = q ∙ sym (on-used h) ∙ sym (true-both (onTest (radiosOf on)) (slots-fit number maxOn (on .n) (on .radios) h e z))
+  on-rise h e f q = q ∙ sym (on-used h) ∙ sym (true-both (onTest (radiosOf on)) (slots-clear number maxOn (on .n) (on .radios) h e f))
 
   pub on-whole : length (on .radios) ≡ maxOn → onSound on ≡ true → (on ≡ onOf (radiosOf on)) × (onTest (radiosOf on) ≡ true)
   unfolding onSound onOf radiosOf
@@ -289,17 +289,17 @@ module _ (m : Memo) where
       ∙ ap (both (all lineMarked noted)) (all-both (λ x. ltb 0 (x .missed)) (λ x. lastTest (lastOf x)) noted
       ∙ ap₂ both (sym (all-map (λ (x : Row StoreLine). ltb 0 (x .val .missed)) rowOf noted)) (sym (all-map (λ (x : Row StoreLine). lastTest (x .val .last)) rowOf noted))))
 
-  module _ (size : length (m .words) ≡ lineFields * lineSlots) {k s : ℕ} (from : k ≡ lineFields * m .n) (said : s ≡ weighs number k (m .words)) where
-    weight : s ≡ weighs lineWeight (m .n) (linesIn (m .words))
-    weight = said ∙ ap (λ (j : ℕ). weighs number j (m .words)) from ∙ rest-weighs (m .n) lineSlots (m .words) size
+  module _ (size : length (m .words) ≡ lineFields * lineSlots) {k : ℕ} (from : k ≡ lineFields * m .n) {b : Bool} (said : b ≡ eqb (weighs number k (m .words)) 0) where
+    cleared : b ≡ eqb (weighs lineWeight (m .n) (linesIn (m .words))) 0
+    cleared = said ∙ ap (λ (w : ℕ). eqb w 0) (ap (λ (j : ℕ). weighs number j (m .words)) from ∙ rest-weighs (m .n) lineSlots (m .words) size)
 
-    pub memo-heavy : s ≢ 0 → false ≡ memoSound m
+    pub memo-unclear : not b ≡ true → false ≡ memoSound m
     unfolding memoSound
-    memo-heavy h = sym (both-left-false linesOk (slots-heavy lineWeight lineSlots (m .n) (linesIn (m .words)) weight h))
+    memo-unclear f = sym (both-left-false linesOk (slots-unclear lineWeight lineSlots (m .n) (linesIn (m .words)) cleared f))
 
-    pub memo-climb : {r : Bool} → m .n ≤ lineSlots → s ≡ 0 → r ≡ climbs (λ x. x .radio) lineTest 0 (take (m .n) (linesIn (m .words))) → r ≡ memoSound m
+    pub memo-climb : {r : Bool} → m .n ≤ lineSlots → not b ≡ false → r ≡ climbs (λ x. x .radio) lineTest 0 (take (m .n) (linesIn (m .words))) → r ≡ memoSound m
     unfolding memoSound
-    memo-climb h z q = q ∙ memo-used ∙ sym (true-both linesOk (slots-fit lineWeight lineSlots (m .n) (linesIn (m .words)) h weight z))
+    memo-climb h f q = q ∙ memo-used ∙ sym (true-both linesOk (slots-clear lineWeight lineSlots (m .n) (linesIn (m .words)) h cleared f))
 
   memo-laid : length (m .words) ≡ lineFields * lineSlots → slotsTest lineWeight lineSlots (m .n) (linesIn (m .words)) ≡ true → all lineMarked noted ≡ true → m ≡ memoOf (linesOf m)
   unfolding linesOf memoOf

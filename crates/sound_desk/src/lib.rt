@@ -16,7 +16,7 @@ use desk::Report;
 use desk::Waiting;
 use sound_grid::goes_on;
 use sound_grid::grid_sound;
-use sound_grid::rest;
+use sound_grid::is_clear;
 use sound_grid::rises;
 use sound_grid::wide;
 
@@ -39,7 +39,7 @@ pub fn on_sound(on: On) -> bool
     if Desk::MAX_ON < on.n {
         return false;
     }
-    if rest(&on.radios, on.n) != 0 {
+    if !is_clear(&on.radios, on.n) {
         return false;
     }
     rises(&on.radios, on.n, terms::MAX_RADIO)
@@ -122,7 +122,7 @@ pub fn memo_sound<'a>(words: &'a [u16; Desk::MEMO_WORDS], n: usize) -> bool
     if LINE_SLOTS < n {
         return false;
     }
-    if rest(words, Desk::LINE_FIELDS * n) != 0 {
+    if !is_clear(words, Desk::LINE_FIELDS * n) {
         return false;
     }
     let mut last: u16 = 0;

@@ -1,11 +1,10 @@
 -- Cuts: what the code's tests come to, and that the test says just that the part is that of its cuts and that the mirror's test of these holds.
 use mathlib.Core.Path.{_≡_, refl, sym, ap, _∙_}
-use mathlib.Core.Bool.{Bool, true, false}
+use mathlib.Core.Bool.{Bool, true, false, not}
 use mathlib.Core.List.{List}
-use mathlib.Core.Logic.{_≢_}
 use Prim.Native.Nat.{ℕ, _≤_, _<_}
 use native.Mathlib.Omega.{arith}
-use lib.Dec.{leb}
+use lib.Dec.{eqb, leb}
 use lib.ListN.{length, take}
 use borrow.Author.Tests.{le-leb, leb-true}
 use Rattle.lists.proofs.TestsLaws.{both-left, both-right, both-intro, both-left-false}
@@ -18,23 +17,23 @@ use Rattle.mirror.specs.Loops.{risesTo}
 use Rattle.mirror.specs.Grid.{cutsTest}
 use Rattle.sound_grid.specs.Sound.{weighs, slotsTest, number, cutsSound}
 use Rattle.sound_grid.proofs.LoopLaws.{true-both, few-used}
-use Rattle.sound_grid.proofs.SlotLaws.{slots-long, slots-heavy, slots-fit, slots-used, slots-slotted, slotted-slots}
+use Rattle.sound_grid.proofs.SlotLaws.{slots-long, slots-unclear, slots-clear, slots-used, slots-slotted, slotted-slots}
 
 module _ (c : CutList) where
   pub cuts-long : maxCuts < c .n → false ≡ cutsSound c
   unfolding cutsSound
   cuts-long h = sym (both-left-false (cutsTest (cutsIn c)) (slots-long number maxCuts (c .n) (c .at) h))
 
-  pub cuts-heavy : {s : ℕ} → s ≡ weighs number (c .n) (c .at) → s ≢ 0 → false ≡ cutsSound c
+  pub cuts-unclear : {b : Bool} → b ≡ eqb (weighs number (c .n) (c .at)) 0 → not b ≡ true → false ≡ cutsSound c
   unfolding cutsSound
-  cuts-heavy e h = sym (both-left-false (cutsTest (cutsIn c)) (slots-heavy number maxCuts (c .n) (c .at) e h))
+  cuts-unclear e f = sym (both-left-false (cutsTest (cutsIn c)) (slots-unclear number maxCuts (c .n) (c .at) e f))
 
-  pub cuts-rise : {s : ℕ} {r : Bool} → c .n ≤ maxCuts → s ≡ weighs number (c .n) (c .at) → s ≡ 0 → r ≡ risesTo lastMetre 0 (take (c .n) (c .at)) → r ≡ cutsSound c
+  pub cuts-rise : {b r : Bool} → c .n ≤ maxCuts → b ≡ eqb (weighs number (c .n) (c .at)) 0 → not b ≡ false → r ≡ risesTo lastMetre 0 (take (c .n) (c .at)) → r ≡ cutsSound c
   unfolding cutsSound cutsTest cutsIn
-  cuts-rise h e z q =
+  cuts-rise h e f q =
       q
       ∙ sym (true-both (risesTo lastMetre 0 (take (c .n) (c .at))) (le-leb (length (take (c .n) (c .at))) maxCuts (few-used (c .n) maxCuts (c .at) h)))
-      ∙ sym (true-both (cutsTest (take (c .n) (c .at))) (slots-fit number maxCuts (c .n) (c .at) h e z))
+      ∙ sym (true-both (cutsTest (take (c .n) (c .at))) (slots-clear number maxCuts (c .n) (c .at) h e f))
 
   pub cuts-whole : length (c .at) ≡ maxCuts → cutsSound c ≡ true → (c ≡ cutListOf (cutsIn c)) × (cutsTest (cutsIn c) ≡ true)
   unfolding cutsSound cutListOf cutsIn

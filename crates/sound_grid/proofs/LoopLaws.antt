@@ -9,7 +9,7 @@ use native.Mathlib.Numerals.{add-one}
 use lib.Dec.{eqb, leb, ltb}
 use lib.ListN.{length, getD, take, drop, replicate, length-take, length-replicate, getD-replicate, drop-of-length-le, List·getD-eq-default}
 use lib.Seq.{drop-cons, getD-take}
-use borrow.Author.Tests.{ltb-true, ltb-false, lt-ltb, le-ltb, eq-eqb, ne-eqb}
+use borrow.Author.Tests.{ltb-true, ltb-false, lt-ltb, le-ltb, eqb-true, eqb-false, eq-eqb, ne-eqb}
 use Rattle.lists.specs.Sums.{sumBy, count}
 use Rattle.lists.specs.Tests.{one-if, both, all}
 use Rattle.lists.proofs.Cases.{by-cases}
@@ -17,7 +17,7 @@ use Rattle.lists.proofs.SumsLaws.{sum-nil, sum-cons}
 use Rattle.lists.proofs.TestsLaws.{both-left-false, both-true, all-cons, not-true, not-false}
 use Rattle.mirror.specs.Loops.{risesTo}
 use Rattle.mirror.proofs.LoopsLaws.{rises-nil, rises-cons}
-use Rattle.sound_grid.specs.Sound.{weighs}
+use Rattle.sound_grid.specs.Sound.{weighs, number}
 
 -- ---- lists
 
@@ -187,3 +187,37 @@ module _ {A : Type 0} {w : A → ℕ} {xs : List A} {size n i sum : ℕ} (r : We
 
   pub weighed-end : size ≤ i → sum ≡ weighs w n xs
   weighed-end h = omega (arith, weigh-none w xs i (omega (arith, r .sized)), r .same)
+
+-- ---- whether the slots that are not used are zero
+
+-- those up to i are if so: with the rest it is the test
+pub record Clear (xs : List ℕ) (n : ℕ) (so : Bool) (i : ℕ) : Type 0 where
+  pub same : both so (eqb (weighs number i xs) 0) ≡ eqb (weighs number n xs) 0
+
+pub clear-start : (xs : List ℕ) (n : ℕ) → Clear xs n true n
+unfolding both
+clear-start xs n = record { same = refl }
+
+-- a sum is 0 just if its parts are
+sum-clear : (a b : ℕ) → eqb (a + b) 0 ≡ both (eqb a 0) (eqb b 0)
+unfolding both
+sum-clear a b =
+    by-cases (eqb a 0)
+    (λ t. let e : a + b ≡ b = omega (arith, eqb-true a 0 t) in rw t (ap (λ (k : ℕ). eqb k 0) e))
+    (λ t. rw t (ne-eqb (a + b) 0 (omega (arith, eqb-false a 0 t))))
+
+module _ {xs : List ℕ} {n : ℕ} {so : Bool} {i : ℕ} (r : Clear xs n so i) where
+  pub clear-turn : i < length xs → Clear xs n (so && eqb (getD xs i 0) 0) (i + 1)
+  clear-turn more =
+      let x = eqb (getD xs i 0) 0 in
+      let rest = eqb (weighs number (i + 1) xs) 0 in
+      record {
+        same =
+            ap (λ (y : Bool). both y rest) (and-both so x)
+            ∙ both-then so x rest
+            ∙ ap (both so) (sym (sum-clear (getD xs i 0) (weighs number (i + 1) xs)) ∙ ap (λ (k : ℕ). eqb k 0) (sym (weigh-cons number xs i 0 more)))
+            ∙ r .same;
+      }
+
+  pub clear-end : length xs ≤ i → so ≡ eqb (weighs number n xs) 0
+  clear-end h = sym (both-true so) ∙ ap (both so) (sym (eq-eqb (weighs number i xs) 0 (weigh-none number xs i h))) ∙ r .same

@@ -1,6 +1,6 @@
 -- What the test of a part's slots says: they hold what is in use, and zero past it.
 use mathlib.Core.Path.{_≡_, refl, sym, ap, ap₂, _∙_}
-use mathlib.Core.Bool.{true, false}
+use mathlib.Core.Bool.{Bool, true, false, not}
 use mathlib.Core.List.{List, [], _∷_, _++_}
 use mathlib.Core.Logic.{_≢_}
 use Prim.Native.Nat.{ℕ, zero, suc, _-_, _≤_, _<_}
@@ -10,7 +10,7 @@ use lib.ListN.{length, take, drop, replicate, length-drop, take-append-drop}
 use lib.Seq.{drop-append-seam, length-take-le}
 use borrow.Author.Tests.{le-leb, lt-leb, leb-true, eqb-true, eq-eqb, ne-eqb}
 use Rattle.lists.specs.Sums.{sumBy}
-use Rattle.lists.proofs.TestsLaws.{both-left, both-right, both-intro, both-left-false, both-right-false}
+use Rattle.lists.proofs.TestsLaws.{both-left, both-right, both-intro, both-left-false, both-right-false, not-true, not-false}
 use Rattle.desk.specs.Layout.{slotted}
 use Rattle.sound_grid.specs.Sound.{weighs, slotsTest}
 
@@ -41,6 +41,14 @@ module _ {A : Type 0} (w : A → ℕ) (most n : ℕ) (xs : List A) where
   pub slots-fit : {s : ℕ} → n ≤ most → s ≡ weighs w n xs → s ≡ 0 → slotsTest w most n xs ≡ true
   unfolding slotsTest
   slots-fit h e z = both-intro (le-leb n most h) (eq-eqb (weighs w n xs) 0 (sym e ∙ z))
+
+  pub slots-unclear : {b : Bool} → b ≡ eqb (weighs w n xs) 0 → not b ≡ true → slotsTest w most n xs ≡ false
+  unfolding slotsTest
+  slots-unclear {b} e f = both-right-false (leb n most) (sym e ∙ not-true b f)
+
+  pub slots-clear : {b : Bool} → n ≤ most → b ≡ eqb (weighs w n xs) 0 → not b ≡ false → slotsTest w most n xs ≡ true
+  unfolding slotsTest
+  slots-clear {b} h e f = both-intro (le-leb n most h) (sym e ∙ not-false b f)
 
   module _ (t : slotsTest w most n xs ≡ true) where
     pub slots-count : n ≤ most

@@ -3,7 +3,7 @@ ghost use mathlib.Core.Bool.{true};
 ghost use mathlib.Core.Path.{_≡_};
 ghost use mathlib.Core.List.{[], _∷_};
 ghost use Prim.Native.Nat.{_+_, _*_, _<_, _≤_, min};
-ghost use lib.Dec.{leb, ltb};
+ghost use lib.Dec.{eqb, leb, ltb};
 ghost use lib.ListN.{length, take};
 ghost use Rattle.lists.specs.Sums.{count};
 ghost use Rattle.lists.specs.Tests.{one-if, both};
@@ -58,18 +58,18 @@ pub fn rises(slots: &[u16], n: usize, top: u16) -> bool
     so
 }
 
-// What the slots from n on weigh.
-pub fn rest(slots: &[u16], n: usize) -> u32
-    requires { ⌜ (n ≤ length (now slots)) × (length (now slots) ≤ mostField) ⌝ }
-    ensures { λ r. ⌜ r ≡ weighs number n (now (slots .entry)) ⌝ }
+// Whether each slot from n on is zero. It never leaves early, so that many are looked at at a time.
+pub fn is_clear(slots: &[u16], n: usize) -> bool
+    requires { ⌜ n ≤ length (now slots) ⌝ }
+    ensures { λ r. ⌜ r ≡ eqb (weighs number n (now (slots .entry))) 0 ⌝ }
 {
-    let mut sum: u32 = 0;
+    let mut so = true;
     let mut i = n;
     while i < slots.len() {
-        sum = sum + wide(slots[i]);
+        so = so & (slots[i] == 0);
         i += 1;
     }
-    sum
+    so
 }
 
 // ---- cuts
@@ -81,7 +81,7 @@ pub fn cuts_sound(c: CutList) -> bool
     if Desk::MAX_CUTS < c.n {
         return false;
     }
-    if rest(&c.at, c.n) != 0 {
+    if !is_clear(&c.at, c.n) {
         return false;
     }
     rises(&c.at, c.n, Desk::LAST_METRE)

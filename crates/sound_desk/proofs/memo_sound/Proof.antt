@@ -5,7 +5,7 @@ use Rattle.desk.specs.Views.{linesIn}
 use Rattle.desk.proofs.LinesLaws.{length-lines-in}
 use Rattle.sound_desk.specs.Sound.{lineTest}
 use Rattle.sound_desk.proofs.ClimbLaws.{Climbs, climb-start, read-stops, read-fails, read-turn, climb-end}
-use Rattle.sound_desk.proofs.PartLaws.{memo-long, memo-heavy, memo-climb}
+use Rattle.sound_desk.proofs.PartLaws.{memo-long, memo-unclear, memo-climb}
 use borrow.Author.Needs.{needs}
 use Rattle.sound_desk.proofs.memo_sound.Statement.{statement}
 use Rattle.sound_desk.proofs.memo_sound.Tie as tie
@@ -19,14 +19,14 @@ abbrev μ-loop : tie.MeasureT-loop
 returns : tie.Need-returns Inv-loop μ-loop
 returns c = search memo-long
 
-mul-rest : tie.Need-mul-rest Inv-loop μ-loop
-mul-rest c = search needs
+mul-is-clear : tie.Need-mul-is-clear Inv-loop μ-loop
+mul-is-clear c = search needs
 
-rest-requires : tie.Need-rest-requires Inv-loop μ-loop
-rest-requires c κs = search needs
+is-clear-requires : tie.Need-is-clear-requires Inv-loop μ-loop
+is-clear-requires c κs = search needs
 
 returns-2 : tie.Need-returns-2 Inv-loop μ-loop
-returns-2 c = search memo-heavy
+returns-2 c = search memo-unclear
 
 loop-holds : tie.Need-loop-holds Inv-loop μ-loop
 loop-holds c = (search needs, climb-start _ _ _ _ lineSlots (search length-lines-in) (search needs))
@@ -65,8 +65,8 @@ memo-sound-spec =
     Inv-loop
     μ-loop
     returns
-    mul-rest
-    rest-requires
+    mul-is-clear
+    is-clear-requires
     returns-2
     loop-holds
     line-at-requires
