@@ -1,4 +1,4 @@
--- The directory: numbers by marks, edges by the cuts, tiling by memory cells; what the code's tests come to.
+-- The directory: numbers by marks, and the edges of each cell; what the code's tests come to.
 use mathlib.Core.Path.{_≡_, refl, sym, ap, _∙_}
 use mathlib.Core.Bool.{Bool, true, false, not}
 use mathlib.Core.List.{List, [], _∷_, map}
@@ -6,24 +6,24 @@ use mathlib.Core.Logic.{_≢_}
 use Prim.Native.Nat.{ℕ, _+_, _≤_, _<_}
 use native.Mathlib.Omega.{arith}
 use native.Mathlib.Numerals.{add-one}
-use lib.Dec.{eqb, leb, ltb}
+use lib.Dec.{eqb, ltb}
 use lib.ListN.{length, getD, set, take, replicate, length-map, length-set, List·getD-map}
 use lib.Seq.{take-suc, getD-take, getD-set-same, getD-set-other, length-take-le, take-all}
-use borrow.Author.Tests.{lt-ltb, le-ltb, eqb-true, eqb-false, eq-eqb, ne-eqb}
+use borrow.Author.Tests.{lt-ltb, le-ltb, eqb-true, eqb-false, eq-eqb}
 use Rattle.lists.specs.Sums.{count}
-use Rattle.lists.specs.Tests.{one-if, both, either, Each, all}
+use Rattle.lists.specs.Tests.{one-if, both, Each, all}
 use Rattle.lists.proofs.Cases.{by-cases}
 use Rattle.lists.proofs.SumsLaws.{sum-take-drop, sum-nil, sum-last}
-use Rattle.lists.proofs.TestsLaws.{both-left, both-right, both-intro, both-left-false, both-right-false, either-left, not-true, not-false, each-append, each-all}
-use Rattle.rules.specs.Limits.{lastMetre, maxCells}
+use Rattle.lists.proofs.TestsLaws.{both-left, both-right, both-intro, both-left-false, both-right-false, each-append, each-all}
+use Rattle.rules.specs.Limits.{maxCells}
 use Rattle.desk.specs.declared.CutList.{CutList}
 use Rattle.desk.specs.declared.Slot.{Slot}
 use Rattle.desk.specs.declared.Directory.{Directory}
 use Rattle.desk.specs.Layout.{noSlot}
-use Rattle.desk.specs.Views.{cutsIn, cutsBy, slotsIn, directoryWith, edgesOf as rectOf}
+use Rattle.desk.specs.Views.{cutsBy, slotsIn, directoryWith, edgesOf as rectOf}
 use Rattle.desk.proofs.UniqueLaws.{take-slotted}
 use Rattle.mirror.specs.Cells.{numbersTest, roundTest}
-use Rattle.mirror.specs.Grid.{lowTest, highTest, spanTest, edgesTest}
+use Rattle.mirror.specs.Grid.{edgesTest}
 use Rattle.mirror.proofs.LoopsLaws.{all-false, at-most-twice, marks-at-most}
 use Rattle.sound_grid.specs.Views.{numbersIn}
 use Rattle.sound_grid.specs.Sound.{weighs, slotsTest, slotWeight, namesSound, directorySound, edgesSound}
@@ -154,45 +154,6 @@ whole-directory l h t u =
     (both-intro (ap (λ (y : List Slot). numbersTest (map (λ s. s .number) y)) (slots-in l) ∙ t) (ap (λ (y : List Slot). roundTest (map (λ s. s .number) y)) (slots-in l) ∙ u))
 
 -- ---- edges
-
-module _ (c : CutList) (x : ℕ) where
-  pub low-first : x ≡ 0 → true ≡ lowTest (cutsIn c) x
-  unfolding lowTest
-  low-first e = sym (either-left (ltb 0 (count x (cutsIn c))) (eq-eqb x 0 e))
-
-  pub low-cut : {r : Bool} → x ≢ 0 → r ≡ ltb 0 (count x (take (c .n) (c .at))) → r ≡ lowTest (cutsIn c) x
-  unfolding lowTest either cutsIn
-  low-cut e q = rw (ne-eqb x 0 e) q
-
-  pub high-last : x ≡ lastMetre → true ≡ highTest (cutsIn c) x
-  unfolding highTest
-  high-last e = sym (either-left (ltb 0 (count (x + 1) (cutsIn c))) (eq-eqb x lastMetre e))
-
-  pub high-cut : {r : Bool} → x ≢ lastMetre → r ≡ ltb 0 (count (x + 1) (take (c .n) (c .at))) → r ≡ highTest (cutsIn c) x
-  unfolding highTest either cutsIn
-  high-cut e q = rw (ne-eqb x lastMetre e) q
-
-module _ (cuts : List ℕ) (low high : ℕ) {a : Bool} (lowest : a ≡ lowTest cuts low) where
-  pub span-low : not a ≡ true → false ≡ spanTest cuts (record { low = low; high = high })
-  unfolding spanTest
-  span-low f = sym (both-left-false (leb low high) (both-left-false (highTest cuts high) (sym lowest ∙ not-true a f)))
-
-  pub span-high : {b : Bool} → b ≡ highTest cuts high → not b ≡ true → false ≡ spanTest cuts (record { low = low; high = high })
-  unfolding spanTest
-  span-high {b} highest f = sym (both-left-false (leb low high) (both-right-false (lowTest cuts low) (sym highest ∙ not-true b f)))
-
-  pub span-order : {b : Bool} → not a ≡ false → b ≡ highTest cuts high → not b ≡ false → leb low high ≡ spanTest cuts (record { low = low; high = high })
-  unfolding spanTest
-  span-order {b} f highest g = sym (true-both (leb low high) (both-intro (sym lowest ∙ not-false a f) (sym highest ∙ not-false b g)))
-
-module _ (easts norths : CutList) (x : Slot) {a : Bool} (east : a ≡ spanTest (cutsIn easts) (record { low = x .west; high = x .east })) where
-  pub edges-east : not a ≡ true → false ≡ edgesTest (cutsBy easts norths) (rectOf x)
-  unfolding edgesTest
-  edges-east f = sym (both-left-false (spanTest (cutsIn norths) (record { low = x .south; high = x .north })) (sym east ∙ not-true a f))
-
-  pub edges-north : {r : Bool} → not a ≡ false → r ≡ spanTest (cutsIn norths) (record { low = x .south; high = x .north }) → r ≡ edgesTest (cutsBy easts norths) (rectOf x)
-  unfolding edgesTest
-  edges-north f q = q ∙ sym (true-both (spanTest (cutsIn norths) (record { low = x .south; high = x .north })) (sym east ∙ not-false a f))
 
 -- a slot's edges are whole
 abbrev pub edged : CutList → CutList → Slot → Bool

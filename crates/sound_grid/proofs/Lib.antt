@@ -2,6 +2,6 @@ pub mod LoopLaws
 pub mod SlotLaws
 pub mod CutsLaws
 pub mod GridLaws
-pub mod StripeLaws
+pub mod EdgeLaws
 pub mod TileLaws
 pub mod SoundLaws

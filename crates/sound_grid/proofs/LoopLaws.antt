@@ -146,23 +146,6 @@ module _ {x : ℕ} {xs : List ℕ} {n i : ℕ} (r : Sought x xs n i) where
   pub seek-end : n ≤ i → false ≡ ltb 0 (count x (take n xs))
   seek-end h = sym (le-ltb 0 (count x (take n xs)) (omega (arith, r .same, ap (count x) (used-none xs n i h) ∙ sum-nil (λ y. one-if (eqb x y)))))
 
--- ---- a sum over the slots in use
-
--- those up to i come to sum: with the rest it is the whole
-pub record Counted {A : Type 0} (w : A → ℕ) (xs : List A) (n i sum : ℕ) : Type 0 where
-  pub fits : n ≤ length xs
-  pub same : sum + sumBy w (drop i (take n xs)) ≡ sumBy w (take n xs)
-
-module _ {A : Type 0} {w : A → ℕ} {xs : List A} {n i sum : ℕ} (r : Counted w xs n i sum) where
-  pub count-turn : {e : ℕ} (d : A) → i < n → e ≡ w (getD xs i d) → Counted w xs n (i + 1) (sum + e)
-  count-turn d h q = record {
-    fits = r .fits;
-    same = omega (arith, r .same, ap (sumBy w) (used-cons xs n i d (r .fits) h) ∙ sum-cons w (getD xs i d) (drop (i + 1) (take n xs)));
-  }
-
-  pub count-end : n ≤ i → sum ≡ sumBy w (take n xs)
-  count-end h = omega (arith, r .same, ap (sumBy w) (used-none xs n i h) ∙ sum-nil w)
-
 -- ---- what the slots that are not used weigh
 
 -- those up to i weigh sum: with the rest it is the whole

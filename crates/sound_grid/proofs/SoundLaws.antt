@@ -38,14 +38,9 @@ module _ (easts norths : CutList) (d : Directory) {a : Bool} (east : a ≡ cutsS
       unfolding gridSound
       grid-cells f = goes east passed (goes north passed′ (stops _ cells f))
 
-      module _ (passed″ : not k ≡ false) {l : Bool} (edges : l ≡ edgesSound easts norths d) where
-        pub grid-edges : not l ≡ true → false ≡ gridSound easts norths d
-        unfolding gridSound
-        grid-edges f = goes east passed (goes north passed′ (goes cells passed″ (stops _ edges f)))
-
-        pub grid-tile : {r : Bool} → not l ≡ false → r ≡ tileSound easts norths d → r ≡ gridSound easts norths d
-        unfolding gridSound
-        grid-tile f q = goes east passed (goes north passed′ (goes cells passed″ (goes edges f q)))
+      pub grid-tile : {r : Bool} → not k ≡ false → r ≡ both (edgesSound easts norths d) (tileSound easts norths d) → r ≡ gridSound easts norths d
+      unfolding gridSound
+      grid-tile f q = goes east passed (goes north passed′ (goes cells f q))
 
 module _ (easts norths : CutList) (d : Directory) {a : Bool} (grid : a ≡ gridSound easts norths d) (passed : not a ≡ false) where
   all-grid : both (cutsSound easts) (both (cutsSound norths) (both (directorySound d) (both (edgesSound easts norths d) (tileSound easts norths d)))) ≡ true

@@ -18,7 +18,7 @@ use Rattle.lists.proofs.PartsLaws.{length-tab, getD-tab}
 use Rattle.lists.proofs.SumsLaws.{sum-nil, sum-append}
 use Rattle.lists.proofs.TestsLaws.{both-right, both-intro, both-right-false, all-append, not-true, not-false, all-each}
 use Rattle.rules.specs.Limits.{lastMetre, maxCells, maxCuts}
-use Rattle.rules.specs.Grid.{Rect, Cuts, cutsOf, Box, stripe, boxes}
+use Rattle.rules.specs.Grid.{Rect, Cuts, cutsOf, Box, boxes}
 use Rattle.rules.specs.WellFormed.{RisingCuts}
 use Rattle.desk.specs.declared.CutList.{CutList}
 use Rattle.desk.specs.declared.Slot.{Slot}
@@ -26,13 +26,16 @@ use Rattle.desk.specs.declared.Directory.{Directory}
 use Rattle.desk.specs.Layout.{noSlot}
 use Rattle.desk.specs.Views.{cutsIn, cutsBy, slotsIn, edgesOf as rectOf}
 use Rattle.mirror.specs.Loops.{allTo}
-use Rattle.mirror.specs.Grid.{cutsTest, edgesTest, holdsBox, holdingBox, tileBoxesTest}
+use Rattle.mirror.specs.Grid.{cutsTest, spanTest, edgesTest, stripes, holdsBox, holdingBox, tileBoxesTest}
 use Rattle.mirror.proofs.LoopsLaws.{allTo-zero, allTo-suc, allTo-false, allTo-ext, all-allTo}
 use Rattle.mirror.proofs.GridLaws.{WholeBoxes, by-axis, cuts-true, edges-true, tile-boxes}
 use Rattle.sound_grid.specs.Views.{rectsIn}
 use Rattle.boxes.specs.Boxes.{maxStripes, tableSize, boxAt}
-use Rattle.sound_grid.specs.Sound.{slotsTest, number, cutsSound, edgesSound, several, Raised, inRow, inStripes, holders, rowOnce, rowsOnce, tileSound}
-use Rattle.sound_grid.proofs.LoopLaws.{same-at}
+use Rattle.sound_grid.specs.declared.Extent.{Extent}
+use Rattle.sound_grid.specs.declared.Extent.the-variants.{Whole}
+use Rattle.sound_grid.specs.Sound.{slotsTest, number, cutsSound, edgesSound, several, Raised, RaisedIf, inRow, inStripes, holders, rowOnce, rowsOnce, tileSound}
+use Rattle.sound_grid.proofs.LoopLaws.{same-at, goes, passed-true}
+use Rattle.sound_grid.proofs.EdgeLaws.{extent-whole, extentIn}
 
 -- ---- lists
 
@@ -100,6 +103,13 @@ raised-ext g r e = record { size = r .size; held = λ m a b. omega (arith, r .he
 
 raised-then : {t u v : List ℕ} {f g : Box → ℕ} (h : Box → ℕ) → Raised t u f → Raised u v g → ((m : Box) → h m ≡ f m + g m) → Raised t v h
 raised-then h r s e = record { size = s .size; held = λ m a b. omega (arith, r .held m a b, s .held m a b, e m) }
+
+-- a test that fails says nothing of the table
+pub raised-not : (t u : List ℕ) (f : Box → ℕ) → RaisedIf false t u f
+raised-not t u f = record { raised = λ e. let z : false ≡ true = e in absurd (omega (arith, ap one-if z)) }
+
+pub raised-size : {b : Bool} {t u : List ℕ} {f : Box → ℕ} → RaisedIf b t u f → not b ≡ false → length u ≡ tableSize
+raised-size {b} r e = r .raised (not-false b e) .size
 
 -- one memory cell more
 raised-set : (u : List ℕ) (i row x : ℕ) → length u ≡ tableSize → i < maxStripes → row < maxStripes → x ≡ min (getD u (maxStripes * row + i) 0 + 1) several → Raised u (set u (maxStripes * row + i) x) (λ m. one-if (both (eqb (m .east) i) (eqb (m .north) row)))
@@ -196,36 +206,39 @@ unfolding slotsIn
 rect-at d i h = List·getD-map rectOf (take (d .n) (d .slots)) i noSlot ∙ ap rectOf (getD-take (d .n) (d .slots) i noSlot h)
 
 -- a cell's memory cells are those of its stripes
-pub slot-held : (easts norths : CutList) (x : Slot) {t u : List ℕ} {west east south north : ℕ}
-    → west ≡ stripe (take (easts .n) (easts .at)) (x .west) → east ≡ stripe (take (easts .n) (easts .at)) (x .east)
-    → south ≡ stripe (take (norths .n) (norths .at)) (x .south) → north ≡ stripe (take (norths .n) (norths .at)) (x .north)
-    → Raised t u (inStripes west east south north) → Raised t u (holders (cutsBy easts norths) (rectOf x ∷ []))
+pub slot-held : (easts norths : CutList) (x : Slot) {t u : List ℕ} {o p : Extent} {west east south north : ℕ}
+    → o ≡ extentIn easts (x .west) (x .east) → o ≡ Whole west east → p ≡ extentIn norths (x .south) (x .north) → p ≡ Whole south north
+    → Raised t u (inStripes west east south north) → RaisedIf true t u (holders (cutsBy easts norths) (rectOf x ∷ []))
 unfolding inStripes holders holdingBox sumBy holdsBox cutsIn
-slot-held easts norths x {west = west} {east = east} {south = south} {north = north} w e s n q =
-    raised-ext (holders (cutsBy easts norths) (rectOf x ∷ [])) q
-    (λ m. let same : inStripes west east south north m ≡ one-if (holdsBox (cutsBy easts norths) m (rectOf x)) =
-    ap₂ (λ (a b : Bool). one-if (both a b))
-    (ap₂ (λ (a b : ℕ). both (leb a (m .east)) (leb (m .east) b)) w e)
-    (ap₂ (λ (a b : ℕ). both (leb a (m .north)) (leb (m .north) b)) s n) in
-    omega (arith, same))
+slot-held easts norths x {west = west} {east = east} {south = south} {north = north} f g h k q =
+    let w = extent-whole (spanTest (cutsIn easts) (rectOf x .easts)) (stripes (cutsIn easts) (rectOf x .easts)) f g in
+    let s = extent-whole (spanTest (cutsIn norths) (rectOf x .norths)) (stripes (cutsIn norths) (rectOf x .norths)) h k in
+    record {
+      raised = λ _. raised-ext (holders (cutsBy easts norths) (rectOf x ∷ [])) q
+          (λ m. let same : inStripes west east south north m ≡ one-if (holdsBox (cutsBy easts norths) m (rectOf x)) =
+          ap₂ (λ (a b : Bool). one-if (both a b))
+          (ap₂ (λ (a b : ℕ). both (leb a (m .east)) (leb (m .east) b)) (w .1) (w .2))
+          (ap₂ (λ (a b : ℕ). both (leb a (m .north)) (leb (m .north) b)) (s .1) (s .2)) in
+          omega (arith, same));
+    }
 
 holders-last : (cuts : Cuts) (rects : List Rect) (i : ℕ) (m : Box) (x : Rect) → i < length rects → holders cuts (take (i + 1) rects) m ≡ holders cuts (take i rects) m + holders cuts (getD rects i x ∷ []) m
 unfolding holders holdingBox
 holders-last cuts rects i m x h = rw (add-one, take-suc rects i x h) (sum-append (λ (r : Rect). one-if (holdsBox cuts m r)) (take i rects) (getD rects i x ∷ []))
 
 module _ {easts norths : CutList} {d : Directory} {t u : List ℕ} {i : ℕ} (r : Marked easts norths d t i u) where
-  pub marked-turn : {v : List ℕ} → i < d .n → Raised u v (holders (cutsBy easts norths) (rectOf (getD (d .slots) i noSlot) ∷ [])) → Marked easts norths d t (i + 1) v
-  marked-turn more q = record {
+  pub marked-turn : {v : List ℕ} {b : Bool} → i < d .n → RaisedIf b u v (holders (cutsBy easts norths) (rectOf (getD (d .slots) i noSlot) ∷ [])) → not b ≡ false → Marked easts norths d t (i + 1) v
+  marked-turn {b = b} more q f = record {
     fits = r .fits;
-    raised = raised-then (holders (cutsBy easts norths) (take (i + 1) (rectsIn d))) (r .raised) q
+    raised = raised-then (holders (cutsBy easts norths) (take (i + 1) (rectsIn d))) (r .raised) (q .raised (not-false b f))
         (λ m. holders-last (cutsBy easts norths) (rectsIn d) i m (rectOf noSlot) (omega (arith, length-rects d (r .fits)))
         ∙ ap (λ (x : Rect). holders (cutsBy easts norths) (take i (rectsIn d)) m + holders (cutsBy easts norths) (x ∷ []) m) (rect-at d i more));
   }
 
-  pub marked-end : d .n ≤ i → Raised t u (holders (cutsBy easts norths) (rectsIn d))
+  pub marked-end : d .n ≤ i → RaisedIf true t u (holders (cutsBy easts norths) (rectsIn d))
   marked-end h =
       let a : take i (rectsIn d) ≡ rectsIn d = take-all i (rectsIn d) (omega (arith, length-rects d (r .fits))) in
-      raised-ext (holders (cutsBy easts norths) (rectsIn d)) (r .raised) (λ m. ap (λ (l : List Rect). holders (cutsBy easts norths) l m) a)
+      record { raised = λ _. raised-ext (holders (cutsBy easts norths) (rectsIn d)) (r .raised) (λ m. ap (λ (l : List Rect). holders (cutsBy easts norths) l m) a) }
 
 -- ---- held once
 
@@ -311,21 +324,23 @@ edges-pass : (easts norths : CutList) (d : Directory) → edgesSound easts north
 unfolding edgesSound
 edges-pass easts norths d t = all-each (edgesTest (cutsBy easts norths)) (WholeBoxes (cutsBy easts norths)) (rectsIn d) (edges-true (cutsBy easts norths)) t
 
-module _ (easts norths : CutList) (d : Directory) (east : cutsSound easts ≡ true) (north : cutsSound norths ≡ true) (edged : edgesSound easts norths d ≡ true) where
-  stripes-tile : tileBoxesTest (cutsBy easts norths) (rectsIn d) ≡ tileSound easts norths d
+module _ (easts norths : CutList) (d : Directory) (east : cutsSound easts ≡ true) (north : cutsSound norths ≡ true) where
+  stripes-tile : edgesSound easts norths d ≡ true → tileBoxesTest (cutsBy easts norths) (rectsIn d) ≡ tileSound easts norths d
   unfolding tileSound
-  stripes-tile =
+  stripes-tile edged =
       tile-boxes (cutsBy easts norths) (rectsIn d)
       (by-axis (λ a. Each (λ x. x ≤ lastMetre) (cutsOf a (cutsBy easts norths))) (cuts-pass easts east .1) (cuts-pass norths north .1))
       (by-axis (λ a. RisingCuts 0 (cutsOf a (cutsBy easts norths))) (cuts-pass easts east .0) (cuts-pass norths north .0))
       (edges-pass easts norths d edged)
 
-  pub tile-end : {t : List ℕ} {b : Bool} → length (easts .at) ≡ maxCuts → length (norths .at) ≡ maxCuts → easts .n ≤ maxCuts → norths .n ≤ maxCuts
-      → Raised (replicate tableSize 0) t (holders (cutsBy easts norths) (rectsIn d)) → b ≡ rowsOnce t (easts .n + 1) (norths .n + 1) → b ≡ tileSound easts norths d
-  tile-end {t} k l h g r q =
+  pub tile-end : {t : List ℕ} {a b : Bool} → length (easts .at) ≡ maxCuts → length (norths .at) ≡ maxCuts → easts .n ≤ maxCuts → norths .n ≤ maxCuts
+      → a ≡ edgesSound easts norths d → not a ≡ false → RaisedIf a (replicate tableSize 0) t (holders (cutsBy easts norths) (rectsIn d))
+      → b ≡ rowsOnce t (easts .n + 1) (norths .n + 1) → b ≡ both (edgesSound easts norths d) (tileSound easts norths d)
+  tile-end {t} {a} k l h g edged f r q =
       let columns : suc (length (cutsIn easts)) ≡ easts .n + 1 = omega (arith, length-cuts easts k h) in
       let rows : suc (length (cutsIn norths)) ≡ norths .n + 1 = omega (arith, length-cuts norths l g) in
-      q ∙ rows-held (easts .n + 1) (norths .n + 1) (omega arith) (omega arith) r
+      goes edged f
+      (q ∙ rows-held (easts .n + 1) (norths .n + 1) (omega arith) (omega arith) (r .raised (not-false a f))
       ∙ ap₂ (λ (a b : ℕ). allTo b (λ j. allTo a (λ i. eqb (holders (cutsBy easts norths) (rectsIn d) (record { east = i; north = j })) 1))) (sym columns) (sym rows)
       ∙ sym (boxes-rows (cutsBy easts norths) (rectsIn d))
-      ∙ stripes-tile
+      ∙ stripes-tile (passed-true edged f))

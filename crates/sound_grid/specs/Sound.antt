@@ -1,6 +1,6 @@
 -- The test of soundness as far as it looks at cuts and directory alone (01, "A sound store"). They may be in any condition, with a count beyond their slots or
 -- anything in the slots that are not used.
-use mathlib.Core.Bool.{Bool}
+use mathlib.Core.Bool.{Bool, true, false}
 use mathlib.Core.List.{List}
 use mathlib.Core.Path.{_≡_}
 use Prim.Native.Nat.{ℕ, _+_, _*_, _<_, min}
@@ -9,7 +9,7 @@ use lib.ListN.{length, getD, drop}
 use Rattle.lists.specs.Sums.{sumBy}
 use Rattle.lists.specs.Tests.{one-if, both, all}
 use Rattle.rules.specs.Limits.{maxCells, maxCuts}
-use Rattle.rules.specs.Grid.{within, Rect, Cuts, Box}
+use Rattle.rules.specs.Grid.{Span, within, Rect, Cuts, Box}
 use Rattle.desk.specs.declared.CutList.{CutList}
 use Rattle.desk.specs.declared.Slot.{Slot}
 use Rattle.desk.specs.declared.Directory.{Directory}
@@ -18,6 +18,10 @@ use Rattle.mirror.specs.Loops.{allTo}
 use Rattle.mirror.specs.Grid.{cutsTest, edgesTest, holdingBox, tileTest}
 use Rattle.mirror.specs.Cells.{numbersTest, roundTest}
 use Rattle.boxes.specs.Boxes.{maxStripes, tableSize, boxAt}
+use Rattle.sound_grid.specs.declared.Edge.{Edge}
+use Rattle.sound_grid.specs.declared.Edge.the-variants.{Bounds, Loose}
+use Rattle.sound_grid.specs.declared.Extent.{Extent}
+use Rattle.sound_grid.specs.declared.Extent.the-variants.{Whole, Broken}
 use Rattle.sound_grid.specs.Views.{numbersIn, rectsIn}
 
 module _ {A : Type 0} where
@@ -58,6 +62,16 @@ directorySound d = both (slotsTest slotWeight maxCells (d .n) (d .slots)) (names
 unfoldable pub edgesSound : CutList → CutList → Directory → Bool
 edgesSound easts norths d = all (edgesTest (cutsBy easts norths)) (rectsIn d)
 
+-- a stripe, where the edge bounds it
+abbrev pub edgeOf : Bool → ℕ → Edge
+edgeOf true stripe = Bounds stripe
+edgeOf false stripe = Loose
+
+-- stripes, where the edges are those of whole ones
+abbrev pub extentOf : Bool → Span → Extent
+extentOf true stripes = Whole (stripes .low) (stripes .high)
+extentOf false stripes = Broken
+
 -- what stands for any number above 1
 abbrev pub several : ℕ
 several = 2
@@ -66,6 +80,10 @@ several = 2
 pub record Raised (before after : List ℕ) (more : Box → ℕ) : Type 0 where
   pub size : length after ≡ tableSize
   pub held : (m : Box) → m .east < maxStripes → m .north < maxStripes → min (getD after (boxAt m) 0) several ≡ min (getD before (boxAt m) 0 + more m) several
+
+-- so it is where a test has passed
+pub record RaisedIf (passed : Bool) (before after : List ℕ) (more : Box → ℕ) : Type 0 where
+  pub raised : passed ≡ true → Raised before after more
 
 -- one more in a row of memory cells, from a stripe to a stripe
 unfoldable pub inRow : ℕ → ℕ → ℕ → Box → ℕ

@@ -2,18 +2,18 @@
 ghost use mathlib.Core.Bool.{true};
 ghost use mathlib.Core.Path.{_≡_};
 ghost use mathlib.Core.List.{[], _∷_};
-ghost use Prim.Native.Nat.{_+_, _*_, _<_, _≤_, min};
+ghost use Prim.Native.Nat.{_+_, _-_, _*_, _<_, _≤_, min};
 ghost use lib.Dec.{eqb, leb, ltb};
 ghost use lib.ListN.{length, take};
 ghost use Rattle.lists.specs.Sums.{count};
-ghost use Rattle.lists.specs.Tests.{one-if, both};
+ghost use Rattle.lists.specs.Tests.{both};
 ghost use Rattle.rules.specs.Limits.{maxCells, maxCuts};
 ghost use Rattle.rules.specs.Grid.{stripe};
-ghost use Rattle.desk.specs.Views.{cutsIn, cutsBy, edgesOf as rectOf};
+ghost use Rattle.desk.specs.Views.{cutsBy, edgesOf as rectOf};
 ghost use Rattle.mirror.specs.Loops.{risesTo};
-ghost use Rattle.mirror.specs.Grid.{lowTest, highTest, spanTest, edgesTest};
+ghost use Rattle.mirror.specs.Grid.{cutsTest, lowTest, highTest, spanTest, edgesTest, stripes};
 ghost use Rattle.boxes.specs.Boxes.{maxStripes, tableSize};
-ghost use Rattle.sound_grid.specs.Sound.{weighs, mostField, number, cutsSound, slotWeight, namesSound, directorySound, edgesSound, several, Raised, inRow, inStripes, holders, rowOnce, rowsOnce, tileSound, gridSound};
+ghost use Rattle.sound_grid.specs.Sound.{weighs, mostField, number, cutsSound, slotWeight, namesSound, directorySound, edgesSound, edgeOf, extentOf, several, Raised, RaisedIf, inRow, inStripes, holders, rowOnce, rowsOnce, tileSound, gridSound};
 ghost use Rattle.sound_grid.specs.Views.{rectsIn};
 use boxes::BOXES;
 use boxes::STRIPES;
@@ -152,104 +152,73 @@ pub fn directory_sound(d: Directory) -> bool
 
 // ---- edges
 
-// Whether x is among the first n.
-fn has(slots: &[u16], n: usize, x: u16) -> bool
-    requires { ⌜ n ≤ length (now slots) ⌝ }
-    ensures { λ r. ⌜ r ≡ ltb 0 (count x (take n (now (slots .entry)))) ⌝ }
+// The stripe that an edge bounds, where it bounds one.
+enum Edge {
+    Bounds(usize),
+    Loose,
+}
+
+// The first and the last stripe between two edges, where these are whole stripes.
+enum Extent {
+    Whole(usize, usize),
+    Broken,
+}
+
+// The stripe that a cut at x ends, where there is such a cut among the first n: as the cuts rise, it is the cut's own place.
+fn ended_at(slots: &[u16], n: usize, x: u16) -> Edge
+    requires { ⌜ (n ≤ length (now slots)) × (cutsTest (take n (now slots)) ≡ true) ⌝ }
+    ensures { λ r. ⌜ r ≡ edgeOf (ltb 0 (count x (take n (now (slots .entry))))) (stripe (take n (now (slots .entry))) (x - 1)) ⌝ }
 {
     let mut i: usize = 0;
     while i < n {
         if slots[i] == x {
-            return true;
+            return Edge::Bounds(i);
         }
         i += 1;
     }
-    false
+    Edge::Loose
 }
 
-// Whether x is the least of a stripe.
-fn low_ok(c: CutList, x: u16) -> bool
-    requires { ⌜ c .n ≤ maxCuts ⌝ }
-    ensures { λ r. ⌜ r ≡ lowTest (cutsIn c) x ⌝ }
+// The stripe whose least coordinate is x.
+fn low_edge(slots: &[u16], n: usize, x: u16) -> Edge
+    requires { ⌜ (n ≤ length (now slots)) × (cutsTest (take n (now slots)) ≡ true) ⌝ }
+    ensures { λ r. ⌜ r ≡ edgeOf (lowTest (take n (now (slots .entry))) x) (stripe (take n (now (slots .entry))) x) ⌝ }
 {
     if x == 0 {
-        return true;
+        return Edge::Bounds(0);
     }
-    has(&c.at, c.n, x)
+    let Edge::Bounds(before) = ended_at(slots, n, x) else {
+        return Edge::Loose;
+    };
+    Edge::Bounds(before + 1)
 }
 
-// Whether x is the greatest of a stripe.
-fn high_ok(c: CutList, x: u16) -> bool
-    requires { ⌜ c .n ≤ maxCuts ⌝ }
-    ensures { λ r. ⌜ r ≡ highTest (cutsIn c) x ⌝ }
+// The stripe whose greatest coordinate is x.
+fn high_edge(slots: &[u16], n: usize, x: u16) -> Edge
+    requires { ⌜ (n ≤ length (now slots)) × (cutsTest (take n (now slots)) ≡ true) ⌝ }
+    ensures { λ r. ⌜ r ≡ edgeOf (highTest (take n (now (slots .entry))) x) (stripe (take n (now (slots .entry))) x) ⌝ }
 {
     if x == Desk::LAST_METRE {
-        return true;
+        return Edge::Bounds(n);
     }
-    has(&c.at, c.n, x + 1)
+    ended_at(slots, n, x + 1)
 }
 
-// Whether two edges are those of whole stripes.
-fn span_ok(c: CutList, low: u16, high: u16) -> bool
-    requires { ⌜ c .n ≤ maxCuts ⌝ }
-    ensures { λ r. ⌜ r ≡ spanTest (cutsIn c) (record { low = low; high = high }) ⌝ }
+// The stripes between two edges, if the edges are those of whole stripes.
+fn extent_of(slots: &[u16], n: usize, low: u16, high: u16) -> Extent
+    requires { ⌜ (n ≤ length (now slots)) × (cutsTest (take n (now slots)) ≡ true) ⌝ }
+    ensures { λ r. ⌜ r ≡ extentOf (spanTest (take n (now (slots .entry))) (record { low = low; high = high })) (stripes (take n (now (slots .entry))) (record { low = low; high = high })) ⌝ }
 {
-    if !low_ok(c, low) {
-        return false;
+    let Edge::Bounds(first) = low_edge(slots, n, low) else {
+        return Extent::Broken;
+    };
+    let Edge::Bounds(last) = high_edge(slots, n, high) else {
+        return Extent::Broken;
+    };
+    if high < low {
+        return Extent::Broken;
     }
-    if !high_ok(c, high) {
-        return false;
-    }
-    low <= high
-}
-
-// Whether a cell is a rectangle of whole memory cells.
-fn edges_ok(easts: CutList, norths: CutList, x: Slot) -> bool
-    requires { ⌜ (easts .n ≤ maxCuts) × (norths .n ≤ maxCuts) ⌝ }
-    ensures { λ r. ⌜ r ≡ edgesTest (cutsBy easts norths) (rectOf x) ⌝ }
-{
-    if !span_ok(easts, x.west, x.east) {
-        return false;
-    }
-    span_ok(norths, x.south, x.north)
-}
-
-// Whether each cell is.
-fn edges_sound(easts: CutList, norths: CutList, d: Directory) -> bool
-    requires { ⌜ (easts .n ≤ maxCuts) × (norths .n ≤ maxCuts) × (d .n ≤ maxCells) ⌝ }
-    ensures { λ r. ⌜ r ≡ edgesSound easts norths d ⌝ }
-{
-    let mut i: usize = 0;
-    while i < d.n {
-        if !edges_ok(easts, norths, d.slots[i]) {
-            return false;
-        }
-        i += 1;
-    }
-    true
-}
-
-// ---- the stripe of a coordinate
-
-// 1 where x is on the high side of the cut, else 0.
-fn past(cut: u16, x: u16) -> usize
-    ensures { λ r. ⌜ (r ≡ one-if (leb cut x)) × (r ≤ 1) ⌝ }
-{
-    if cut <= x { 1 } else { 0 }
-}
-
-// The stripe of a coordinate.
-fn stripe_of(slots: &[u16], n: usize, x: u16) -> usize
-    requires { ⌜ n ≤ length (now slots) ⌝ }
-    ensures { λ r. ⌜ (r ≡ stripe (take n (now (slots .entry))) x) × (r ≤ n) ⌝ }
-{
-    let mut sum: usize = 0;
-    let mut i: usize = 0;
-    while i < n {
-        sum = sum + past(slots[i], x);
-        i += 1;
-    }
-    sum
+    Extent::Whole(first, last)
 }
 
 // ---- tiling
@@ -287,28 +256,34 @@ fn mark_cell<'a>(table: &'a mut [u8; BOXES], west: usize, east: usize, south: us
     }
 }
 
-// So are the memory cells of a cell.
-fn mark_slot<'a>(easts: CutList, norths: CutList, x: Slot, table: &'a mut [u8; BOXES])
-    requires { ⌜ (easts .n ≤ maxCuts) × (norths .n ≤ maxCuts) × (length (now table) ≡ tableSize) ⌝ }
-    ensures { λ _. ⌜ Raised (now (table .entry)) (now (table .exit)) (holders (cutsBy easts norths) (rectOf x ∷ [])) ⌝ }
+// So are the memory cells of a cell, if it is a rectangle of whole ones.
+fn mark_slot<'a>(easts: CutList, norths: CutList, x: Slot, table: &'a mut [u8; BOXES]) -> bool
+    requires { ⌜ (easts .n ≤ maxCuts) × (norths .n ≤ maxCuts) × (cutsSound easts ≡ true) × (cutsSound norths ≡ true) × (length (now table) ≡ tableSize) ⌝ }
+    ensures { λ r. ⌜ (r ≡ edgesTest (cutsBy easts norths) (rectOf x)) × RaisedIf r (now (table .entry)) (now (table .exit)) (holders (cutsBy easts norths) (rectOf x ∷ [])) ⌝ }
 {
-    let west = stripe_of(&easts.at, easts.n, x.west);
-    let east = stripe_of(&easts.at, easts.n, x.east);
-    let south = stripe_of(&norths.at, norths.n, x.south);
-    let north = stripe_of(&norths.at, norths.n, x.north);
+    let Extent::Whole(west, east) = extent_of(&easts.at, easts.n, x.west, x.east) else {
+        return false;
+    };
+    let Extent::Whole(south, north) = extent_of(&norths.at, norths.n, x.south, x.north) else {
+        return false;
+    };
     mark_cell(table, west, east, south, north);
+    true
 }
 
-// So are those of all cells.
-fn mark_cells<'a>(easts: CutList, norths: CutList, d: Directory, table: &'a mut [u8; BOXES])
-    requires { ⌜ (easts .n ≤ maxCuts) × (norths .n ≤ maxCuts) × (d .n ≤ maxCells) × (length (now table) ≡ tableSize) ⌝ }
-    ensures { λ _. ⌜ Raised (now (table .entry)) (now (table .exit)) (holders (cutsBy easts norths) (rectsIn d)) ⌝ }
+// So are those of all cells, if each is such a rectangle.
+fn mark_cells<'a>(easts: CutList, norths: CutList, d: Directory, table: &'a mut [u8; BOXES]) -> bool
+    requires { ⌜ (easts .n ≤ maxCuts) × (norths .n ≤ maxCuts) × (d .n ≤ maxCells) × (cutsSound easts ≡ true) × (cutsSound norths ≡ true) × (length (now table) ≡ tableSize) ⌝ }
+    ensures { λ r. ⌜ (r ≡ edgesSound easts norths d) × RaisedIf r (now (table .entry)) (now (table .exit)) (holders (cutsBy easts norths) (rectsIn d)) ⌝ }
 {
     let mut i: usize = 0;
     while i < d.n {
-        mark_slot(easts, norths, d.slots[i], table);
+        if !mark_slot(easts, norths, d.slots[i], table) {
+            return false;
+        }
         i += 1;
     }
+    true
 }
 
 // Whether each memory cell of a row is held once.
@@ -342,13 +317,15 @@ fn rows_once<'a>(table: &'a [u8; BOXES], columns: usize, rows: usize) -> bool
     true
 }
 
-// Whether the cells tile the square: on cuts that rise, cells with edges on them.
-fn tile_sound(easts: CutList, norths: CutList, d: Directory) -> bool
-    requires { ⌜ (easts .n ≤ maxCuts) × (norths .n ≤ maxCuts) × (d .n ≤ maxCells) × (cutsSound easts ≡ true) × (cutsSound norths ≡ true) × (edgesSound easts norths d ≡ true) ⌝ }
-    ensures { λ r. ⌜ r ≡ tileSound easts norths d ⌝ }
+// Whether each cell is a rectangle of whole memory cells, and the cells tile the square: on cuts that rise.
+fn cells_sound(easts: CutList, norths: CutList, d: Directory) -> bool
+    requires { ⌜ (easts .n ≤ maxCuts) × (norths .n ≤ maxCuts) × (d .n ≤ maxCells) × (cutsSound easts ≡ true) × (cutsSound norths ≡ true) ⌝ }
+    ensures { λ r. ⌜ r ≡ both (edgesSound easts norths d) (tileSound easts norths d) ⌝ }
 {
     let mut table = [0u8; BOXES];
-    mark_cells(easts, norths, d, &mut table);
+    if !mark_cells(easts, norths, d, &mut table) {
+        return false;
+    }
     rows_once(&table, easts.n + 1, norths.n + 1)
 }
 
@@ -367,8 +344,5 @@ pub fn grid_sound(easts: CutList, norths: CutList, d: Directory) -> bool
     if !directory_sound(d) {
         return false;
     }
-    if !edges_sound(easts, norths, d) {
-        return false;
-    }
-    tile_sound(easts, norths, d)
+    cells_sound(easts, norths, d)
 }

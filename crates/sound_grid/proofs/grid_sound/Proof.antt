@@ -1,5 +1,5 @@
 use Rattle.sound_grid.proofs.LoopLaws.{passed-true}
-use Rattle.sound_grid.proofs.SoundLaws.{cuts-room, cells-room, grid-east, grid-north, grid-cells, grid-edges, grid-tile}
+use Rattle.sound_grid.proofs.SoundLaws.{cuts-room, cells-room, grid-east, grid-north, grid-cells, grid-tile}
 use borrow.Author.Needs.{needs}
 use Rattle.sound_grid.proofs.grid_sound.Statement.{statement}
 use Rattle.sound_grid.proofs.grid_sound.Tie as tie
@@ -22,26 +22,19 @@ directory-sound-requires c κs = search needs
 returns-3 : tie.Need-returns-3
 returns-3 c = search grid-cells
 
-edges-sound-requires : tie.Need-edges-sound-requires
-edges-sound-requires c κs = (search cuts-room, search cuts-room, search cells-room)
-
-returns-4 : tie.Need-returns-4
-returns-4 c = search grid-edges
-
-tile-sound-requires : tie.Need-tile-sound-requires
-tile-sound-requires c κs =
-    let north = c .before .before .before .before in
+cells-sound-requires : tie.Need-cells-sound-requires
+cells-sound-requires c κs =
+    let north = c .before .before in
     let east = north .before .before in (
       search cuts-room,
       search cuts-room,
       search cells-room,
       passed-true (east .before .cuts-sound .ensures) (east .if1 .left),
       passed-true (north .before .cuts-sound2 .ensures) (north .if2 .left),
-      passed-true (c .before .edges-sound .ensures) (c .if4 .left),
     )
 
-returns-5 : tie.Need-returns-5
-returns-5 c = search grid-tile
+returns-4 : tie.Need-returns-4
+returns-4 c = search grid-tile
 
 pub grid-sound-spec : {M : Type 1} → statement M
 grid-sound-spec =
@@ -53,7 +46,5 @@ grid-sound-spec =
     returns-2
     directory-sound-requires
     returns-3
-    edges-sound-requires
-    returns-4
-    tile-sound-requires
-    returns-5)
+    cells-sound-requires
+    returns-4)

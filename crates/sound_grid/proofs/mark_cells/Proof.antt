@@ -1,22 +1,24 @@
--- The cells so far have added theirs (`Marked`).
+-- What is left to test is the test (`Passes`), and the cells so far have added theirs (`Marked`).
 use mathlib.Core.Path.{_≡_}
 use Prim.Native.Nat.{_-_, _≤_}
 use lib.ListN.{length}
 use Rattle.lists.proofs.ShiftLaws.{length-mapped}
 use Rattle.boxes.specs.Boxes.{tableSize}
-use Rattle.sound_grid.proofs.TileLaws.{Marked, marked-start, marked-turn, marked-end}
+use Rattle.sound_grid.proofs.LoopLaws.{Passes, pass-start}
+use Rattle.sound_grid.proofs.GridLaws.{edged, edges-fail, edges-turn, edges-end}
+use Rattle.sound_grid.proofs.TileLaws.{raised-not, raised-size, Marked, marked-start, marked-turn, marked-end}
 use borrow.Author.Needs.{needs}
 use Rattle.sound_grid.proofs.mark_cells.Statement.{statement}
 use Rattle.sound_grid.proofs.mark_cells.Tie as tie
 
 abbrev Inv-loop : tie.InvT-loop
-Inv-loop easts norths table₀ d i₀ table i = (i ≤ d .n) × (length table ≡ tableSize) × Marked easts norths d table₀ i table
+Inv-loop easts norths table₀ d i₀ table i = (i ≤ d .n) × (length table ≡ tableSize) × Passes (edged easts norths) (d .slots) (d .n) i × Marked easts norths d table₀ i table
 
 abbrev μ-loop : tie.MeasureT-loop
 μ-loop easts norths table₀ d i₀ table i = d .n - i
 
 loop-holds : tie.Need-loop-holds Inv-loop μ-loop
-loop-holds c = (search needs, search needs, search (marked-start, length-mapped))
+loop-holds c = (search needs, search needs, search (pass-start, length-mapped), search (marked-start, length-mapped))
 
 mul-mark-slot : tie.Need-mul-mark-slot Inv-loop μ-loop
 mul-mark-slot c = search needs
@@ -27,6 +29,9 @@ element-copy-out-mark-slot c = search needs
 mark-slot-requires : tie.Need-mark-slot-requires Inv-loop μ-loop
 mark-slot-requires c κs = search needs
 
+returns : tie.Need-returns Inv-loop μ-loop
+returns c = (search edges-fail, search raised-not)
+
 add-i : tie.Need-add-i Inv-loop μ-loop
 add-i c = search needs
 
@@ -34,10 +39,10 @@ loop-less : tie.Need-loop-less Inv-loop μ-loop
 loop-less c = search needs
 
 loop-again : tie.Need-loop-again Inv-loop μ-loop
-loop-again c = (search needs, search needs, search marked-turn)
+loop-again c = (search needs, search raised-size, search edges-turn, search marked-turn)
 
-returns : tie.Need-returns Inv-loop μ-loop
-returns c = search marked-end
+returns-2 : tie.Need-returns-2 Inv-loop μ-loop
+returns-2 c = (search edges-end, search marked-end)
 
 pub mark-cells-spec : {M : Type 1} → statement M
 mark-cells-spec =
@@ -49,7 +54,8 @@ mark-cells-spec =
     mul-mark-slot
     element-copy-out-mark-slot
     mark-slot-requires
+    returns
     add-i
     loop-less
     loop-again
-    returns)
+    returns-2)

@@ -1,9 +1,10 @@
 use mathlib.Core.Path.{refl}
 use Prim.Native.Nat.{_≤_, _-_}
-use Rattle.sound_grid.proofs.LoopLaws.{Sought, seek-found, seek-turn, seek-end}
+use Rattle.sound_grid.proofs.LoopLaws.{Sought, seek-turn}
+use Rattle.sound_grid.proofs.EdgeLaws.{ended-found, ended-not}
 use borrow.Author.Needs.{needs}
-use Rattle.sound_grid.proofs.has.Statement.{statement}
-use Rattle.sound_grid.proofs.has.Tie as tie
+use Rattle.sound_grid.proofs.ended_at.Statement.{statement}
+use Rattle.sound_grid.proofs.ended_at.Tie as tie
 
 abbrev Inv-loop : tie.InvT-loop
 Inv-loop slots n x i₀ i = (i ≤ n) × Sought x slots n i
@@ -21,7 +22,7 @@ shared-slice-read-if1 : tie.Need-shared-slice-read-if1 Inv-loop μ-loop
 shared-slice-read-if1 c = search needs
 
 returns : tie.Need-returns Inv-loop μ-loop
-returns c = search seek-found
+returns c = search ended-found
 
 add-i : tie.Need-add-i Inv-loop μ-loop
 add-i c = search needs
@@ -33,10 +34,10 @@ loop-again : tie.Need-loop-again Inv-loop μ-loop
 loop-again c = (search needs, search seek-turn)
 
 returns-2 : tie.Need-returns-2 Inv-loop μ-loop
-returns-2 c = search seek-end
+returns-2 c = search ended-not
 
-pub has-spec : {M : Type 1} → statement M
-has-spec =
+pub ended-at-spec : {M : Type 1} → statement M
+ended-at-spec =
     tie.close
     (tie.spec
     Inv-loop
