@@ -2,8 +2,8 @@
 use mathlib.Core.Bool.{true}
 use mathlib.Core.List.{List, [], _∷_, _++_}
 use mathlib.Core.Logic.{_≢_}
-use mathlib.Core.Path.{_≡_, sym, ap, ap₂, _∙_}
-use Prim.Native.Nat.{ℕ, _+_, _*_, _≤_, _<_}
+use mathlib.Core.Path.{_≡_, sym, ap, _∙_}
+use Prim.Native.Nat.{ℕ, _+_, _≤_, _<_}
 use native.Mathlib.Omega.{arith}
 use lib.Dec.{eqb}
 use lib.ListN.{length, getD, set, take, replicate, length-set, length-take, length-replicate, getD-replicate}
@@ -36,11 +36,6 @@ few-cuts c h = rw length-take (omega arith)
 
 pub stripe-few : (c : CutList) (x : ℕ) {a : ℕ} → c .n ≤ maxCuts → a ≡ stripe (cutsIn c) x → a < maxStripes
 stripe-few c x h e = omega (arith, stripe-most (cutsIn c) x, few-cuts c h)
-
-pub box-at : (easts norths : CutList) (east north : ℕ) {a b : ℕ} → a ≡ stripe (cutsIn norths) north → b ≡ stripe (cutsIn easts) east
-    → maxStripes * a + b ≡ boxAt (boxOf (cutsBy easts norths) (record { east = east; north = north }))
-unfolding boxOf
-box-at easts norths east north e f = ap₂ (λ (a b : ℕ). maxStripes * a + b) e f
 
 -- a memory cell is a report's exactly if its stripes are
 module _ (cuts : Cuts) (m : Box) (x : Row StoreReport) where

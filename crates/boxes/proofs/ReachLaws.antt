@@ -17,7 +17,7 @@ use Rattle.lists.proofs.Cases.{by-cases}
 use Rattle.lists.proofs.SumsLaws.{sum-last}
 use Rattle.lists.proofs.TestsLaws.{one-if-le}
 use Rattle.rules.specs.Limits.{lastMetre, fullMemory, maxCuts}
-use Rattle.rules.specs.Grid.{Span, within, Rect, inside, Cuts, stripe, boxOf}
+use Rattle.rules.specs.Grid.{Span, Rect, inside, Cuts, stripe, boxOf}
 use Rattle.rules.specs.Flush.{inBox}
 use Rattle.rules.specs.Carry.{waitingIn}
 use Rattle.rules.specs.Store.{Report as StoreReport}

@@ -3,11 +3,11 @@ ghost use mathlib.Core.Bool.{not, cond};
 ghost use mathlib.Core.Option.{some};
 ghost use mathlib.Core.Path.{_≡_};
 ghost use Prim.Native.Nat.{ℕ, _+_, _<_, _≤_, min, max};
-ghost use lib.Dec.{leb, ltb};
+ghost use lib.Dec.{eqb, leb, ltb};
 ghost use lib.ListN.{length, getD};
 ghost use Rattle.lists.specs.Parts.{tab};
 ghost use Rattle.lists.specs.Sums.{filter, concat};
-ghost use Rattle.lists.specs.Tests.{one-if, best};
+ghost use Rattle.lists.specs.Tests.{one-if, both, best};
 ghost use Rattle.rules.specs.Limits.{fullMemory, maxCuts};
 ghost use Rattle.rules.specs.Grid.{within, inside, stripe, boxOf, boxes};
 ghost use Rattle.rules.specs.Flush.{inBox};
@@ -71,15 +71,99 @@ pub fn box_of(easts: CutList, norths: CutList, east: u16, north: u16) -> BoxAt
     }
 }
 
-// Whether a report waits in m. Of most the stripe of east tells that they do not.
-fn in_box(easts: CutList, norths: CutList, m: BoxAt, report: Report) -> bool
-    requires { ⌜ (easts .n ≤ maxCuts) × (norths .n ≤ maxCuts) ⌝ }
-    ensures { λ r. ⌜ r ≡ inBox (cutsBy easts norths) (boxIn m) (rowOf report) ⌝ }
+// ---- the memory cells of all waiting reports
+
+// The memory cell of each slot: its stripes, counted from 0.
+pub struct Stripes {
+    pub easts: [u16; FULL_MEMORY],
+    pub norths: [u16; FULL_MEMORY],
+}
+
+// The easts of the slots.
+fn easts_of(waiting: Waiting) -> [u16; FULL_MEMORY]
+    ensures { λ r. ⌜ Coordinates (λ x. x .east) (waiting .rows) fullMemory r ⌝ }
 {
-    if stripe_of(easts, report.east) != m.east {
-        return false;
+    let mut xs = [0u16; FULL_MEMORY];
+    let mut i: usize = 0;
+    while i < FULL_MEMORY {
+        let x = waiting.rows[i];
+        xs[i] = x.east;
+        i = i + 1;
     }
-    stripe_of(norths, report.north) == m.north
+    xs
+}
+
+// The norths of the slots.
+fn norths_of(waiting: Waiting) -> [u16; FULL_MEMORY]
+    ensures { λ r. ⌜ Coordinates (λ x. x .north) (waiting .rows) fullMemory r ⌝ }
+{
+    let mut xs = [0u16; FULL_MEMORY];
+    let mut i: usize = 0;
+    while i < FULL_MEMORY {
+        let x = waiting.rows[i];
+        xs[i] = x.north;
+        i = i + 1;
+    }
+    xs
+}
+
+// The stripe of x by one cut more.
+fn further(stripe: u16, cut: u16, x: u16) -> u16
+    requires { ⌜ stripe ≤ maxCuts ⌝ }
+    ensures { λ r. ⌜ r ≡ stripe + one-if (leb cut x) ⌝ }
+{
+    if cut <= x { stripe + 1 } else { stripe }
+}
+
+// Every coordinate's stripe by one cut more. It never leaves early, so that many coordinates are compared at a time.
+fn pass_cut<'a>(cut: u16, xs: &'a [u16; FULL_MEMORY], stripes: &'a mut [u16; FULL_MEMORY])
+    requires { ⌜ (length (now xs) ≡ fullMemory) × (length (now stripes) ≡ fullMemory) × ((i : ℕ) → i < fullMemory → getD (now stripes) i 0 ≤ maxCuts) ⌝ }
+    ensures { λ _. ⌜ Passing cut (now (xs .entry)) (now (stripes .entry)) fullMemory (now (stripes .exit)) ⌝ }
+{
+    let mut i: usize = 0;
+    while i < FULL_MEMORY {
+        let before = stripes[i];
+        stripes[i] = further(before, cut, xs[i]);
+        i = i + 1;
+    }
+}
+
+// The stripe of every coordinate, cut by cut.
+fn stripes_of<'a>(cuts: CutList, xs: &'a [u16; FULL_MEMORY]) -> [u16; FULL_MEMORY]
+    requires { ⌜ (cuts .n ≤ maxCuts) × (length (now xs) ≡ fullMemory) ⌝ }
+    ensures { λ r. ⌜ Striped (cutsIn cuts) (now (xs .entry)) r ⌝ }
+{
+    let n = cuts.n;
+    let mut stripes = [0u16; FULL_MEMORY];
+    let mut i: usize = 0;
+    while i < n {
+        let cut = cuts.at[i];
+        pass_cut(cut, xs, &mut stripes);
+        i = i + 1;
+    }
+    stripes
+}
+
+// The memory cells of all slots at once.
+pub fn boxes_of(easts: CutList, norths: CutList, waiting: Waiting) -> Stripes
+    requires { ⌜ (easts .n ≤ maxCuts) × (norths .n ≤ maxCuts) ⌝ }
+    ensures { λ r. ⌜ Boxed (cutsBy easts norths) (waiting .rows) r ⌝ }
+{
+    let xs = easts_of(waiting);
+    let ys = norths_of(waiting);
+    Stripes {
+        easts: stripes_of(easts, &xs),
+        norths: stripes_of(norths, &ys),
+    }
+}
+
+// ---- those that wait in one
+
+// Whether a report with these stripes waits in m.
+fn in_box(m: BoxAt, east: u16, north: u16) -> bool
+    ensures { λ r. ⌜ r ≡ both (eqb east (m .east)) (eqb north (m .north)) ⌝ }
+{
+    (east as usize == m.east) & (north as usize == m.north)
 }
 
 // The report where it stays, else an unused slot's.
@@ -103,6 +187,7 @@ fn parted(easts: CutList, norths: CutList, waiting: Waiting, m: BoxAt, wanted: b
     ensures { λ r. ⌜ (r ≡ waitingWith (filter (λ x. onSide wanted (cutsBy easts norths) (boxIn m) (rowOf x)) (reportsIn waiting))) × (r .n ≤ waiting .n) ⌝ }
 {
     let n = waiting.n;
+    let at = boxes_of(easts, norths, waiting);
     let mut rows = [Report {
         radio: 0,
         east: 0,
@@ -113,7 +198,7 @@ fn parted(easts: CutList, norths: CutList, waiting: Waiting, m: BoxAt, wanted: b
     let mut i: usize = 0;
     while i < n {
         let x = waiting.rows[i];
-        let stays = in_box(easts, norths, m, x) == wanted;
+        let stays = in_box(m, at.easts[i], at.norths[i]) == wanted;
         rows[k] = kept(stays, x);
         let step = one_if(stays);
         k = k + step;
@@ -226,92 +311,6 @@ fn waiting_at(easts: CutList, norths: CutList, waiting: Waiting, east: u16, nort
         i = i + 1;
     }
     found
-}
-
-// ---- the memory cells of all waiting reports
-
-// The memory cell of each slot: its stripes, counted from 0.
-pub struct Stripes {
-    pub easts: [u16; FULL_MEMORY],
-    pub norths: [u16; FULL_MEMORY],
-}
-
-// The easts of the slots.
-fn easts_of(waiting: Waiting) -> [u16; FULL_MEMORY]
-    ensures { λ r. ⌜ Coordinates (λ x. x .east) (waiting .rows) fullMemory r ⌝ }
-{
-    let mut xs = [0u16; FULL_MEMORY];
-    let mut i: usize = 0;
-    while i < FULL_MEMORY {
-        let x = waiting.rows[i];
-        xs[i] = x.east;
-        i = i + 1;
-    }
-    xs
-}
-
-// The norths of the slots.
-fn norths_of(waiting: Waiting) -> [u16; FULL_MEMORY]
-    ensures { λ r. ⌜ Coordinates (λ x. x .north) (waiting .rows) fullMemory r ⌝ }
-{
-    let mut xs = [0u16; FULL_MEMORY];
-    let mut i: usize = 0;
-    while i < FULL_MEMORY {
-        let x = waiting.rows[i];
-        xs[i] = x.north;
-        i = i + 1;
-    }
-    xs
-}
-
-// The stripe of x by one cut more.
-fn further(stripe: u16, cut: u16, x: u16) -> u16
-    requires { ⌜ stripe ≤ maxCuts ⌝ }
-    ensures { λ r. ⌜ r ≡ stripe + one-if (leb cut x) ⌝ }
-{
-    if cut <= x { stripe + 1 } else { stripe }
-}
-
-// Every coordinate's stripe by one cut more. It never leaves early, so that many coordinates are compared at a time.
-fn pass_cut<'a>(cut: u16, xs: &'a [u16; FULL_MEMORY], stripes: &'a mut [u16; FULL_MEMORY])
-    requires { ⌜ (length (now xs) ≡ fullMemory) × (length (now stripes) ≡ fullMemory) × ((i : ℕ) → i < fullMemory → getD (now stripes) i 0 ≤ maxCuts) ⌝ }
-    ensures { λ _. ⌜ Passing cut (now (xs .entry)) (now (stripes .entry)) fullMemory (now (stripes .exit)) ⌝ }
-{
-    let mut i: usize = 0;
-    while i < FULL_MEMORY {
-        let before = stripes[i];
-        stripes[i] = further(before, cut, xs[i]);
-        i = i + 1;
-    }
-}
-
-// The stripe of every coordinate, cut by cut.
-fn stripes_of<'a>(cuts: CutList, xs: &'a [u16; FULL_MEMORY]) -> [u16; FULL_MEMORY]
-    requires { ⌜ (cuts .n ≤ maxCuts) × (length (now xs) ≡ fullMemory) ⌝ }
-    ensures { λ r. ⌜ Striped (cutsIn cuts) (now (xs .entry)) r ⌝ }
-{
-    let n = cuts.n;
-    let mut stripes = [0u16; FULL_MEMORY];
-    let mut i: usize = 0;
-    while i < n {
-        let cut = cuts.at[i];
-        pass_cut(cut, xs, &mut stripes);
-        i = i + 1;
-    }
-    stripes
-}
-
-// The memory cells of all slots at once.
-pub fn boxes_of(easts: CutList, norths: CutList, waiting: Waiting) -> Stripes
-    requires { ⌜ (easts .n ≤ maxCuts) × (norths .n ≤ maxCuts) ⌝ }
-    ensures { λ r. ⌜ Boxed (cutsBy easts norths) (waiting .rows) r ⌝ }
-{
-    let xs = easts_of(waiting);
-    let ys = norths_of(waiting);
-    Stripes {
-        easts: stripes_of(easts, &xs),
-        norths: stripes_of(norths, &ys),
-    }
 }
 
 // ---- tables with a number for each memory cell

@@ -37,7 +37,6 @@ use Rattle.range.proofs.StoreLaws.{range-gives}
 use Rattle.effects.specs.Effects.{Stands, AskedOn, AskedReport, AskedOff, Carries}
 use Rattle.effects.proofs.EffectLaws.{on-held}
 use Rattle.carry.specs.declared.Told.{Told}
-use Rattle.carry.specs.declared.Carried.{Carried}
 use Rattle.carry.specs.Carry.{Lists}
 
 well-once : (s : Store) → WellFormed s → PagesOnce s

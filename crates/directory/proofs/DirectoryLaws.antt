@@ -12,7 +12,6 @@ use lib.Seq.{getD-at, length-take-le}
 use borrow.Author.Tests.{ltb-true}
 use Rattle.terms.specs.Terms.{Place}
 use Rattle.lists.specs.Parts.{removeAt}
-use Rattle.lists.specs.Sums.{count}
 use Rattle.lists.specs.Tests.{Each, firstAt, best}
 use Rattle.lists.proofs.Cases.{by-cases, option-cases, none-some}
 use Rattle.lists.proofs.MapLaws.{map-removeAt}

@@ -7,7 +7,7 @@ use Prim.Native.Nat.{ℕ, zero, suc, _+_, _≤_, _<_}
 use native.Mathlib.Omega.{arith}
 use native.Mathlib.Nat.{not-suc-le-zero}
 use lib.Dec.{eqb, leb, ltb}
-use lib.ListN.{length, getD, set}
+use lib.ListN.{length, getD}
 use borrow.Author.Tests.{lt-ltb, le-leb, lt-leb, ltb-true, ltb-false, leb-true, eqb-true, eqb-false, eq-eqb, ne-eqb}
 use Rattle.lists.specs.Rows.{Row, Rows, Rising, UpTo, find, countFound}
 use Rattle.lists.specs.Sums.{sumBy, concat, count}
@@ -17,7 +17,7 @@ use Rattle.lists.proofs.RowsLaws.{sum-key}
 use Rattle.lists.proofs.SumsLaws.{sum-each, sum-const, sum-concat, count-at, each-count}
 use Rattle.lists.proofs.TestsLaws.{both-left, both-right, both-intro, each-map, all-each, each-all, each-getD, getD-each, one-if-le}
 use Rattle.rules.specs.WellFormed.{RisingCuts}
-use Rattle.mirror.specs.Loops.{every, allTo, risesTo, lastFrom, eachOnce, onceAtMost, keys, passing}
+use Rattle.mirror.specs.Loops.{allTo, risesTo, lastFrom, eachOnce, onceAtMost, keys, passing}
 
 -- ---- tests
 

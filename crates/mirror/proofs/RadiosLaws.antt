@@ -11,7 +11,7 @@ use borrow.Author.Tests.{lt-ltb, le-leb, ltb-true, ltb-false, leb-true, eqb-true
 use Rattle.terms.specs.Terms.{Place, maxRadio, maxOn}
 use Rattle.lists.specs.Rows.{Row, Rows, Rising, UpTo, find, countFound}
 use Rattle.lists.specs.Sums.{sumBy, concat}
-use Rattle.lists.specs.Tests.{one-if, both, either, Each, isSome, all}
+use Rattle.lists.specs.Tests.{one-if, both, either, Each, isSome}
 use Rattle.lists.proofs.Cases.{by-cases, option-cases}
 use Rattle.lists.proofs.RowsLaws.{sum-key, each-find, find-each}
 use Rattle.lists.proofs.SumsLaws.{sum-each, sum-const, sum-zero, sum-map}

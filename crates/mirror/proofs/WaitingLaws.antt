@@ -1,7 +1,7 @@
 -- The tests of the waiting reports say just the clauses: every place's memory cell is among those that the test goes through.
 use mathlib.Core.Path.{_≡_, subst}
 use mathlib.Core.Bool.{true}
-use mathlib.Core.Option.{none, some}
+use mathlib.Core.Option.{some}
 use Prim.Native.Nat.{ℕ, _<_}
 use native.Mathlib.Omega.{arith}
 use lib.Dec.{ltb}

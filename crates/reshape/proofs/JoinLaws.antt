@@ -12,7 +12,7 @@ use Rattle.lists.specs.Tests.{Each}
 use Rattle.page.specs.Buffer.{bufferBytes, chainFrom, endFrom}
 use Rattle.page.specs.declared.ChainEnd.the-variants.{Ended}
 use Rattle.rules.specs.Store.{Cell, pagesFor, settled, freeAfter}
-use Rattle.rules.specs.Flush.{Flushed, joined, joinedWith}
+use Rattle.rules.specs.Flush.{Flushed, joinedWith}
 use Rattle.desk.specs.declared.Slot.{Slot}
 use Rattle.settle.specs.declared.Settled.{Settled}
 use Rattle.settle.specs.Settle.{written, givenLeaves, settledLeaves, settledEnds}

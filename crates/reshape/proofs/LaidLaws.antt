@@ -6,7 +6,7 @@ use Prim.Native.Nat.{ℕ, _+_, _-_, _≤_, _<_}
 use native.Mathlib.Omega.{arith}
 use lib.Dec.{ltb}
 use lib.ListN.{length, length-append, take-append-drop}
-use Rattle.terms.specs.Terms.{Place, pages, noPage}
+use Rattle.terms.specs.Terms.{Place, noPage}
 use Rattle.lists.specs.Chains.{firstOf, settledChain, settledFree}
 use Rattle.lists.specs.Rows.{Rows, merge}
 use Rattle.lists.specs.Sums.{count}
@@ -18,7 +18,7 @@ use Rattle.rules.specs.Limits.{maxCells, joinEntries}
 use Rattle.rules.specs.Store.{Line, Cell, Store, others, pagesFor, settled, freeAfter}
 use Rattle.rules.specs.Sweep.{stale, sweptEntries}
 use Rattle.rules.specs.Cut.{Cut}
-use Rattle.rules.specs.Flush.{Flushed, grown, lowCell, highCell, joinedEdges, joined, joinedWith}
+use Rattle.rules.specs.Flush.{Flushed, lowCell, highCell, joinedEdges, joined, joinedWith}
 use Rattle.rules.specs.WellFormed.{chains}
 use Rattle.rules.proofs.Parts.{Rowed, Paged}
 use Rattle.rules.proofs.PagedLaws.{size, needed, pagesFor-one, pages-few, pages-few-split, room-pages, length-freeAfter, size-split}

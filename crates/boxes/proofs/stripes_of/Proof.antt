@@ -1,6 +1,5 @@
 -- The stripes by the first i cuts (`StripedBy`).
 use Prim.Native.Nat.{_-_, _≤_}
-use Rattle.lists.proofs.ShiftLaws.{length-mapped}
 use Rattle.boxes.proofs.StripesLaws.{StripedBy, striped-start, striped-low, striped-turn, striped-end}
 use borrow.Author.Needs.{needs}
 use Rattle.boxes.proofs.stripes_of.Statement.{statement}
