@@ -73,38 +73,32 @@ pub fn box_of(easts: CutList, norths: CutList, east: u16, north: u16) -> BoxAt
 
 // ---- the memory cells of all waiting reports
 
+// The place of each slot.
+struct Places {
+    easts: [u16; FULL_MEMORY],
+    norths: [u16; FULL_MEMORY],
+}
+
 // The memory cell of each slot: its stripes, counted from 0.
 pub struct Stripes {
     pub easts: [u16; FULL_MEMORY],
     pub norths: [u16; FULL_MEMORY],
 }
 
-// The easts of the slots.
-fn easts_of(waiting: Waiting) -> [u16; FULL_MEMORY]
-    ensures { λ r. ⌜ Coordinates (λ x. x .east) (waiting .rows) fullMemory r ⌝ }
+// The places of the slots, one direction apart from the other.
+fn places_of(waiting: Waiting) -> Places
+    ensures { λ r. ⌜ Coordinates (λ x. x .east) (waiting .rows) fullMemory (r .easts) × Coordinates (λ x. x .north) (waiting .rows) fullMemory (r .norths) ⌝ }
 {
-    let mut xs = [0u16; FULL_MEMORY];
+    let mut easts = [0u16; FULL_MEMORY];
+    let mut norths = [0u16; FULL_MEMORY];
     let mut i: usize = 0;
     while i < FULL_MEMORY {
         let x = waiting.rows[i];
-        xs[i] = x.east;
+        easts[i] = x.east;
+        norths[i] = x.north;
         i = i + 1;
     }
-    xs
-}
-
-// The norths of the slots.
-fn norths_of(waiting: Waiting) -> [u16; FULL_MEMORY]
-    ensures { λ r. ⌜ Coordinates (λ x. x .north) (waiting .rows) fullMemory r ⌝ }
-{
-    let mut xs = [0u16; FULL_MEMORY];
-    let mut i: usize = 0;
-    while i < FULL_MEMORY {
-        let x = waiting.rows[i];
-        xs[i] = x.north;
-        i = i + 1;
-    }
-    xs
+    Places { easts, norths }
 }
 
 // The stripe of x by one cut more.
@@ -149,11 +143,12 @@ pub fn boxes_of(easts: CutList, norths: CutList, waiting: Waiting) -> Stripes
     requires { ⌜ (easts .n ≤ maxCuts) × (norths .n ≤ maxCuts) ⌝ }
     ensures { λ r. ⌜ Boxed (cutsBy easts norths) (waiting .rows) r ⌝ }
 {
-    let xs = easts_of(waiting);
-    let ys = norths_of(waiting);
+    let places = places_of(waiting);
+    let columns = stripes_of(easts, &places.easts);
+    let rows = stripes_of(norths, &places.norths);
     Stripes {
-        easts: stripes_of(easts, &xs),
-        norths: stripes_of(norths, &ys),
+        easts: columns,
+        norths: rows,
     }
 }
 

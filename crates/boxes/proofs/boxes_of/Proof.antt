@@ -3,11 +3,8 @@ use Rattle.boxes.proofs.StripesLaws.{boxed}
 use Rattle.boxes.proofs.boxes_of.Statement.{statement}
 use Rattle.boxes.proofs.boxes_of.Tie as tie
 
-easts-of-requires : tie.Need-easts-of-requires
-easts-of-requires c κs = search needs
-
-norths-of-requires : tie.Need-norths-of-requires
-norths-of-requires c κs = search needs
+places-of-requires : tie.Need-places-of-requires
+places-of-requires c κs = search needs
 
 stripes-of-requires : tie.Need-stripes-of-requires
 stripes-of-requires c κs = search needs
@@ -20,4 +17,4 @@ returns c = search boxed
 
 pub boxes-of-spec : {M : Type 1} → statement M
 boxes-of-spec =
-    tie.close (tie.spec easts-of-requires norths-of-requires stripes-of-requires stripes-of-requires-2 returns)
+    tie.close (tie.spec places-of-requires stripes-of-requires stripes-of-requires-2 returns)
