@@ -15,8 +15,7 @@ use Rattle.lists.specs.Tests.{one-if, all}
 use Rattle.lists.proofs.Cases.{by-cases}
 use Rattle.lists.proofs.SumsLaws.{sum-nil, sum-cons, count-head, length-below}
 use Rattle.lists.proofs.TestsLaws.{not-true, both-left, both-right, both-intro, all-each, each-all, each-getD, getD-each}
-use Rattle.sound_pages.specs.declared.Walk.{Walk}
-use Rattle.sound_pages.specs.Walks.{noMarks, unmarked}
+use Rattle.sound_pages.specs.Walks.{Walk, noMarks, unmarked}
 
 -- m′ has the marks of m, and f q marks more on each q; a page past the last counts as unmarked, so f is 0 there
 pub record Marked (m : List Bool) (f : ℕ → ℕ) (m′ : List Bool) : Type 0 where

@@ -24,9 +24,8 @@ use Rattle.desk.specs.declared.Slot.{Slot}
 use Rattle.desk.specs.declared.Directory.{Directory}
 use Rattle.desk.specs.Layout.{slotOf, At, cellLeaves, cellsLeaves}
 use Rattle.desk.specs.Views.{edgesOf}
-use Rattle.sound_pages.specs.declared.Walk.{Walk}
 use Rattle.sound_pages.specs.PagesSound.{CellSound, PagesSound}
-use Rattle.sound_pages.specs.Walks.{noMarks, passed, failed, slotTest, slotsTest, frontTest, restTest, pagesTest}
+use Rattle.sound_pages.specs.Walks.{Walk, noMarks, passed, failed, slotTest, slotsTest, frontTest, restTest, pagesTest}
 use Rattle.sound_pages.proofs.MarksLaws.{Marked, Room, Passes, mark-none, mark-then, room-length, length-noMarks, no-mark, all-marked, marked-all}
 use Rattle.sound_pages.proofs.ChainLaws.{failed-not, need, Chain, chain-passed, chain-passes, free-passed, free-passes}
 

@@ -19,9 +19,8 @@ use Rattle.rules.specs.Limits.{maxCells}
 use Rattle.desk.specs.declared.Slot.{Slot}
 use Rattle.desk.specs.declared.Directory.{Directory}
 use Rattle.desk.specs.Layout.{noSlot}
-use Rattle.sound_pages.specs.declared.Walk.{Walk}
 use Rattle.sound_pages.specs.PagesSound.{PagesSound}
-use Rattle.sound_pages.specs.Walks.{isPage, lastRadio, pageOk, noMarks, unmarked, passed, failed, chainTest, slotTest, slotsTest, freeTest, frontTest, restTest, pagesTest}
+use Rattle.sound_pages.specs.Walks.{Walk, isPage, lastRadio, pageOk, noMarks, unmarked, passed, failed, chainTest, slotTest, slotsTest, freeTest, frontTest, restTest, pagesTest}
 use Rattle.sound_pages.proofs.CodeLaws.{both-no, both-next}
 use Rattle.sound_pages.proofs.MarksLaws.{unmarked-bounds}
 use Rattle.sound_pages.proofs.ChainLaws.{chain-spent, chain-out, chain-bad, chain-last, chain-more, free-spent, free-last, free-out, free-bad, free-more}
@@ -108,40 +107,40 @@ module _ (b : List ℕ) (d : Directory) (m : List Bool) (i : ℕ) {t : Walk} (so
       let l = length-take (d .n) (d .slots) in
       sym (slots-none b m) ∙ rw (drop-of-length-le (take (d .n) (d .slots)) {i = i} (omega arith)) at so
 
-  module _ (below : i < d .n) (few : d .n ≤ maxCells) (size : length (d .slots) ≡ maxCells) {w : Walk} (walk : w ≡ slotTest b m (getD (d .slots) i noSlot)) where
+  module _ (below : i < d .n) (few : d .n ≤ maxCells) (size : length (d .slots) ≡ maxCells) {r : Bool} {m′ : List Bool} (walk : record { ok = r; marks = m′ } ≡ slotTest b m (getD (d .slots) i noSlot)) where
     slots-open : slotsTest b m (getD (d .slots) i noSlot ∷ drop (suc i) (take (d .n) (d .slots))) ≡ t
     slots-open =
         let l = length-take (d .n) (d .slots) in
         rw (drop-cons (take (d .n) (d .slots)) i noSlot (omega arith), getD-take (d .n) (d .slots) i noSlot below) at so
 
-    pub slots-fail : not (w .ok) ≡ true → failed (w .marks) ≡ t
+    pub slots-fail : not r ≡ true → failed m′ ≡ t
     slots-fail e =
         ap (λ (x : Walk). failed (x .marks)) walk
-        ∙ sym (slots-out b m _ (drop (suc i) (take (d .n) (d .slots))) (sym (ap (λ (x : Walk). x .ok) walk) ∙ not-true (w .ok) e)) ∙ slots-open
+        ∙ sym (slots-out b m _ (drop (suc i) (take (d .n) (d .slots))) (sym (ap (λ (x : Walk). x .ok) walk) ∙ not-true r e)) ∙ slots-open
 
-    pub slots-turn : not (w .ok) ≡ false → slotsTest b (w .marks) (drop (i + 1) (take (d .n) (d .slots))) ≡ t
+    pub slots-turn : not r ≡ false → slotsTest b m′ (drop (i + 1) (take (d .n) (d .slots))) ≡ t
     slots-turn e =
         rw (add-one i)
         (ap (λ (x : Walk). slotsTest b (x .marks) (drop (suc i) (take (d .n) (d .slots)))) walk
-        ∙ sym (slots-more b m _ (drop (suc i) (take (d .n) (d .slots))) (sym (ap (λ (x : Walk). x .ok) walk) ∙ not-false (w .ok) e)) ∙ slots-open)
+        ∙ sym (slots-more b m _ (drop (suc i) (take (d .n) (d .slots))) (sym (ap (λ (x : Walk). x .ok) walk) ∙ not-false r e)) ∙ slots-open)
 
--- ---- rest_ok
+-- ---- the free chain, after the walk over the directory
 
-module _ (b : List ℕ) (free : ℕ) (w : Walk) where
-  pub rest-failed : not (w .ok) ≡ true → false ≡ restTest b free w
+module _ (b : List ℕ) (free : ℕ) (r : Bool) (m : List Bool) where
+  rest-failed : not r ≡ true → false ≡ restTest b free (record { ok = r; marks = m })
   unfolding restTest
-  rest-failed e = both-no _ (not-true (w .ok) e)
+  rest-failed e = both-no _ (not-true r e)
 
-  module _ (good : not (w .ok) ≡ false) (f : Walk) (walk : f ≡ frontTest b (w .marks) free) where
-    rest-is : both (f .ok) (all (λ x. x) (f .marks)) ≡ restTest b free w
+  module _ (good : not r ≡ false) {f : Bool} {k : List Bool} (walk : record { ok = f; marks = k } ≡ frontTest b m free) where
+    rest-is : both f (all (λ x. x) k) ≡ restTest b free (record { ok = r; marks = m })
     unfolding restTest
-    rest-is = ap (λ (x : Walk). both (x .ok) (all (λ y. y) (x .marks))) walk ∙ both-next _ (not-false (w .ok) good)
+    rest-is = ap (λ (x : Walk). both (x .ok) (all (λ y. y) (x .marks))) walk ∙ both-next _ (not-false r good)
 
-    pub rest-no-chain : not (f .ok) ≡ true → false ≡ restTest b free w
-    rest-no-chain e = both-no _ (not-true (f .ok) e) ∙ rest-is
+    rest-no-chain : not f ≡ true → false ≡ restTest b free (record { ok = r; marks = m })
+    rest-no-chain e = both-no _ (not-true f e) ∙ rest-is
 
-    pub rest-all : not (f .ok) ≡ false → {r : Bool} → r ≡ all (λ x. x) (f .marks) → r ≡ restTest b free w
-    rest-all e g = g ∙ both-next _ (not-false (f .ok) e) ∙ rest-is
+    rest-all : not f ≡ false → {v : Bool} → v ≡ all (λ x. x) k → v ≡ restTest b free (record { ok = r; marks = m })
+    rest-all e g = g ∙ both-next _ (not-false f e) ∙ rest-is
 
 -- ---- pages_sound
 
@@ -159,11 +158,21 @@ module _ (b : List ℕ) (d : Directory) (free : ℕ) (slots : length (d .slots) 
   pub sound-many : maxCells < d .n → Says b d free false
   sound-many h = says-no (λ s. omega (arith, sound-few b d free slots s))
 
-  pub sound-walked : Bytes b → length b ≡ bufferBytes → d .n ≤ maxCells → {z : List Bool} → z ≡ noMarks → {w : Walk} → w ≡ slotsTest b z (take (d .n) (d .slots)) → {r : Bool} → r ≡ restTest b free w
-      → Says b d free r
-  unfolding pagesTest
-  sound-walked small whole few none walk e =
-      let g =
-      e ∙ ap (restTest b free) (walk ∙ ap (λ (z : List Bool). slotsTest b z (take (d .n) (d .slots))) none)
-      ∙ both-next _ (le-leb (d .n) maxCells few) ∙ both-next _ (eq-eqb (length b) bufferBytes whole) in
-      ((λ t. test-sound b d free small slots (sym g ∙ t)), (λ s. g ∙ sound-test b d free small slots s))
+  module _ (small : Bytes b) (whole : length b ≡ bufferBytes) (few : d .n ≤ maxCells) {z : List Bool} (none : z ≡ noMarks) {r : Bool} {m : List Bool} (walk : record { ok = r; marks = m } ≡ slotsTest b z (take (d .n) (d .slots))) where
+    sound-walked : {v : Bool} → v ≡ restTest b free (record { ok = r; marks = m }) → Says b d free v
+    unfolding pagesTest
+    sound-walked e =
+        let g =
+        e ∙ ap (restTest b free) (walk ∙ ap (λ (z : List Bool). slotsTest b z (take (d .n) (d .slots))) none)
+        ∙ both-next _ (le-leb (d .n) maxCells few) ∙ both-next _ (eq-eqb (length b) bufferBytes whole) in
+        ((λ t. test-sound b d free small slots (sym g ∙ t)), (λ s. g ∙ sound-test b d free small slots s))
+
+    pub sound-no-cells : not r ≡ true → Says b d free false
+    sound-no-cells e = sound-walked (rest-failed b free r m e)
+
+    module _ (good : not r ≡ false) {f : Bool} {k : List Bool} (rest : record { ok = f; marks = k } ≡ frontTest b m free) where
+      pub sound-no-chain : not f ≡ true → Says b d free false
+      sound-no-chain e = sound-walked (rest-no-chain b free r m good rest e)
+
+      pub sound-all : not f ≡ false → {v : Bool} → v ≡ all (λ x. x) k → Says b d free v
+      sound-all e g = sound-walked (rest-all b free r m good rest e g)

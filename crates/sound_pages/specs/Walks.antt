@@ -15,7 +15,6 @@ use Rattle.rules.specs.Limits.{maxCells}
 use Rattle.desk.specs.declared.Slot.{Slot}
 use Rattle.desk.specs.declared.Directory.{Directory}
 use Rattle.desk.specs.Views.{edgesOf}
-use Rattle.sound_pages.specs.declared.Walk.{Walk}
 
 -- ---- a page
 
@@ -58,6 +57,11 @@ unfoldable pub unmarked : List Bool → ℕ → Bool
 unmarked m p = both (ltb p pages) (not (getD m p false))
 
 -- ---- the walks
+
+-- what a walk found, and the pages marked
+pub record Walk : Type 0 where
+  pub ok : Bool
+  pub marks : List Bool
 
 abbrev pub passed : List Bool → Walk
 passed m = record { ok = true; marks = m }

@@ -11,7 +11,7 @@ ghost use Rattle.page.specs.Page.{pageBytes, kindFree, next, entryAt, entries};
 ghost use Rattle.page.specs.Buffer.{bufferBytes};
 ghost use Rattle.rules.specs.Limits.{maxCells};
 ghost use Rattle.sound_pages.specs.PagesSound.{PagesSound};
-ghost use Rattle.sound_pages.specs.Walks.{isPage, fullOrLast, startsAbove, lastRadio, insideOf, pageOk, noMarks, unmarked, slotTest, slotsTest, frontTest, restTest};
+ghost use Rattle.sound_pages.specs.Walks.{isPage, fullOrLast, startsAbove, lastRadio, insideOf, pageOk, noMarks, unmarked, slotTest, slotsTest, frontTest};
 use desk::Desk;
 use desk::Directory;
 use desk::Slot;
@@ -158,12 +158,6 @@ fn next_of(page: &[u8]) -> usize
 
 // ---- marks
 
-// What a walk found, and the pages marked.
-struct Walk {
-    ok: bool,
-    marks: [bool; 128],
-}
-
 fn no_marks() -> [bool; 128]
     ensures { λ r. ⌜ r ≡ noMarks ⌝ }
 {
@@ -199,120 +193,77 @@ fn all_marked(marks: [bool; 128]) -> bool
     so
 }
 
-// ---- the walks
+// ---- the walks: each answers whether it passes, and leaves its marks in those lent to it, for each cell would get a copy of them
 
 // The chain of a cell, by next page; each page is marked.
-fn walk_chain(pages: &[u8], s: Slot, marks: [bool; 128]) -> Walk
+fn walk_chain<'a>(pages: &'a [u8], s: Slot, marks: &'a mut [bool; 128]) -> bool
     requires { ⌜ length (now pages) ≡ bufferBytes ⌝ }
-    ensures { λ r. ⌜ r ≡ slotTest (now (pages .entry)) marks s ⌝ }
+    ensures { λ r. ⌜ record { ok = r; marks = now (marks .exit) } ≡ slotTest (now (pages .entry)) (now (marks .entry)) s ⌝ }
 {
-    let mut m = marks;
     let mut p = s.first as usize;
     let mut kind: u16 = KIND_FIRST;
     let mut low: u16 = 0;
     let mut fuel: usize = PAGES;
     while 0 < fuel {
-        if !is_unmarked(&m, p) {
-            return Walk {
-                ok: false,
-                marks: m,
-            };
+        if !is_unmarked(marks, p) {
+            return false;
         }
         let page = page::page_at(pages, p);
         if !page_ok(page, s, kind, low) {
-            return Walk {
-                ok: false,
-                marks: m,
-            };
+            return false;
         }
-        m[p] = true;
+        marks[p] = true;
         p = next_of(page);
         if p == NO_PAGE as usize {
-            return Walk { ok: true, marks: m };
+            return true;
         }
         kind = KIND_FURTHER;
         low = last_radio(page, low);
         fuel -= 1;
     }
-    Walk {
-        ok: false,
-        marks: m,
-    }
+    false
 }
 
 // The free chain from its front.
-fn walk_free(pages: &[u8], marks: [bool; 128], front: u16) -> Walk
+fn walk_free<'a>(pages: &'a [u8], marks: &'a mut [bool; 128], front: u16) -> bool
     requires { ⌜ length (now pages) ≡ bufferBytes ⌝ }
-    ensures { λ r. ⌜ r ≡ frontTest (now (pages .entry)) marks front ⌝ }
+    ensures { λ r. ⌜ record { ok = r; marks = now (marks .exit) } ≡ frontTest (now (pages .entry)) (now (marks .entry)) front ⌝ }
 {
-    let mut m = marks;
     let mut p = front as usize;
     let mut fuel: usize = PAGES;
     while 0 < fuel {
         if p == NO_PAGE as usize {
-            return Walk { ok: true, marks: m };
+            return true;
         }
-        if !is_unmarked(&m, p) {
-            return Walk {
-                ok: false,
-                marks: m,
-            };
+        if !is_unmarked(marks, p) {
+            return false;
         }
         let page = page::page_at(pages, p);
         if !is_free(page) {
-            return Walk {
-                ok: false,
-                marks: m,
-            };
+            return false;
         }
-        m[p] = true;
+        marks[p] = true;
         p = next_of(page);
         fuel -= 1;
     }
-    Walk {
-        ok: p == NO_PAGE as usize,
-        marks: m,
-    }
+    p == NO_PAGE as usize
 }
 
 // The chains of the directory's cells, one after the other.
-fn walk_slots(pages: &[u8], cells: Directory, marks: [bool; 128]) -> Walk
+fn walk_slots<'a>(pages: &'a [u8], cells: Directory, marks: &'a mut [bool; 128]) -> bool
     requires { ⌜ (length (now pages) ≡ bufferBytes) × (cells .n ≤ maxCells) ⌝ }
-    ensures { λ r. ⌜ r ≡ slotsTest (now (pages .entry)) marks (take (cells .n) (cells .slots)) ⌝ }
+    ensures { λ r. ⌜ record { ok = r; marks = now (marks .exit) } ≡ slotsTest (now (pages .entry)) (now (marks .entry)) (take (cells .n) (cells .slots)) ⌝ }
 {
-    let mut m = marks;
     let n = cells.n;
     let mut i: usize = 0;
     while i < n {
         let s = cells.slots[i];
-        let w = walk_chain(pages, s, m);
-        m = w.marks;
-        if !w.ok {
-            return Walk {
-                ok: false,
-                marks: m,
-            };
+        if !walk_chain(pages, s, marks) {
+            return false;
         }
         i += 1;
     }
-    Walk { ok: true, marks: m }
-}
-
-// After the directory the free chain passes too, and no page is left.
-fn rest_ok(pages: &[u8], free: u16, w: Walk) -> bool
-    requires { ⌜ length (now pages) ≡ bufferBytes ⌝ }
-    ensures { λ r. ⌜ r ≡ restTest (now (pages .entry)) free w ⌝ }
-{
-    if !w.ok {
-        return false;
-    }
-    let m = w.marks;
-    let f = walk_free(pages, m, free);
-    if !f.ok {
-        return false;
-    }
-    let k = f.marks;
-    all_marked(k)
+    true
 }
 
 // Pages, chains and directory are those of some cells and a free chain.
@@ -325,7 +276,12 @@ pub fn pages_sound(pages: &[u8], cells: Directory, free: u16) -> bool
     if Desk::MAX_CELLS < cells.n {
         return false;
     }
-    let none = no_marks();
-    let w = walk_slots(pages, cells, none);
-    rest_ok(pages, free, w)
+    let mut marks = no_marks();
+    if !walk_slots(pages, cells, &mut marks) {
+        return false;
+    }
+    if !walk_free(pages, &mut marks, free) {
+        return false;
+    }
+    all_marked(marks)
 }

@@ -1,6 +1,6 @@
 use Rattle.lists.proofs.ShiftLaws.{length-mapped}
 use borrow.Author.Needs.{needs}
-use Rattle.sound_pages.proofs.WalkLaws.{sound-short, sound-many, sound-walked}
+use Rattle.sound_pages.proofs.WalkLaws.{sound-short, sound-many, sound-no-cells, sound-no-chain, sound-all}
 use Rattle.sound_pages.proofs.pages_sound.Statement.{statement}
 use Rattle.sound_pages.proofs.pages_sound.Tie as tie
 
@@ -19,14 +19,35 @@ no-marks-requires c κs = search needs
 walk-slots-requires : tie.Need-walk-slots-requires
 walk-slots-requires c κs = search needs
 
-rest-ok-requires : tie.Need-rest-ok-requires
-rest-ok-requires c κs = search needs
-
 returns-3 : tie.Need-returns-3
 returns-3 c =
-    let k = c .before .before .before in
+    let w = c .before in
+    let k = w .before .before .before in
     let l = k .before .before in
-    sound-walked _ _ _ (search length-mapped) (λ i. l .before .shared-slice-known .given i .fits) (l .if1 .left) (k .if2 .left) (c .before .before .no-marks .ensures) (c .before .walk-slots .ensures) (c .rest-ok .ensures)
+    sound-no-cells _ _ _ (search (length-mapped, l .before .before .good .1 .0 .1 .1 .1 .0 .1 .0 .1)) (λ i. l .before .shared-slice-known .given i .fits) (l .if1 .left) (k .if2 .left) (w .before .before .no-marks .ensures) (w .walk-slots .ensures) (c .if3 .taken)
+
+walk-free-requires : tie.Need-walk-free-requires
+walk-free-requires c κs = search needs
+
+returns-4 : tie.Need-returns-4
+returns-4 c =
+    let e = c .before .before .before in
+    let w = e .before in
+    let k = w .before .before .before in
+    let l = k .before .before in
+    sound-no-chain _ _ _ (search (length-mapped, l .before .before .good .1 .0 .1 .1 .1 .0 .1 .0 .1)) (λ i. l .before .shared-slice-known .given i .fits) (l .if1 .left) (k .if2 .left) (w .before .before .no-marks .ensures) (w .walk-slots .ensures) (e .if3 .left) (c .before .walk-free .ensures) (c .if4 .taken)
+
+all-marked-requires : tie.Need-all-marked-requires
+all-marked-requires c κs = search needs
+
+returns-5 : tie.Need-returns-5
+returns-5 c =
+    let f = c .before in
+    let e = f .before .before .before in
+    let w = e .before in
+    let k = w .before .before .before in
+    let l = k .before .before in
+    sound-all _ _ _ (search (length-mapped, l .before .before .good .1 .0 .1 .1 .1 .0 .1 .0 .1)) (λ i. l .before .shared-slice-known .given i .fits) (l .if1 .left) (k .if2 .left) (w .before .before .no-marks .ensures) (w .walk-slots .ensures) (e .if3 .left) (f .before .walk-free .ensures) (f .if4 .left) (c .all-marked .ensures)
 
 pub pages-sound-spec : {M : Type 1} → statement M
 pages-sound-spec =
@@ -37,5 +58,8 @@ pages-sound-spec =
     returns-2
     no-marks-requires
     walk-slots-requires
-    rest-ok-requires
-    returns-3)
+    returns-3
+    walk-free-requires
+    returns-4
+    all-marked-requires
+    returns-5)

@@ -34,8 +34,8 @@ page-ok-requires c κs = search needs
 returns-2 : tie.Need-returns-2 Inv-loop μ-loop
 returns-2 c = search chain-wrong
 
-array-write-m : tie.Need-array-write-m Inv-loop μ-loop
-array-write-m c = search (unmarked-below, needs)
+element-write-marks : tie.Need-element-write-marks Inv-loop μ-loop
+element-write-marks c = search (unmarked-below, needs)
 
 next-of-requires : tie.Need-next-of-requires Inv-loop μ-loop
 next-of-requires c κs = search needs
@@ -74,7 +74,7 @@ walk-chain-spec =
     page-at-requires
     page-ok-requires
     returns-2
-    array-write-m
+    element-write-marks
     next-of-requires
     cast-if3
     returns-3

@@ -7,10 +7,10 @@ use Rattle.sound_pages.proofs.walk_free.Statement.{statement}
 use Rattle.sound_pages.proofs.walk_free.Tie as tie
 
 abbrev Inv-loop : tie.InvT-loop
-Inv-loop pages front m₀ p₀ fuel₀ m p fuel = freeTest fuel pages m p ≡ frontTest pages m₀ front
+Inv-loop pages m₀ front p₀ fuel₀ m p fuel = freeTest fuel pages m p ≡ frontTest pages m₀ front
 
 abbrev μ-loop : tie.MeasureT-loop
-μ-loop pages front m₀ p₀ fuel₀ m p fuel = fuel
+μ-loop pages m₀ front p₀ fuel₀ m p fuel = fuel
 
 loop-holds : tie.Need-loop-holds Inv-loop μ-loop
 unfolding frontTest
@@ -44,8 +44,8 @@ returns-3 c =
     let l = e .before in
     free-wrong _ _ _ _ (l .loop-test .taken) (l .before .loop .inv) (e .if1 .left) (k .before .is-unmarked .ensures) (k .if2 .left) (c .before .before .page-at .ensures .0) (c .before .is-free .ensures) (c .if3 .taken)
 
-array-write-m : tie.Need-array-write-m Inv-loop μ-loop
-array-write-m c = search (unmarked-below, needs)
+element-write-marks : tie.Need-element-write-marks Inv-loop μ-loop
+element-write-marks c = search (unmarked-below, needs)
 
 next-of-requires : tie.Need-next-of-requires Inv-loop μ-loop
 next-of-requires c κs = search needs
@@ -59,8 +59,8 @@ loop-less c = search needs
 loop-again : tie.Need-loop-again Inv-loop μ-loop
 loop-again c = search free-goes-on
 
-cast-t17 : tie.Need-cast-t17 Inv-loop μ-loop
-cast-t17 c = search needs
+cast-result : tie.Need-cast-result Inv-loop μ-loop
+cast-result c = search needs
 
 returns-4 : tie.Need-returns-4 Inv-loop μ-loop
 returns-4 c = search free-tired
@@ -79,10 +79,10 @@ walk-free-spec =
     page-at-requires
     is-free-requires
     returns-3
-    array-write-m
+    element-write-marks
     next-of-requires
     sub-fuel
     loop-less
     loop-again
-    cast-t17
+    cast-result
     returns-4)

@@ -11,10 +11,10 @@ use Rattle.sound_pages.proofs.walk_slots.Statement.{statement}
 use Rattle.sound_pages.proofs.walk_slots.Tie as tie
 
 abbrev Inv-loop : tie.InvT-loop
-Inv-loop pages cells m₀ n i₀ m i = (i ≤ cells .n) × (length (cells .slots) ≡ maxCells) × (slotsTest pages m (drop i (take (cells .n) (cells .slots))) ≡ slotsTest pages m₀ (take (cells .n) (cells .slots)))
+Inv-loop pages m₀ cells n i₀ m i = (i ≤ cells .n) × (length (cells .slots) ≡ maxCells) × (slotsTest pages m (drop i (take (cells .n) (cells .slots))) ≡ slotsTest pages m₀ (take (cells .n) (cells .slots)))
 
 abbrev μ-loop : tie.MeasureT-loop
-μ-loop pages cells m₀ n i₀ m i = cells .n - i
+μ-loop pages m₀ cells n i₀ m i = cells .n - i
 
 loop-holds : tie.Need-loop-holds Inv-loop μ-loop
 loop-holds c = (search needs, search length-mapped, refl)
