@@ -15,13 +15,14 @@ use Rattle.lists.specs.Rows.{Rows, Rising, UpTo, find}
 use Rattle.lists.specs.Tests.{one-if, both, either, all, orElse}
 use Rattle.lists.proofs.Cases.{by-cases}
 use Rattle.lists.proofs.RowsLaws.{rising-less, find-below}
-use Rattle.lists.proofs.TestsLaws.{both-true, all-cons, each-drop}
+use Rattle.lists.proofs.TestsLaws.{both-true, all-cons}
 use Rattle.rules.specs.Limits.{fullMemory}
 use Rattle.rules.specs.Store.{Report as StoreReport, Line as StoreLine}
 use Rattle.rules.specs.Sweep.{staleBy, stale}
 use Rattle.desk.specs.declared.Waiting.{Waiting}
 use Rattle.desk.specs.declared.Line.{Line}
 use Rattle.desk.specs.declared.Memo.{Memo}
+use Rattle.desk.specs.declared.On.{On}
 use Rattle.desk.specs.Layout.{noReport, lineSlots, lineFields, noLine}
 use Rattle.desk.specs.Views.{linesIn, radioRow, radiosOf}
 use Rattle.desk.proofs.LinesLaws.{length-lines-in}
@@ -29,25 +30,37 @@ use Rattle.memo.specs.Memo.{rowOf, linesOf}
 use Rattle.sound_grid.proofs.LoopLaws.{all-nil}
 use Rattle.waiting.specs.Waiting.{rowOf as reportRow, reportsOf}
 use Rattle.sound_radios.specs.Tables.{tableSize, fieldEnd, half, Blank, added, written, Named, lineNamed, judged, markNew, belongsBy, missedOff, oneOff}
-use Rattle.sound_radios.proofs.TableLaws.{row-next, row-none, Adding, adding-end, adding-key, adding-turn}
+use Rattle.sound_radios.proofs.TableLaws.{row-next, row-none, Adding, adding-start, adding-end, adding-key, adding-turn}
 
 -- ---- radios on
 
-module _ (radios : List ℕ) (n : ℕ) {t₀ : List ℕ} {i : ℕ} {t : List ℕ} (a : Adding oneOff t₀ (radiosOf (record { n = n; radios = radios })) i t) where
-  pub on-end : n ≤ i → t ≡ added oneOff t₀ (radiosOf (record { n = n; radios = radios }))
-  unfolding radiosOf
-  on-end h = adding-end a (row-none radioRow radios n i h)
+-- the radios before i are written: with the rest it is the whole
+pub record OnDue (o : On) (t₀ : List ℕ) (i : ℕ) (t : List ℕ) : Type 0 where
+  pub radios : UpTo maxRadio (drop i (radiosOf o))
+  pub same : written oneOff t (drop i (radiosOf o)) ≡ written oneOff t₀ (radiosOf o)
 
-  module _ (size : length radios ≡ maxOn) (few : n ≤ maxOn) (more : i < n) where
-    on-next : drop i (radiosOf (record { n = n; radios = radios })) ≡ radioRow (getD radios i 0) ∷ drop (i + 1) (radiosOf (record { n = n; radios = radios }))
+pub on-start : (o : On) {t : List ℕ} → UpTo maxRadio (radiosOf o) → OnDue o t 0 t
+on-start o u = record { radios = u; same = refl }
+
+module _ (o : On) {t₀ : List ℕ} {i : ℕ} {t : List ℕ} (d : OnDue o t₀ i t) where
+  pub on-end : o .n ≤ i → t ≡ written oneOff t₀ (radiosOf o)
+  unfolding radiosOf written
+  on-end h = ap (written oneOff t) (sym (row-none radioRow (o .radios) (o .n) i h)) ∙ d .same
+
+  module _ (size : length (o .radios) ≡ maxOn) (few : o .n ≤ maxOn) (more : i < o .n) where
+    on-next : drop i (radiosOf o) ≡ radioRow (getD (o .radios) i 0) ∷ drop (i + 1) (radiosOf o)
     unfolding radiosOf
-    on-next = row-next radioRow radios n i 0 (omega arith) more
+    on-next = row-next radioRow (o .radios) (o .n) i 0 (omega arith) more
 
-    pub on-radio : getD radios i 0 ≤ maxRadio
-    on-radio = adding-key a on-next
+    on-here : UpTo maxRadio (radioRow (getD (o .radios) i 0) ∷ drop (i + 1) (radiosOf o))
+    on-here = subst (λ (l : Rows (Unit {0})). UpTo maxRadio l) on-next (d .radios)
 
-    pub on-turn : {k v : ℕ} → k ≡ getD radios i 0 → v ≡ (getD t k 0 + (fieldEnd - 1)) % fieldEnd → Adding oneOff t₀ (radiosOf (record { n = n; radios = radios })) (i + 1) (set t k v)
-    on-turn e q = adding-turn a on-next e q
+    pub on-radio : getD (o .radios) i 0 ≤ maxRadio
+    on-radio = on-here .0
+
+    pub on-turn : {k : ℕ} → k ≡ getD (o .radios) i 0 → OnDue o t₀ (i + 1) (set t k (fieldEnd - 1))
+    unfolding written
+    on-turn e = rw e (record { radios = on-here .1; same = ap (written oneOff t) (sym on-next) ∙ d .same })
 
 -- ---- waiting reports
 
@@ -116,10 +129,10 @@ module _ (w : Waiting) {t₀ : List ℕ} {i : ℕ} {t : List ℕ} (a : Adding ma
 
 -- ---- memo lines
 
--- the lines before i are written and named: with the rest it is the whole
+-- the lines before i are added and named: with the rest it is the whole
 pub record LinesDue (m : Memo) (t₀ : List ℕ) (i : ℕ) (t lines : List ℕ) : Type 0 where
   pub rise : Rising 0 (drop i (linesOf m))
-  pub missed : written missedOff t (drop i (linesOf m)) ≡ written missedOff t₀ (linesOf m)
+  pub missed : Adding missedOff t₀ (linesOf m) i t
   pub size : length lines ≡ tableSize
   pub named : Named (m .words) lines
   pub found : (q : ℕ) → orElse (find (drop i (linesOf m)) q) (lineNamed (m .words) (getD lines q 0)) ≡ find (linesOf m) q
@@ -135,31 +148,31 @@ or-none : {A : Type 0} (o : Option A) → orElse o none ≡ o
 or-none none = refl
 or-none (some a) = refl
 
-pub lines-start : (m : Memo) {t lines : List ℕ} → length (m .words) ≡ lineFields * lineSlots → Rising 0 (linesOf m) → Blank lines → LinesDue m t 0 t lines
-lines-start m l r z = record {
+pub lines-start : (m : Memo) {t lines : List ℕ} → length (m .words) ≡ lineFields * lineSlots → Rising 0 (linesOf m) → UpTo maxRadio (linesOf m) → Blank lines → LinesDue m t 0 t lines
+lines-start m l r u z = record {
   rise = r;
-  missed = refl;
+  missed = adding-start missedOff u;
   size = z .size;
   named = record { size = l; place = λ q. omega (arith, z .zeros q) };
   found = λ q. ap (λ (k : ℕ). orElse (find (linesOf m) q) (lineNamed (m .words) k)) (z .zeros q) ∙ or-none (find (linesOf m) q);
 }
 
 module _ (m : Memo) {t₀ : List ℕ} {i : ℕ} {t lines : List ℕ} (l : LinesDue m t₀ i t lines) where
-  pub lines-end : m .n ≤ i → (t ≡ written missedOff t₀ (linesOf m)) × Named (m .words) lines × (judged (m .words) lines ≡ stale (linesOf m))
-  unfolding linesOf written find judged
+  pub lines-end : m .n ≤ i → (t ≡ added missedOff t₀ (linesOf m)) × Named (m .words) lines × (judged (m .words) lines ≡ stale (linesOf m))
+  unfolding linesOf find judged
   lines-end h =
       let z = row-none rowOf (linesIn (m .words)) (m .n) i h in
       let named : (q : ℕ) → lineNamed (m .words) (getD lines q 0) ≡ find (linesOf m) q = λ q.
       ap (λ (y : Rows StoreLine). orElse (find y q) (lineNamed (m .words) (getD lines q 0))) (sym z) ∙ l .found q in
-      (ap (written missedOff t) (sym z) ∙ l .missed, l .named, λ j e. staleBy (named (e .key) j) (e .val))
+      (adding-end (l .missed) z, l .named, λ j e. staleBy (named (e .key) j) (e .val))
 
 module _ (m : Memo) {i : ℕ} (size : length (m .words) ≡ lineFields * lineSlots) (few : m .n ≤ lineSlots) (more : i < m .n) {line : Line} (read : line ≡ getD (linesIn (m .words)) i noLine) where
   line-next : drop i (linesOf m) ≡ rowOf line ∷ drop (i + 1) (linesOf m)
   unfolding linesOf
   line-next = rw read (row-next rowOf (linesIn (m .words)) (m .n) i noLine (let l = length-lines-in lineSlots (m .words) size in omega arith) more)
 
-  pub line-radio : UpTo maxRadio (linesOf m) → line .radio ≤ maxRadio
-  line-radio u = subst (λ (l : Rows StoreLine). UpTo maxRadio l) line-next (each-drop (λ x. x .key ≤ maxRadio) i (linesOf m) u) .0
+  pub line-radio : {t₀ t lines : List ℕ} → LinesDue m t₀ i t lines → line .radio ≤ maxRadio
+  line-radio l = adding-key (l .missed) line-next
 
   module _ {t₀ t lines : List ℕ} (l : LinesDue m t₀ i t lines) {k : ℕ} (at : k ≡ line .radio) (inside : k < tableSize) where
     rise-next : Rising (line .radio) (drop (i + 1) (linesOf m))
@@ -178,14 +191,12 @@ module _ (m : Memo) {i : ℕ} (size : length (m .words) ≡ lineFields * lineSlo
         rw (find-below q (line .radio) rest (omega arith) rise-next, n, ← read) (rw e at before))
         (λ e. rw (getD-set-other lines k q (i + 1) 0 (λ z. eqb-false q (line .radio) e (z ∙ at))) (rw e at before))
 
-    pub lines-turn : {a p : ℕ} → a ≡ (fieldEnd - half * min (line .missed) (half - 1)) % fieldEnd → p ≡ i + 1 → LinesDue m t₀ (i + 1) (set t k a) (set lines k p)
-    unfolding written
-    lines-turn {a} {p} q e =
-        let before : written missedOff t (rowOf line ∷ drop (i + 1) (linesOf m)) ≡ written missedOff t₀ (linesOf m) = ap (written missedOff t) (sym line-next) ∙ l .missed in
+    pub lines-turn : {a v p : ℕ} → a ≡ (fieldEnd - half * min (line .missed) (half - 1)) % fieldEnd → v ≡ (getD t k 0 + a) % fieldEnd → p ≡ i + 1 → LinesDue m t₀ (i + 1) (set t k v) (set lines k p)
+    lines-turn q w e =
         rw e
         (record {
           rise = rising-less 0 (line .radio) (drop (i + 1) (linesOf m)) (omega arith) rise-next;
-          missed = rw (at, q) before;
+          missed = adding-turn (l .missed) line-next at (w ∙ ap (λ (n : ℕ). (getD t k 0 + n) % fieldEnd) q);
           size = length-set lines k (i + 1) ∙ l .size;
           named = record { size = size; place = λ j. getD-set-le lines k (i + 1) j lineSlots (l .named .place j) (omega arith) };
           found = named-next;

@@ -41,6 +41,7 @@ pub record Known (b : List ℕ) (d : Desk) : Type 0 where
   pub reports-rise : Rising 0 (reportsOf (d .waiting))
   pub reports : UpTo maxRadio (reportsOf (d .waiting))
   pub radios : UpTo maxRadio (radiosOf (d .on))
+  pub radios-rise : Rising 0 (radiosOf (d .on))
   pub on-once : (q : ℕ) → keyed q (radiosOf (d .on)) ≤ 1
   pub entries : UpTo maxRadio (concat (rowsRead b (d .grid .cells)))
   pub once : (q : ℕ) → keyed q (concat (rowsRead b (d .grid .cells))) ≤ maxCells
@@ -75,6 +76,7 @@ module _ (b : List ℕ) (d : Desk) (shape : Shaped d) (sound : deskSound d ≡ t
         reports-rise = w .1;
         reports = w .2;
         radios = o .2;
+        radios-rise = o .1;
         on-once = λ q. one-row q (radiosOf (d .on)) (o .1);
         entries = radios-read sheets;
         once = once-read sheets (within cellOf (d .grid .cells .n) maxCells (d .grid .cells .slots) (shape .cells) (counts .0));

@@ -40,11 +40,11 @@ goes-two false false c e = cc
 module _ {b : List ℕ} {d : Desk} (k : Known b d) where
   -- ---- what the calls ask
 
-  pub lines-asks : {z : List ℕ} → Blank z → (d .memo .n ≤ lineSlots) × Rising 0 (linesOf (d .memo)) × UpTo maxRadio (linesOf (d .memo)) × Blank z
-  lines-asks z = (k .few-lines, k .rise, k .lines, z)
-
   pub on-asks : (d .on .n ≤ maxOn) × UpTo maxRadio (radiosOf (d .on))
   on-asks = (k .few-on, k .radios)
+
+  pub lines-asks : {z : List ℕ} → Blank z → (d .memo .n ≤ lineSlots) × Rising 0 (linesOf (d .memo)) × UpTo maxRadio (linesOf (d .memo)) × Blank z
+  lines-asks z = (k .few-lines, k .rise, k .lines, z)
 
   pub new-asks : (d .waiting .n ≤ fullMemory) × Rising 0 (reportsOf (d .waiting)) × UpTo maxRadio (reportsOf (d .waiting))
   new-asks = (k .few-waiting, k .reports-rise, k .reports)
@@ -69,14 +69,14 @@ module _ {b : List ℕ} {d : Desk} (k : Known b d) where
   abbrev rows : List (Rows Place)
   rows = rowsRead b (d .grid .cells)
 
-  module _ {z t₁ t₂ : List ℕ} {so : Bool} (blank : Blank z) (all-missed : t₁ ≡ written missedOff z (linesOf (d .memo)))
-      (all-on : t₂ ≡ added oneOff t₁ (radiosOf (d .on))) (belong : so ≡ all (belongsBy t₂) (reportsOf (d .waiting))) where
-    due : t₂ ≡ added oneOff (written missedOff z lines) heard
-    due = all-on ∙ ap (λ (t : List ℕ). added oneOff t heard) all-missed
+  module _ {z t₁ t₂ : List ℕ} {so : Bool} (blank : Blank z) (all-on : t₁ ≡ written oneOff z (radiosOf (d .on)))
+      (all-missed : t₂ ≡ added missedOff t₁ (linesOf (d .memo))) (belong : so ≡ all (belongsBy t₂) (reportsOf (d .waiting))) where
+    due : t₂ ≡ added missedOff (written oneOff z heard) lines
+    due = all-missed ∙ ap (λ (t : List ℕ). added missedOff t lines) all-on
 
     unmarked : so ≡ unmarkedTest waits heard
     unfolding onAt
-    unmarked = belong ∙ ap (λ (t : List ℕ). all (belongsBy t) waits) due ∙ belong-unmarked lines (k .rise) (k .lines) blank waits heard (k .radios) (k .on-once)
+    unmarked = belong ∙ ap (λ (t : List ℕ). all (belongsBy t) waits) due ∙ belong-unmarked lines (k .rise) (k .lines) blank heard (k .radios-rise) (k .radios) (k .on-once) waits
 
     pub radios-off : not so ≡ true → false ≡ entriesTest (linesOf (d .memo)) (reportsOf (d .waiting)) (radiosOf (d .on)) (d .tally) (rowsRead b (d .grid .cells))
     unfolding entriesTest
@@ -86,7 +86,7 @@ module _ {b : List ℕ} {d : Desk} (k : Known b d) where
         (all-new : t₃ ≡ added markNew t₂ (reportsOf (d .waiting))) (all-found : t₄ ≡ added (weigh old) t₃ (concat (rowsRead b (d .grid .cells))))
         (all-stale : take (d .grid .cells .n) counts ≡ map (staleSum old) (rowsRead b (d .grid .cells)))
         (said : settled ≡ allSettled t₄) where
-      balance : t₄ ≡ added (weigh (stale lines)) (added markNew (added oneOff (written missedOff z lines) heard) waits) (concat rows)
+      balance : t₄ ≡ added (weigh (stale lines)) (added markNew (added missedOff (written oneOff z heard) lines) waits) (concat rows)
       balance =
           all-found
           ∙ ap₂ (λ (o : Row Place → Bool) (t : List ℕ). added (weigh o) t (concat rows)) as-memo (all-new ∙ ap (λ (t : List ℕ). added markNew t waits) due)
@@ -95,7 +95,7 @@ module _ {b : List ℕ} {d : Desk} (k : Known b d) where
       unfolding onAt
       tests =
           settled-tests lines (concat rows) waits heard (k .once) (omega (arith, k .waits, k .few-waiting)) (k .on-once) t₄
-          (balance-counts lines (k .rise) (k .lines) blank (concat rows) waits heard (k .entries) (k .reports) (k .radios) balance)
+          (balance-counts lines (k .rise) (k .lines) blank heard (k .radios-rise) (k .radios) (k .on-once) (concat rows) waits (k .entries) (k .reports) balance)
           (k .rise) (k .lines) (k .missed)
 
       counted : take (d .grid .cells .n) counts ≡ staleCounts lines rows

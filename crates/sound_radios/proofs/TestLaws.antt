@@ -22,7 +22,7 @@ use Rattle.rules.specs.Store.{Report, Line}
 use Rattle.rules.specs.Sweep.{stale}
 use Rattle.mirror.specs.Loops.{passing}
 use Rattle.mirror.specs.Radios.{liveAt, staleAt, newAt, onAt, entriesAt, presentTest, unmarkedTest, lineTest, linesTest, missedAt}
-use Rattle.mirror.proofs.LoopsLaws.{bool-same, allTo-true, true-allTo}
+use Rattle.mirror.proofs.LoopsLaws.{bool-same, allTo-true, true-allTo, passing-found}
 use Rattle.mirror.proofs.RadiosLaws.{stale-live, stale-missed}
 use Rattle.sound_radios.specs.Tables.{tableSize, fieldEnd, half, Blank, keyed, added, written, weigh, markNew, belongsBy, missedOff, oneOff, allSettled}
 use Rattle.sound_radios.proofs.TableLaws.{Comes, share, added-comes, foundOr, written-found, length-added, length-written}
@@ -51,12 +51,6 @@ module _ {Val : Type 0} where
   unfolding passing both
   share-one t q l = sum-ext (share (λ x. one-if (t x)) q) (λ x. one-if (both (eqb q (x .key)) (t x))) l (λ x. by-cases (eqb q (x .key)) (λ e. rw e) (λ e. rw e))
 
-  share-each : (n q : ℕ) (l : Rows Val) → sumBy (share (λ _. n) q) l ≡ n * keyed q l
-  unfolding passing both
-  share-each n q l =
-      let f : Row Val → ℕ = λ x. one-if (both (eqb q (x .key)) true) in
-      sum-ext (share (λ _. n) q) (λ x. n * f x) l (λ x. by-cases (eqb q (x .key)) (λ e. rw e (omega arith)) (λ e. rw e (omega arith))) ∙ sum-times n f l
-
 share-weight : (old : Row Place → Bool) (q : ℕ) (es : Rows Place) → sumBy (share (weigh old) q) es ≡ passing (λ x. not (old x)) q es + half * passing old q es
 unfolding passing both
 share-weight old q es =
@@ -76,6 +70,19 @@ low-short n m e h = absurd (omega arith)
 abbrev Balance : Rows Line → Rows Place → Rows Report → Rows (Unit {0}) → List ℕ → Type 0
 Balance memo es ws on t = (q : ℕ) → Comes t q (half * min (missedAt q memo) (half - 1)) ((fieldEnd - 1) * onAt q on + (liveAt memo q es + newAt q ws + half * staleAt memo q es))
 
+-- a radio on has 1 taken off
+on-off : (on : Rows (Unit {0})) → Rising 0 on → UpTo maxRadio on → {z : List ℕ} → Blank z → (q : ℕ) → getD (written oneOff z on) q 0 ≡ (fieldEnd - 1) * onAt q on
+unfolding onAt
+on-off on rise heard {z} blank q = rw (written-found oneOff z 0 on q rise (in-table z on (blank .size) heard), blank .zeros q, passing-found (λ _. true) 0 q on rise) (here (find on q))
+  where
+    here : (o : Option (Unit {0})) → foundOr oneOff q 0 o ≡ (fieldEnd - 1) * countFound (λ _ _. 1) q o
+    here none = refl
+    here (some x) = refl
+
+-- what goes round to 0 with c takes it off
+round-off : (a c s : ℕ) → (s + c) % fieldEnd ≡ 0 → (a + c + s) % fieldEnd ≡ a % fieldEnd
+round-off a c s e = omega arith
+
 module _ (memo : Rows Line) (rise : Rising 0 memo) (ends : UpTo maxRadio memo) where
   missed-found : (q : ℕ) → missedAt q memo ≡ countFound (λ _ l. l .missed) q (find memo q)
   unfolding missedAt
@@ -86,51 +93,50 @@ module _ (memo : Rows Line) (rise : Rising 0 memo) (ends : UpTo maxRadio memo) w
       here (some l) = rw (eq-eqb q q refl)
 
   -- a line's missed count is taken off
-  off-found : (q : ℕ) (o : Option Line) → (foundOr missedOff q 0 o < fieldEnd) × ((foundOr missedOff q 0 o + half * min (countFound (λ _ l. l .missed) q o) (half - 1)) % fieldEnd ≡ 0)
-  off-found q none = (omega arith, refl)
-  off-found q (some l) = (omega arith, omega arith)
+  off-found : (q : ℕ) (o : Option Line) → (countFound (λ k l. share missedOff q (record { key = k; val = l })) q o + half * min (countFound (λ _ l. l .missed) q o) (half - 1)) % fieldEnd ≡ 0
+  off-found q none = refl
+  off-found q (some l) = rw (eq-eqb q q refl) (omega arith)
 
-  module _ {z : List ℕ} (blank : Blank z) where
-    off-missed : (q : ℕ) → Comes (written missedOff z memo) q (half * min (missedAt q memo) (half - 1)) 0
-    off-missed q =
-        rw (written-found missedOff z 0 memo q rise (in-table z memo (blank .size) ends), blank .zeros q, missed-found q) (off-found q (find memo q))
+  off-missed : (q : ℕ) → (sumBy (share missedOff q) memo + half * min (missedAt q memo) (half - 1)) % fieldEnd ≡ 0
+  off-missed q =
+      rw (sum-at-key (share missedOff q) 0 q memo (λ l h. rw (ne-eqb q (l .key) (λ e. h (sym e)))) rise, missed-found q) (off-found q (find memo q))
 
-    -- and 1 of each radio on
-    off-on : (on : Rows (Unit {0})) → UpTo maxRadio on → (q : ℕ) → Comes (added oneOff (written missedOff z memo) on) q (half * min (missedAt q memo) (half - 1)) ((fieldEnd - 1) * onAt q on)
-    unfolding onAt
-    off-on on heard q =
-        let t = written missedOff z memo in
-        let n : 0 + sumBy (share oneOff q) on ≡ (fieldEnd - 1) * onAt q on = omega (arith, share-each (fieldEnd - 1) q on) in
-        rw (← n)
-        (added-comes oneOff t on q (half * min (missedAt q memo) (half - 1)) 0 (in-table t on (length-written missedOff z memo ∙ blank .size) heard) (off-missed q))
+  module _ {z : List ℕ} (blank : Blank z) (on : Rows (Unit {0})) (on-rise : Rising 0 on) (heard : UpTo maxRadio on) (once : (q : ℕ) → onAt q on ≤ 1) where
+    -- and 1 where it is on
+    off-due : (q : ℕ) → Comes (added missedOff (written oneOff z on) memo) q (half * min (missedAt q memo) (half - 1)) ((fieldEnd - 1) * onAt q on)
+    off-due q =
+        let t = written oneOff z on in
+        let c = half * min (missedAt q memo) (half - 1) in
+        let o = on-off on on-rise heard blank q in
+        let k = added-comes missedOff t memo q c ((fieldEnd - 1) * onAt q on + c) (in-table t memo (length-written oneOff z on ∙ blank .size) ends) (omega (arith, o, once q), ap (λ (n : ℕ). (n + c) % fieldEnd) o) in
+        (k .0, k .1 ∙ round-off ((fieldEnd - 1) * onAt q on) c (sumBy (share missedOff q) memo) (off-missed q))
 
     -- so the low half tells who is on
-    on-half : (on : Rows (Unit {0})) → UpTo maxRadio on → (q : ℕ) → onAt q on ≤ 1 → not (eqb (getD (added oneOff (written missedOff z memo) on) q 0 % half) 0) ≡ ltb 0 (onAt q on)
-    on-half on heard q once =
-        let n = getD (added oneOff (written missedOff z memo) on) q 0 in
-        let k = off-on on heard q in
+    on-half : (q : ℕ) → not (eqb (getD (added missedOff (written oneOff z on) memo) q 0 % half) 0) ≡ ltb 0 (onAt q on)
+    on-half q =
+        let n = getD (added missedOff (written oneOff z on) memo) q 0 in
+        let k = off-due q in
         by-cases (ltb 0 (onAt q on))
         (λ t.
-        let o : onAt q on ≡ 1 = let h = ltb-true 0 (onAt q on) t in omega arith in
+        let o : onAt q on ≡ 1 = let h = ltb-true 0 (onAt q on) t in omega (arith, once q) in
         ap not (ne-eqb (n % half) 0 (low-short n (min (missedAt q memo) (half - 1)) (k .1 ∙ ap (λ (m : ℕ). ((fieldEnd - 1) * m) % fieldEnd) o))) ∙ sym t)
         (λ t. let h = ltb-false 0 (onAt q on) t in ap not (eq-eqb (n % half) 0 (omega (arith, k .0, k .1))) ∙ sym t)
 
-    pub belong-unmarked : (ws : Rows Report) (on : Rows (Unit {0})) → UpTo maxRadio on → ((q : ℕ) → onAt q on ≤ 1) → all (belongsBy (added oneOff (written missedOff z memo) on)) ws ≡ unmarkedTest ws on
+    pub belong-unmarked : (ws : Rows Report) → all (belongsBy (added missedOff (written oneOff z on) memo)) ws ≡ unmarkedTest ws on
     unfolding unmarkedTest
-    belong-unmarked ws on heard once = ap (λ (p : Row Report → Bool). all p ws) (fun-ext (λ w. ap (either (w .val .new)) (on-half on heard (w .key) (once (w .key)))))
+    belong-unmarked ws = ap (λ (p : Row Report → Bool). all p ws) (fun-ext (λ w. ap (either (w .val .new)) (on-half (w .key))))
 
-    module _ (es : Rows Place) (ws : Rows Report) (on : Rows (Unit {0})) (radios : UpTo maxRadio es) (reports : UpTo maxRadio ws) (heard : UpTo maxRadio on) where
-      pub balance-counts : {t : List ℕ} → t ≡ added (weigh (stale memo)) (added markNew (added oneOff (written missedOff z memo) on) ws) es → Balance memo es ws on t
+    module _ (es : Rows Place) (ws : Rows Report) (radios : UpTo maxRadio es) (reports : UpTo maxRadio ws) where
+      pub balance-counts : {t : List ℕ} → t ≡ added (weigh (stale memo)) (added markNew (added missedOff (written oneOff z on) memo) ws) es → Balance memo es ws on t
       unfolding liveAt newAt staleAt
       balance-counts {t} e q =
-          let t₁ = written missedOff z memo in
-          let t₂ = added oneOff t₁ on in
+          let t₁ = written oneOff z on in
+          let t₂ = added missedOff t₁ memo in
           let t₃ = added markNew t₂ ws in
-          let l₁ : length t₁ ≡ tableSize = length-written missedOff z memo ∙ blank .size in
-          let l₂ : length t₂ ≡ tableSize = length-added oneOff t₁ on ∙ l₁ in
+          let l₂ : length t₂ ≡ tableSize = length-added missedOff t₁ memo ∙ length-written oneOff z on ∙ blank .size in
           let l₃ : length t₃ ≡ tableSize = length-added markNew t₂ ws ∙ l₂ in
           let c = half * min (missedAt q memo) (half - 1) in
-          let k₃ = added-comes markNew t₂ ws q c _ (in-table t₂ ws l₂ reports) (off-on on heard q) in
+          let k₃ = added-comes markNew t₂ ws q c _ (in-table t₂ ws l₂ reports) (off-due q) in
           let k₄ = added-comes (weigh (stale memo)) t₃ es q c _ (in-table t₃ es l₃ radios) k₃ in
           let n : (fieldEnd - 1) * onAt q on + sumBy (share markNew q) ws + sumBy (share (weigh (stale memo)) q) es ≡ (fieldEnd - 1) * onAt q on + (liveAt memo q es + newAt q ws + half * staleAt memo q es) =
           omega (arith, share-one (λ w. w .val .new) q ws, share-weight (stale memo) q es) in

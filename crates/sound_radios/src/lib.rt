@@ -49,6 +49,9 @@ const UNMARKED: u16 = 0;
 // A number by radio where what is due is found, and no more.
 const SETTLED: u16 = 0;
 
+// A settled number with 1 taken off, in 16 bits.
+const ONE_OFF: u16 = 65535;
+
 // ---- numbers
 
 fn long(x: u16) -> usize
@@ -217,6 +220,19 @@ fn tally_new<'a>(w: Waiting, balance: &'a mut [u16; RADIOS]) -> bool
 
 // ---- what is due
 
+// Each radio on takes 1 off. Its number is settled before, so 1 off is written and nothing read.
+fn on_due<'a>(radios: &'a [u16; Desk::MAX_ON], n: usize, balance: &'a mut [u16; RADIOS])
+    requires { ⌜ (length (now radios) ≡ maxOn) × (n ≤ maxOn) × UpTo maxRadio (radiosOf (record { n = n; radios = now radios })) ⌝ }
+    ensures { λ _. ⌜ now (balance .exit) ≡ written oneOff (now (balance .entry)) (radiosOf (record { n = n; radios = now (radios .entry) })) ⌝ }
+{
+    let mut i: usize = 0;
+    while i < n {
+        let k = radio_index(radios[i]);
+        balance[k] = ONE_OFF;
+        i += 1;
+    }
+}
+
 // As much of a missed count as a half holds: more than a radio can have stale entries.
 fn clipped(missed: u16) -> u16
     ensures { λ r. ⌜ (r ≡ min missed (half - 1)) × (r < half) ⌝ }
@@ -238,7 +254,7 @@ fn place_from_one(i: usize) -> u16
     (i + 1) as u16
 }
 
-// Each line writes its missed count, and where it stands.
+// Each line takes its missed count off, and writes where it stands.
 fn lines_due<'a>(
     words: &'a [u16; Desk::MEMO_WORDS],
     n: usize,
@@ -246,28 +262,15 @@ fn lines_due<'a>(
     lines: &'a mut [u16; RADIOS],
 )
     requires { ⌜ (length (now words) ≡ lineFields * lineSlots) × (n ≤ lineSlots) × Rising 0 (linesOf (record { n = n; words = now words })) × UpTo maxRadio (linesOf (record { n = n; words = now words })) × Blank (now lines) ⌝ }
-    ensures { λ _. ⌜ (now (balance .exit) ≡ written missedOff (now (balance .entry)) (linesOf (record { n = n; words = now (words .entry) }))) × Named (now (words .entry)) (now (lines .exit)) × (judged (now (words .entry)) (now (lines .exit)) ≡ stale (linesOf (record { n = n; words = now (words .entry) }))) ⌝ }
+    ensures { λ _. ⌜ (now (balance .exit) ≡ added missedOff (now (balance .entry)) (linesOf (record { n = n; words = now (words .entry) }))) × Named (now (words .entry)) (now (lines .exit)) × (judged (now (words .entry)) (now (lines .exit)) ≡ stale (linesOf (record { n = n; words = now (words .entry) }))) ⌝ }
 {
     let mut i: usize = 0;
     while i < n {
         let x = desk::line_at(words, i);
         let k = radio_index(x.radio);
-        balance[k] = missed_off(x);
-        lines[k] = place_from_one(i);
-        i += 1;
-    }
-}
-
-// Each radio on takes 1 off.
-fn on_due<'a>(radios: &'a [u16; Desk::MAX_ON], n: usize, balance: &'a mut [u16; RADIOS])
-    requires { ⌜ (length (now radios) ≡ maxOn) × (n ≤ maxOn) × UpTo maxRadio (radiosOf (record { n = n; radios = now radios })) ⌝ }
-    ensures { λ _. ⌜ now (balance .exit) ≡ added oneOff (now (balance .entry)) (radiosOf (record { n = n; radios = now (radios .entry) })) ⌝ }
-{
-    let mut i: usize = 0;
-    while i < n {
-        let k = radio_index(radios[i]);
         let before = balance[k];
-        balance[k] = minus(before, 1);
+        balance[k] = plus(before, missed_off(x));
+        lines[k] = place_from_one(i);
         i += 1;
     }
 }
@@ -333,8 +336,8 @@ pub fn radios_sound<'a>(
 {
     let mut balance = [SETTLED; RADIOS];
     let mut lines = [NO_LINE; RADIOS];
-    lines_due(words, n, &mut balance, &mut lines);
     on_due(&on.radios, on.n, &mut balance);
+    lines_due(words, n, &mut balance, &mut lines);
     if !tally_new(waiting, &mut balance) {
         return false;
     }

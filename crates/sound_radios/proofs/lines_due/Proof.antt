@@ -1,4 +1,4 @@
--- The lines so far are written and named (`LinesDue`).
+-- The lines so far are added and named (`LinesDue`).
 use Prim.Native.Nat.{_-_, _≤_}
 use Rattle.sound_radios.proofs.DueLaws.{LinesDue, lines-start, line-radio, lines-turn, lines-end}
 use borrow.Author.Needs.{needs}
@@ -20,8 +20,17 @@ line-at-requires c κs = search needs
 radio-index-requires : tie.Need-radio-index-requires Inv-loop μ-loop
 radio-index-requires c κs = search line-radio
 
+mul-before : tie.Need-mul-before Inv-loop μ-loop
+mul-before c = search needs
+
+element-copy-out-before : tie.Need-element-copy-out-before Inv-loop μ-loop
+element-copy-out-before c = search needs
+
 missed-off-requires : tie.Need-missed-off-requires Inv-loop μ-loop
 missed-off-requires c κs = search needs
+
+plus-requires : tie.Need-plus-requires Inv-loop μ-loop
+plus-requires c κs = search needs
 
 mul-balance : tie.Need-mul-balance Inv-loop μ-loop
 mul-balance c = search needs
@@ -59,7 +68,10 @@ lines-due-spec =
     loop-holds
     line-at-requires
     radio-index-requires
+    mul-before
+    element-copy-out-before
     missed-off-requires
+    plus-requires
     mul-balance
     element-write-balance
     place-from-one-requires

@@ -1,21 +1,18 @@
--- The radios so far are added (`Adding`).
+-- The radios so far are written (`OnDue`).
 use Prim.Native.Nat.{_-_, _≤_}
-use Rattle.desk.specs.Views.{radiosOf}
-use Rattle.sound_radios.specs.Tables.{oneOff}
-use Rattle.sound_radios.proofs.TableLaws.{Adding, adding-start}
-use Rattle.sound_radios.proofs.DueLaws.{on-radio, on-turn, on-end}
+use Rattle.sound_radios.proofs.DueLaws.{OnDue, on-start, on-radio, on-turn, on-end}
 use borrow.Author.Needs.{needs}
 use Rattle.sound_radios.proofs.on_due.Statement.{statement}
 use Rattle.sound_radios.proofs.on_due.Tie as tie
 
 abbrev Inv-loop : tie.InvT-loop
-Inv-loop radios n balance₀ i₀ balance i = (i ≤ n) × Adding oneOff balance₀ (radiosOf (record { n = n; radios = radios })) i balance
+Inv-loop radios n balance₀ i₀ balance i = (i ≤ n) × OnDue (record { n = n; radios = radios }) balance₀ i balance
 
 abbrev μ-loop : tie.MeasureT-loop
 μ-loop radios n balance₀ i₀ balance i = n - i
 
 loop-holds : tie.Need-loop-holds Inv-loop μ-loop
-loop-holds c = (search needs, search adding-start)
+loop-holds c = (search needs, search on-start)
 
 mul-radio-index : tie.Need-mul-radio-index Inv-loop μ-loop
 mul-radio-index c = search needs
@@ -24,16 +21,7 @@ element-copy-out-radio-index : tie.Need-element-copy-out-radio-index Inv-loop μ
 element-copy-out-radio-index c = search needs
 
 radio-index-requires : tie.Need-radio-index-requires Inv-loop μ-loop
-radio-index-requires c κs = search on-radio
-
-mul-before : tie.Need-mul-before Inv-loop μ-loop
-mul-before c = search needs
-
-element-copy-out-before : tie.Need-element-copy-out-before Inv-loop μ-loop
-element-copy-out-before c = search needs
-
-minus-requires : tie.Need-minus-requires Inv-loop μ-loop
-minus-requires c κs = search needs
+radio-index-requires c κs = let l = c .before .before in on-radio _ (l .loop .inv .1) (l .before .pre .0) (l .before .pre .1) (c .before .loop-test .taken)
 
 mul-balance : tie.Need-mul-balance Inv-loop μ-loop
 mul-balance c = search needs
@@ -63,9 +51,6 @@ on-due-spec =
     mul-radio-index
     element-copy-out-radio-index
     radio-index-requires
-    mul-before
-    element-copy-out-before
-    minus-requires
     mul-balance
     element-write-balance
     add-i

@@ -2,7 +2,7 @@
 use Rattle.lists.proofs.ShiftLaws.{length-mapped}
 use Rattle.sound_radios.proofs.KnownLaws.{Known, known}
 use Rattle.sound_radios.proofs.TestLaws.{blank-zeros}
-use Rattle.sound_radios.proofs.SoundLaws.{lines-asks, on-asks, new-asks, cells-asks, bound-asks, radios-off, radios-fail, radios-bound}
+use Rattle.sound_radios.proofs.SoundLaws.{on-asks, lines-asks, new-asks, cells-asks, bound-asks, radios-off, radios-fail, radios-bound}
 use borrow.Author.Needs.{needs}
 use Rattle.sound_radios.proofs.radios_sound.Statement.{statement}
 use Rattle.sound_radios.proofs.radios_sound.Tie as tie
@@ -15,15 +15,15 @@ use Rattle.sound_radios.proofs.on_due.Reads as on-due-reads
 use Rattle.sound_radios.proofs.tally_cells.Reads as tally-cells-reads
 use Rattle.sound_radios.proofs.tally_new.Reads as tally-new-reads
 
-shown : (s : lts.Start (lines-due-reads.Asked, lines-due-reads.Learnt, on-due-reads.Asked, on-due-reads.Learnt, tally-new-reads.Asked, tally-new-reads.Learnt, tally-cells-reads.Asked, tally-cells-reads.Learnt, all-settled-reads.Asked, all-settled-reads.Learnt, bound-ok-reads.Asked, bound-ok-reads.Learnt) reads.Pre reads.Post)
+shown : (s : lts.Start (on-due-reads.Asked, on-due-reads.Learnt, lines-due-reads.Asked, lines-due-reads.Learnt, tally-new-reads.Asked, tally-new-reads.Learnt, tally-cells-reads.Asked, tally-cells-reads.Learnt, all-settled-reads.Asked, all-settled-reads.Learnt, bound-ok-reads.Asked, bound-ok-reads.Learnt) reads.Pre reads.Post)
     → Known (s .args .pages .now) (record { grid = s .args .grid; waiting = s .args .waiting; memo = record { n = s .args .n; words = s .args .words .now }; on = s .args .t6; tally = s .args .tally })
 shown s = known (s .args .pages .now) (record { grid = s .args .grid; waiting = s .args .waiting; memo = record { n = s .args .n; words = s .args .words .now }; on = s .args .t6; tally = s .args .tally }) (record { easts = search needs; norths = search needs; cells = search length-mapped; waiting = search length-mapped; memo = s .pre .0; on = search needs }) (s .pre .1) (s .pre .2)
 
-lines-due-requires : tie.Need-lines-due-requires
-lines-due-requires c κs = let start = c .before .before .before in let a = lines-asks (shown start) blank-zeros in (start .pre .0, a .0, a .1, a .2, a .3)
-
 on-due-requires : tie.Need-on-due-requires
-on-due-requires c κs = let a = on-asks (shown (c .before .before .before .before .before .before .before)) in (search needs, a .0, a .1)
+on-due-requires c κs = let a = on-asks (shown (c .before .before .before .before)) in (search needs, a .0, a .1)
+
+lines-due-requires : tie.Need-lines-due-requires
+lines-due-requires c κs = let start = c .before .before .before .before .before .before .before in let a = lines-asks (shown start) blank-zeros in (start .pre .0, a .0, a .1, a .2, a .3)
 
 tally-new-requires : tie.Need-tally-new-requires
 tally-new-requires c κs = new-asks (shown (c .before .before .before .before .before .before .before .before .before))
@@ -31,12 +31,12 @@ tally-new-requires c κs = new-asks (shown (c .before .before .before .before .b
 returns : tie.Need-returns
 returns c =
     let n = c .before in
-    let o = n .before .before in
-    let l = o .before .before .before .before in
-    radios-off (shown (l .before .before .before .before)) blank-zeros (l .lines-due .ensures .0) (o .on-due .ensures) (n .tally-new .ensures .1) (c .if1 .taken)
+    let l = n .before .before in
+    let o = l .before .before .before in
+    radios-off (shown (o .before .before .before .before .before)) blank-zeros (o .on-due .ensures) (l .lines-due .ensures .0) (n .tally-new .ensures .1) (c .if1 .taken)
 
 tally-cells-requires : tie.Need-tally-cells-requires
-tally-cells-requires c κs = let l = c .before .before .before .before .before .before .before .before .before .before in cells-asks (shown (l .before .before .before .before)) (l .lines-due .ensures .1)
+tally-cells-requires c κs = let l = c .before .before .before .before .before .before in cells-asks (shown (l .before .before .before .before .before .before .before .before)) (l .lines-due .ensures .1)
 
 all-settled-requires : tie.Need-all-settled-requires
 all-settled-requires c κs = search needs
@@ -46,9 +46,9 @@ returns-2 c =
     let t = c .before .before .before in
     let i = t .before .before .before .before in
     let n = i .before in
-    let o = n .before .before in
-    let l = o .before .before .before .before in
-    radios-fail (shown (l .before .before .before .before)) blank-zeros (l .lines-due .ensures .0) (o .on-due .ensures) (n .tally-new .ensures .1) (i .if1 .left) _ (l .lines-due .ensures .2) (n .tally-new .ensures .0) (t .tally-cells .ensures .0) (t .tally-cells .ensures .1) (c .before .all-settled .ensures) (c .if2 .taken)
+    let l = n .before .before in
+    let o = l .before .before .before in
+    radios-fail (shown (o .before .before .before .before .before)) blank-zeros (o .on-due .ensures) (l .lines-due .ensures .0) (n .tally-new .ensures .1) (i .if1 .left) _ (l .lines-due .ensures .2) (n .tally-new .ensures .0) (t .tally-cells .ensures .0) (t .tally-cells .ensures .1) (c .before .all-settled .ensures) (c .if2 .taken)
 
 bound-ok-requires : tie.Need-bound-ok-requires
 bound-ok-requires c κs = bound-asks (shown (c .before .before .before .before .before .before .before .before .before .before .before .before .before .before .before .before .before .before))
@@ -58,16 +58,16 @@ returns-3 c =
     let t = c .before .before .before .before in
     let i = t .before .before .before .before in
     let n = i .before in
-    let o = n .before .before in
-    let l = o .before .before .before .before in
-    radios-bound (shown (l .before .before .before .before)) blank-zeros (l .lines-due .ensures .0) (o .on-due .ensures) (n .tally-new .ensures .1) (i .if1 .left) _ (l .lines-due .ensures .2) (n .tally-new .ensures .0) (t .tally-cells .ensures .0) (t .tally-cells .ensures .1) (c .before .before .all-settled .ensures) (c .before .if2 .left) (c .bound-ok .ensures)
+    let l = n .before .before in
+    let o = l .before .before .before in
+    radios-bound (shown (o .before .before .before .before .before)) blank-zeros (o .on-due .ensures) (l .lines-due .ensures .0) (n .tally-new .ensures .1) (i .if1 .left) _ (l .lines-due .ensures .2) (n .tally-new .ensures .0) (t .tally-cells .ensures .0) (t .tally-cells .ensures .1) (c .before .before .all-settled .ensures) (c .before .if2 .left) (c .bound-ok .ensures)
 
 pub radios-sound-spec : {M : Type 1} → statement M
 radios-sound-spec =
     tie.close
     (tie.spec
-    lines-due-requires
     on-due-requires
+    lines-due-requires
     tally-new-requires
     returns
     tally-cells-requires
