@@ -193,7 +193,8 @@ fn all_marked(marks: [bool; 128]) -> bool
     so
 }
 
-// ---- the walks: each answers whether it passes, and leaves its marks in those lent to it, for each cell would get a copy of them
+// ---- the walks
+// Each answers whether it passes. The marks are lent, for each cell would get a copy of them.
 
 // The chain of a cell, by next page; each page is marked.
 fn walk_chain<'a>(pages: &'a [u8], s: Slot, marks: &'a mut [bool; 128]) -> bool
