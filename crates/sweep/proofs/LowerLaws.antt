@@ -1,9 +1,9 @@
 -- Lines lowered by marks: entries rise by radio, so that a line is marked by its radio's entry only, and what a sweep makes of the memo is each marked line lowered once.
 use mathlib.Core.Path.{_≡_, refl, sym, ap, ap₂, _∙_, subst, fun-ext}
-use mathlib.Core.Bool.{Bool, true, false, not, cond}
+use mathlib.Core.Bool.{Bool, true, false, not, cond, _&&_}
 use mathlib.Core.List.{List, [], _∷_, _++_, append-nil}
 use mathlib.Core.Option.{Option, none, some, Option·map}
-use Prim.Native.Nat.{ℕ, _+_, _-_, _*_, _≤_, _<_}
+use Prim.Native.Nat.{ℕ, zero, suc, _+_, _-_, _*_, _≤_, _<_}
 use native.Mathlib.Nat.{add-zero}
 use native.Mathlib.Numerals.{add-one}
 use native.Mathlib.Omega.{arith}
@@ -15,7 +15,7 @@ use Rattle.terms.specs.Terms.{Place, maxOn}
 use Rattle.lists.specs.Rows.{Row, Rows, Rising, find, rank, putRow, passed}
 use Rattle.lists.specs.Sums.{filter}
 use Rattle.lists.specs.Tests.{one-if, isSome, orElse}
-use Rattle.lists.proofs.Cases.{by-cases, option-cases, none-some}
+use Rattle.lists.proofs.Cases.{by-cases, option-cases, none-some, false-true}
 use Rattle.lists.proofs.RowsLaws.{rising-less, find-below, rising-map, find-map, ext-find}
 use Rattle.lists.proofs.SumsLaws.{sum-le}
 use Rattle.lists.proofs.SearchLaws.{rank-cons, rank-le, rank-between, rising-order}
@@ -32,7 +32,7 @@ use Rattle.desk.proofs.LinesLaws.{lines-none, lines-laid, words-laid}
 use Rattle.memo.specs.Memo.{rowOf, noRow, linesOf, Plain, Whole}
 use Rattle.memo.proofs.MemoLaws.{row-line, plain-recounted, count-memo}
 use Rattle.waiting.proofs.SlotsLaws.{Slots, slots-push, slots-skip, slots-get}
-use Rattle.sweep.specs.Sweep.{linePlaces, lastsOf, elsewhere, isStale, stay, marked, SweepsAll, lowerIf, lineIf, lowerWhere, markOf}
+use Rattle.sweep.specs.Sweep.{linePlaces, lastsOf, elsewhere, isStale, stay, marked, SweepsAll, lowerIf, lineIf, lowerWhere, markOf, Unmarked}
 use Rattle.sweep.proofs.TableLaws.{rank-map}
 use Rattle.sweep.proofs.SweepLaws.{rising-sweptMemo}
 
@@ -291,6 +291,52 @@ module _ (m : Memo) (whole : Whole m) where
       let n : k ≡ memoOf rows .n = c .so .count ∙ sym (count-memo rows) in
       let ws : words ≡ memoOf rows .words = words-laid words rows (c .size) (c .so .list) in
       (λ t. record { n = n t; words = ws t }) ∙ ap (λ (l : Rows StoreLine). memoOf (lowerWhere (markOf marks (linesOf m)) l)) (take-all i (linesOf m) (omega (arith, in-slots .count)))
+
+-- ---- no mark
+
+-- whether none of the first i is marked, as far as they are seen
+pub record Seen (marks : List Bool) (i : ℕ) (so : Bool) : Type 0 where
+  pub only : so ≡ true → Unmarked marks i
+  pub all : Unmarked marks i → so ≡ true
+
+pub seen-start : (marks : List Bool) → Seen marks 0 true
+seen-start marks = record { only = λ e k h. absurd (omega (arith, h)); all = λ u. refl }
+
+and-true : (a b : Bool) → (a && b) ≡ true → (a ≡ true) × (b ≡ true)
+and-true true b e = (refl, e)
+and-true false b e = false-true e
+
+module _ {marks : List Bool} {i : ℕ} {so : Bool} (s : Seen marks i so) where
+  pub seen-turn : Seen marks (i + 1) (so && not (getD marks i false))
+  seen-turn = record {
+    only = λ e k h.
+        let t = and-true so (not (getD marks i false)) e in
+        by-cases (eqb k i)
+        (λ z. rw (eqb-true k i z) (not-true (getD marks i false) (t .1)))
+        (λ z. s .only (t .0) k (omega (arith, h, eqb-false k i z)));
+    all = λ u. rw (s .all (λ k h. u k (omega (arith, h))), u i (omega arith));
+  }
+
+  pub seen-end : {n : ℕ} → i ≤ n → n ≤ i → (so ≡ true → Unmarked marks n) × (Unmarked marks n → so ≡ true)
+  seen-end g h = (λ e k b. s .only e k (omega (arith, h, b)), λ u. s .all (λ k b. u k (omega (arith, g, b))))
+
+module _ (marks : List Bool) (l : Rows StoreLine) (lines : Rising 0 l) (none : Unmarked marks (length l)) where
+  keep-each : (i : ℕ) → i ≤ length l → lowerWhere (markOf marks l) (take i l) ≡ take i l
+  unfolding lowerWhere
+  keep-each zero h = refl
+  keep-each (suc i) h =
+      let z : Row StoreLine = getD l i noRow in
+      let p : Row StoreLine → Bool = markOf marks l in
+      let f : p z ≡ false = ap (λ (j : ℕ). getD marks j false) (rank-at l i noRow lines h) ∙ none i h in
+      rw (take-suc l i noRow h) (lower-append p (take i l) (z ∷ []) ∙ ap₂ (λ (a b : Rows StoreLine). a ++ b) (keep-each i (omega arith)) (lower-one p z ∙ ap (λ (b : Bool). putRow (z .key) (lowerIf b (z .val)) []) f))
+
+  keep-all : lowerWhere (markOf marks l) l ≡ l
+  keep-all = ap (lowerWhere (markOf marks l)) (sym (take-all (length l) l (omega arith))) ∙ keep-each (length l) (omega arith) ∙ take-all (length l) l (omega arith)
+
+pub lower-none : (m : Memo) (marks : List Bool) {b : Bool} → Whole m → Rising 0 (linesOf m) → (b ≡ true → Unmarked marks (m .n)) × (Unmarked marks (m .n) → b ≡ true) → b ≡ true
+    → m ≡ memoOf (lowerWhere (markOf marks (linesOf m)) (linesOf m))
+lower-none m marks whole lines says so =
+    whole ∙ ap memoOf (sym (keep-all marks (linesOf m) lines (λ k h. says .0 so k (omega (arith, h, in-slots m whole .count)))))
 
 -- ---- the call
 

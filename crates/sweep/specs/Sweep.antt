@@ -3,7 +3,7 @@ use mathlib.Core.Bool.{Bool, false, not, cond}
 use mathlib.Core.List.{List, [], _∷_, _++_, map}
 use mathlib.Core.Option.{Option, none, some}
 use mathlib.Core.Path.{_≡_}
-use Prim.Native.Nat.{ℕ, suc, _+_, _-_, _≤_}
+use Prim.Native.Nat.{ℕ, suc, _+_, _-_, _≤_, _<_}
 use lib.Dec.{ltb}
 use lib.ListN.{length, getD, set}
 use Rattle.terms.specs.Terms.{Place, maxOn}
@@ -105,3 +105,7 @@ lowerWhere mark (x ∷ l) = putRow (x .key) (lowerIf (mark x) (x .val)) (lowerWh
 -- the mark at a line's place
 abbrev pub markOf : List Bool → Rows Line → Row Line → Bool
 markOf marks memo x = getD marks (rank (x .key) memo) false
+
+-- none of the first n lines is marked
+abbrev pub Unmarked : List Bool → ℕ → Type 0
+Unmarked marks n = (k : ℕ) → k < n → getD marks k false ≡ false

@@ -13,7 +13,7 @@ ghost use Rattle.page.specs.Buffer.{pageAt, there, pagesOf};
 ghost use Rattle.rules.specs.Sweep.{isAt, sweptEntries, sweptMemo};
 ghost use Rattle.desk.specs.Layout.{lineSlots, lineFields, memoOf};
 ghost use Rattle.memo.specs.Memo.{rowOf, memoIn, linesOf, Plain, Whole};
-ghost use Rattle.sweep.specs.Sweep.{entriesOn, linePlaces, radiosIn, lastAt, lastsIn, lastsOf, isStale, stay, slotAfter, Ready, Sweeps, SweepsAll, lowerIf, lineIf, lowerWhere, markOf};
+ghost use Rattle.sweep.specs.Sweep.{entriesOn, linePlaces, radiosIn, lastAt, lastsIn, lastsOf, isStale, stay, slotAfter, Ready, Sweeps, SweepsAll, lowerIf, lineIf, lowerWhere, markOf, Unmarked};
 use desk::Desk;
 use desk::Line;
 use entries::Entries;
@@ -236,8 +236,26 @@ fn line_stays(x: Line, mark: bool) -> bool
     1 < x.missed
 }
 
+// Whether none of the first n lines is marked. It never leaves early, so that many marks are looked at at a time.
+fn none_marked<'a>(marks: &'a [bool; PLACES], n: usize) -> bool
+    requires { ⌜ n ≤ lineSlots ⌝ }
+    ensures { λ r. ⌜ (r ≡ true → Unmarked (now (marks .entry)) n) × (Unmarked (now (marks .entry)) n → r ≡ true) ⌝ }
+{
+    let mut so = true;
+    let mut i: usize = 0;
+    while i < n {
+        so = so & !marks[i];
+        i += 1;
+    }
+    so
+}
+
 // Each marked line has one miss less; those that stay, one after the other, in an array of their own, which then takes the memo's place. How many they are.
-fn lowered<'a>(words: &'a mut [u16; Desk::MEMO_WORDS], n: usize, marks: &'a [bool; PLACES]) -> usize
+fn written_anew<'a>(
+    words: &'a mut [u16; Desk::MEMO_WORDS],
+    n: usize,
+    marks: &'a [bool; PLACES],
+) -> usize
     requires { ⌜ Whole (memoIn n (now words)) × (n ≤ lineSlots) × Rising 0 (linesOf (memoIn n (now words))) ⌝ }
     ensures { λ r. ⌜ memoIn r (now (words .exit)) ≡ memoOf (lowerWhere (markOf (now (marks .entry)) (linesOf (memoIn n (now (words .entry))))) (linesOf (memoIn n (now (words .entry))))) ⌝ }
 {
@@ -253,6 +271,17 @@ fn lowered<'a>(words: &'a mut [u16; Desk::MEMO_WORDS], n: usize, marks: &'a [boo
     }
     *words = left;
     k
+}
+
+// Each marked line has one miss less, and goes at 0. Where none is marked the memo is as it was: many cells have no stale entry.
+fn lowered<'a>(words: &'a mut [u16; Desk::MEMO_WORDS], n: usize, marks: &'a [bool; PLACES]) -> usize
+    requires { ⌜ Whole (memoIn n (now words)) × (n ≤ lineSlots) × Rising 0 (linesOf (memoIn n (now words))) ⌝ }
+    ensures { λ r. ⌜ memoIn r (now (words .exit)) ≡ memoOf (lowerWhere (markOf (now (marks .entry)) (linesOf (memoIn n (now (words .entry))))) (linesOf (memoIn n (now (words .entry))))) ⌝ }
+{
+    if none_marked(marks, n) {
+        return n;
+    }
+    written_anew(words, n, marks)
 }
 
 // ---- a chain
