@@ -1,5 +1,5 @@
 -- How far the stripe of a coordinate reaches, cut by cut, in whatever order the cuts stand; and the reports within its reach.
-use mathlib.Core.Bool.{Bool, _&&_}
+use mathlib.Core.Bool.{Bool}
 use mathlib.Core.List.{List, [], _∷_, _++_}
 use mathlib.Core.Path.{_≡_, refl, sym, ap, ap₂, _∙_}
 use Prim.Native.Nat.{ℕ, _+_, _-_, _≤_, _<_, min, max}
@@ -31,11 +31,6 @@ use Rattle.boxes.specs.Boxes.{spanIn, boundedBy, Reaches}
 use Rattle.waiting.specs.Waiting.{waits, rowOf, reportsOf}
 use Rattle.waiting.proofs.WaitingLaws.{noRow, length-reports, reports-get}
 use Rattle.boxes.proofs.BoxLaws.{Counted, counted-start, counted-turn, counted-end, length-cuts}
-
--- "and" of the code and of the definitions
-pub both-tell : {p q : Bool} (a b : Bool) → p ≡ a → q ≡ b → (p && q) ≡ both a b
-unfolding both
-both-tell a b e f = rw (e, f) (by-cases a (λ t. rw t) (λ t. rw t))
 
 -- ---- one cut after the other
 

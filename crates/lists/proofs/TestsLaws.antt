@@ -1,6 +1,6 @@
 -- Laws of tests as Bools, and of what they pick.
 use mathlib.Core.Path.{_≡_, refl, sym, ap}
-use mathlib.Core.Bool.{Bool, true, false, cond}
+use mathlib.Core.Bool.{Bool, true, false, cond, _&&_}
 use mathlib.Core.List.{List, [], _∷_, _++_, map}
 use mathlib.Core.Option.{Option, none, some}
 use Prim.Native.Nat.{ℕ, zero, suc, _+_, _≤_, _<_}
@@ -13,6 +13,14 @@ use Rattle.lists.specs.Sums.{keep, filter, concat}
 use Rattle.lists.specs.Tests.{one-if, both, either, Each, all, firstAt, best}
 use Rattle.lists.proofs.Cases.{by-cases, option-cases, false-true}
 use Rattle.lists.proofs.PartsLaws.{length-tab, getD-tab}
+
+-- "and" of the code and of the definitions
+pub and-both : (a b : Bool) → (a && b) ≡ both a b
+unfolding both
+and-both a b = by-cases a (λ t. rw t) (λ t. rw t)
+
+pub both-tell : {p q : Bool} (a b : Bool) → p ≡ a → q ≡ b → (p && q) ≡ both a b
+both-tell a b e f = rw (e, f) (and-both a b)
 
 pub both-left : (a b : Bool) → both a b ≡ true → a ≡ true
 unfolding both

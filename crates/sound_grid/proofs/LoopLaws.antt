@@ -14,7 +14,7 @@ use Rattle.lists.specs.Sums.{sumBy, count}
 use Rattle.lists.specs.Tests.{one-if, both, all}
 use Rattle.lists.proofs.Cases.{by-cases}
 use Rattle.lists.proofs.SumsLaws.{sum-nil, sum-cons}
-use Rattle.lists.proofs.TestsLaws.{both-left-false, both-true, all-cons, not-true, not-false}
+use Rattle.lists.proofs.TestsLaws.{both-left-false, both-true, all-cons, not-true, not-false, and-both}
 use Rattle.mirror.specs.Loops.{risesTo}
 use Rattle.mirror.proofs.LoopsLaws.{rises-nil, rises-cons}
 use Rattle.sound_grid.specs.Sound.{weighs, number}
@@ -66,11 +66,6 @@ pub passed-true : {a x : Bool} → a ≡ x → not a ≡ false → x ≡ true
 passed-true {a} e f = sym e ∙ not-false a f
 
 -- ---- numbers that rise
-
--- the code's "and"
-pub and-both : (a b : Bool) → (a && b) ≡ both a b
-unfolding both
-and-both a b = by-cases a (λ t. rw t) (λ t. rw t)
 
 -- up to i they do if so, and end at last: with what is left to test it is the test
 pub record Rises (top : ℕ) (xs : List ℕ) (n : ℕ) (so : Bool) (last i : ℕ) : Type 0 where

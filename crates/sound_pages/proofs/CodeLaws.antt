@@ -5,10 +5,10 @@ use mathlib.Core.Path.{_≡_, refl, sym, ap, _∙_}
 use Prim.Native.Nat.{ℕ, suc, _+_, _-_, _≤_, _<_}
 use native.Mathlib.Numerals.{add-one}
 use native.Mathlib.Omega.{arith}
-use lib.Dec.{eqb, leb, ltb}
+use lib.Dec.{eqb, ltb}
 use lib.ListN.{length, getD, drop, drop-of-length-le}
 use lib.Seq.{drop-cons}
-use borrow.Author.Tests.{eq-eqb, ne-eqb, le-ltb, lt-ltb, lt-leb, le-leb}
+use borrow.Author.Tests.{eq-eqb, ne-eqb, le-ltb, lt-ltb}
 use Rattle.terms.specs.Terms.{Place, pages, pageEntries, noPage, noCell}
 use Rattle.lists.specs.Parts.{tab}
 use Rattle.lists.specs.Rows.{Row, Rows}
@@ -131,24 +131,7 @@ last-some low b n e c f g =
     ap (λ (x : Row Place). x .key) g ∙ sym (last-snoc low (tab (n - 1) (entryAt b)) (entryAt b (n - 1)))
     ∙ ap (lastRadio low) (sym (tab-suc (n - 1) (entryAt b)) ∙ ap (λ k. tab k (entryAt b)) (q ∙ c))
 
--- ---- is_inside, all_inside
-
-module _ (e : Entry) (s : Slot) where
-  pub west-of : e .east < s .west → false ≡ insideOf s (rowOf e)
-  unfolding both
-  west-of h = rw (lt-leb (s .west) (e .east) h)
-
-  pub east-of : s .west ≤ e .east → s .east < e .east → false ≡ insideOf s (rowOf e)
-  unfolding both
-  east-of a h = rw (le-leb (s .west) (e .east) a, lt-leb (e .east) (s .east) h)
-
-  pub south-of : s .west ≤ e .east → e .east ≤ s .east → e .north < s .south → false ≡ insideOf s (rowOf e)
-  unfolding both
-  south-of a b h = rw (le-leb (s .west) (e .east) a, le-leb (e .east) (s .east) b, lt-leb (s .south) (e .north) h)
-
-  pub north-in : s .west ≤ e .east → e .east ≤ s .east → s .south ≤ e .north → leb (e .north) (s .north) ≡ insideOf s (rowOf e)
-  unfolding both
-  north-in a b c = rw (le-leb (s .west) (e .east) a, le-leb (e .east) (s .east) b, le-leb (s .south) (e .north) c)
+-- ---- all_inside
 
 module _ (s : Slot) (b : List ℕ) (n i : ℕ) (below : i < n) {e : Entry} (read : rowOf e ≡ entryAt b i) {r : Bool} (one : r ≡ insideOf s (rowOf e)) where
   inside-open : all (insideOf s) (drop i (tab n (entryAt b))) ≡ both r (all (insideOf s) (drop (i + 1) (tab n (entryAt b))))

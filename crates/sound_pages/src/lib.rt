@@ -9,6 +9,7 @@ ghost use Rattle.lists.specs.Tests.{both, all};
 ghost use Rattle.entries.specs.Entries.{rowOf};
 ghost use Rattle.page.specs.Page.{pageBytes, kindFree, next, entryAt, entries};
 ghost use Rattle.page.specs.Buffer.{bufferBytes};
+ghost use Rattle.rules.specs.Grid.{within};
 ghost use Rattle.rules.specs.Limits.{maxCells};
 ghost use Rattle.sound_pages.specs.PagesSound.{PagesSound};
 ghost use Rattle.sound_pages.specs.Walks.{isPage, fullOrLast, startsAbove, lastRadio, insideOf, pageOk, noMarks, unmarked, slotTest, slotsTest, frontTest};
@@ -98,20 +99,18 @@ fn last_radio(page: &[u8], low: u16) -> u16
     e.radio
 }
 
+// A coordinate lies between two edges. No branch, for which way it would go changes from entry to entry.
+fn is_between(low: u16, high: u16, x: u16) -> bool
+    ensures { λ r. ⌜ r ≡ within (record { low = low; high = high }) x ⌝ }
+{
+    (low <= x) & (x <= high)
+}
+
 // The entry's place lies in the cell's rectangle.
 fn is_inside(e: Entry, s: Slot) -> bool
     ensures { λ r. ⌜ r ≡ insideOf s (rowOf e) ⌝ }
 {
-    if e.east < s.west {
-        return false;
-    }
-    if s.east < e.east {
-        return false;
-    }
-    if e.north < s.south {
-        return false;
-    }
-    e.north <= s.north
+    is_between(s.west, s.east, e.east) & is_between(s.south, s.north, e.north)
 }
 
 // The first n entries lie in the cell's rectangle.

@@ -14,10 +14,11 @@ use borrow.Author.Tests.{not-true, not-false, eqb-true, eqb-false, ltb-true, ltb
 use Rattle.terms.specs.Terms.{Place, maxOn}
 use Rattle.lists.specs.Rows.{Row, Rows, Rising, find, rank, putRow, passed}
 use Rattle.lists.specs.Sums.{filter}
-use Rattle.lists.specs.Tests.{one-if, isSome, orElse}
-use Rattle.lists.proofs.Cases.{by-cases, option-cases, none-some, false-true}
+use Rattle.lists.specs.Tests.{one-if, both, isSome, orElse}
+use Rattle.lists.proofs.Cases.{by-cases, option-cases, none-some}
 use Rattle.lists.proofs.RowsLaws.{rising-less, find-below, rising-map, find-map, ext-find}
 use Rattle.lists.proofs.SumsLaws.{sum-le}
+use Rattle.lists.proofs.TestsLaws.{and-both, both-left, both-right}
 use Rattle.lists.proofs.SearchLaws.{rank-cons, rank-le, rank-between, rising-order}
 use Rattle.entries.specs.declared.Entries.{Entries}
 use Rattle.entries.specs.Entries.{rowsOf}
@@ -302,18 +303,15 @@ pub record Seen (marks : List Bool) (i : ℕ) (so : Bool) : Type 0 where
 pub seen-start : (marks : List Bool) → Seen marks 0 true
 seen-start marks = record { only = λ e k h. absurd (omega (arith, h)); all = λ u. refl }
 
-and-true : (a b : Bool) → (a && b) ≡ true → (a ≡ true) × (b ≡ true)
-and-true true b e = (refl, e)
-and-true false b e = false-true e
-
 module _ {marks : List Bool} {i : ℕ} {so : Bool} (s : Seen marks i so) where
   pub seen-turn : Seen marks (i + 1) (so && not (getD marks i false))
   seen-turn = record {
     only = λ e k h.
-        let t = and-true so (not (getD marks i false)) e in
+        let m : Bool = not (getD marks i false) in
+        let t : both so m ≡ true = sym (and-both so m) ∙ e in
         by-cases (eqb k i)
-        (λ z. rw (eqb-true k i z) (not-true (getD marks i false) (t .1)))
-        (λ z. s .only (t .0) k (omega (arith, h, eqb-false k i z)));
+        (λ z. rw (eqb-true k i z) (not-true (getD marks i false) (both-right so m t)))
+        (λ z. s .only (both-left so m t) k (omega (arith, h, eqb-false k i z)));
     all = λ u. rw (s .all (λ k h. u k (omega (arith, h))), u i (omega arith));
   }
 

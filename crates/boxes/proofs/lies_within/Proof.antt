@@ -1,6 +1,6 @@
 use borrow.Author.Needs.{needs}
 use native.Mathlib.Omega.{arith}
-use Rattle.boxes.proofs.ReachLaws.{both-tell}
+use Rattle.lists.proofs.TestsLaws.{both-tell}
 use Rattle.boxes.proofs.lies_within.Statement.{statement}
 use Rattle.boxes.proofs.lies_within.Tie as tie
 

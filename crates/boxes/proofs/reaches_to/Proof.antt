@@ -1,5 +1,5 @@
 use mathlib.Core.Path.{refl}
-use Rattle.boxes.proofs.ReachLaws.{both-tell}
+use Rattle.lists.proofs.TestsLaws.{both-tell}
 use Rattle.boxes.proofs.reaches_to.Statement.{statement}
 use Rattle.boxes.proofs.reaches_to.Tie as tie
 

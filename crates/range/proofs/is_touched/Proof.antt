@@ -1,4 +1,4 @@
-use Rattle.boxes.proofs.ReachLaws.{both-tell}
+use Rattle.lists.proofs.TestsLaws.{both-tell}
 use Rattle.range.specs.Range.{touches}
 use borrow.Author.Needs.{needs}
 use Rattle.range.proofs.is_touched.Statement.{statement}

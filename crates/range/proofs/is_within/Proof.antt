@@ -1,5 +1,5 @@
 use mathlib.Core.Path.{refl}
-use Rattle.boxes.proofs.ReachLaws.{both-tell}
+use Rattle.lists.proofs.TestsLaws.{both-tell}
 use Rattle.range.proofs.is_within.Statement.{statement}
 use Rattle.range.proofs.is_within.Tie as tie
 

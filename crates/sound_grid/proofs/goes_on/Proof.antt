@@ -1,4 +1,4 @@
-use Rattle.sound_grid.proofs.LoopLaws.{and-both}
+use Rattle.lists.proofs.TestsLaws.{and-both}
 use Rattle.sound_grid.proofs.goes_on.Statement.{statement}
 use Rattle.sound_grid.proofs.goes_on.Tie as tie
 
