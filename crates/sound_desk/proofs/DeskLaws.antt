@@ -32,11 +32,12 @@ use Rattle.mirror.specs.Waiting.{fewTest}
 use Rattle.mirror.proofs.LoopsLaws.{all-both}
 use Rattle.mirror.proofs.WellLaws.{Passes}
 use Rattle.sound_grid.specs.Views.{rectsIn}
-use Rattle.sound_grid.specs.Sound.{slotsTest, cutsSound, directorySound, edgesSound, tileSound, gridSound}
-use Rattle.sound_grid.proofs.LoopLaws.{stops, goes}
-use Rattle.sound_grid.proofs.SlotLaws.{slots-count}
-use Rattle.sound_grid.proofs.CutsLaws.{cuts-whole, cuts-in, whole-cuts}
-use Rattle.sound_grid.proofs.GridLaws.{directory-count, directory-whole, slots-in, whole-directory}
+use Rattle.sound_grid.specs.Sound.{edgesSound, tileSound, gridSound}
+use Rattle.sound_directory.specs.Sound.{slotsTest, cutsSound, directorySound}
+use Rattle.sound_directory.proofs.LoopLaws.{stops, goes}
+use Rattle.sound_directory.proofs.SlotLaws.{slots-count}
+use Rattle.sound_directory.proofs.CutsLaws.{cuts-whole, cuts-in, whole-cuts}
+use Rattle.sound_directory.proofs.DirectoryLaws.{directory-count, directory-whole, slots-in, whole-directory}
 use Rattle.waiting.proofs.WaitingLaws.{reports-waitingOf}
 use Rattle.sound_desk.specs.Views.{cellOf}
 use Rattle.sound_desk.specs.Sound.{onSound, reportWeight, waitingSound, missedTest, memoSound, fewSound, radiosSound, deskSound, shown, Tests, DeskTests, Shaped}

@@ -33,9 +33,9 @@ use Rattle.mirror.specs.Grid.{placeTest}
 use Rattle.mirror.specs.Radios.{onTest, memoTest, lastTest, lastsTest}
 use Rattle.mirror.specs.Waiting.{waitingTest, placesTest}
 use Rattle.mirror.proofs.LoopsLaws.{all-both}
-use Rattle.sound_grid.specs.Sound.{weighs, slotsTest, number}
-use Rattle.sound_grid.proofs.LoopLaws.{true-both, all-map, few-used, Weighed, weighed-end}
-use Rattle.sound_grid.proofs.SlotLaws.{slots-long, slots-heavy, slots-fit, slots-unclear, slots-clear, slots-used, slots-slotted, slotted-slots}
+use Rattle.sound_directory.specs.Sound.{weighs, slotsTest, number}
+use Rattle.sound_directory.proofs.LoopLaws.{true-both, all-map, few-used, Weighed, weighed-end}
+use Rattle.sound_directory.proofs.SlotLaws.{slots-long, slots-heavy, slots-fit, slots-unclear, slots-clear, slots-used, slots-slotted, slotted-slots}
 use Rattle.waiting.specs.Waiting.{rowOf as reportRow, reportsOf}
 use Rattle.waiting.proofs.WaitingLaws.{report-row, reports-waitingOf}
 use Rattle.waiting.proofs.OnLaws.{radios-onOf}

@@ -27,7 +27,8 @@ use Rattle.mirror.specs.Cells.{numbersOf, edgesOf, numbersTest, roundTest}
 use Rattle.mirror.specs.Radios.{onTest, memoTest, lastTest, lastsTest}
 use Rattle.mirror.specs.Round.{tallyTest}
 use Rattle.mirror.specs.Waiting.{waitingTest, placesTest, fewTest}
-use Rattle.sound_grid.specs.Sound.{slotsTest, number, gridSound}
+use Rattle.sound_grid.specs.Sound.{gridSound}
+use Rattle.sound_directory.specs.Sound.{slotsTest, number}
 use Rattle.waiting.specs.Waiting.{reportsOf}
 use Rattle.sound_desk.specs.Views.{placeOf, cellOf}
 

@@ -4,7 +4,7 @@ ghost use Prim.Native.Nat.{_+_, _*_, _<_, _≤_};
 ghost use lib.ListN.{length};
 ghost use Rattle.rules.specs.Limits.{maxCuts, fullMemory};
 ghost use Rattle.desk.specs.Layout.{lineSlots, lineFields};
-ghost use Rattle.sound_grid.specs.Sound.{mostField};
+ghost use Rattle.sound_directory.specs.Sound.{mostField};
 ghost use Rattle.sound_desk.specs.Sound.{onSound, reportWeight, reportTest, waitingSound, lineTest, memoSound, fewSound, radiosSound, deskSound};
 use boxes::BOXES;
 use desk::CutList;
@@ -14,11 +14,11 @@ use desk::Line;
 use desk::On;
 use desk::Report;
 use desk::Waiting;
-use sound_grid::goes_on;
+use sound_directory::goes_on;
+use sound_directory::is_clear;
+use sound_directory::rises;
+use sound_directory::wide;
 use sound_grid::grid_sound;
-use sound_grid::is_clear;
-use sound_grid::rises;
-use sound_grid::wide;
 
 const WAITING_SLOTS: usize = Desk::MAX_WAITING + 1;
 

@@ -27,7 +27,8 @@ use Rattle.sound_grid.specs.declared.Edge.{Edge}
 use Rattle.sound_grid.specs.declared.Edge.the-variants.{Bounds, Loose}
 use Rattle.sound_grid.specs.declared.Extent.{Extent}
 use Rattle.sound_grid.specs.declared.Extent.the-variants.{Whole, Broken}
-use Rattle.sound_grid.specs.Sound.{slotsTest, number, cutsSound, edgeOf, extentOf}
+use Rattle.sound_grid.specs.Sound.{edgeOf, extentOf}
+use Rattle.sound_directory.specs.Sound.{slotsTest, number, cutsSound}
 use Rattle.sound_grid.proofs.LoopLaws.{Sought, seek-found, seek-end}
 
 -- ---- cuts that rise

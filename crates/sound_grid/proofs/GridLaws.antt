@@ -1,159 +1,18 @@
--- The directory: numbers by marks, and the edges of each cell; what the code's tests come to.
-use mathlib.Core.Path.{_≡_, refl, sym, ap, _∙_}
+-- The edges of each cell: what the code's tests come to.
+use mathlib.Core.Path.{_≡_, sym, _∙_}
 use mathlib.Core.Bool.{Bool, true, false, not}
-use mathlib.Core.List.{List, [], _∷_, map}
-use mathlib.Core.Logic.{_≢_}
 use Prim.Native.Nat.{ℕ, _+_, _≤_, _<_}
-use native.Mathlib.Omega.{arith}
-use native.Mathlib.Numerals.{add-one}
-use lib.Dec.{eqb, ltb}
-use lib.ListN.{length, getD, set, take, replicate, length-map, length-set, List·getD-map}
-use lib.Seq.{take-suc, getD-take, getD-set-same, getD-set-other, length-take-le, take-all}
-use borrow.Author.Tests.{lt-ltb, le-ltb, eqb-true, eqb-false, eq-eqb}
-use Rattle.lists.specs.Sums.{count}
-use Rattle.lists.specs.Tests.{one-if, both, Each, all}
-use Rattle.lists.proofs.Cases.{by-cases}
-use Rattle.lists.proofs.SumsLaws.{sum-take-drop, sum-nil, sum-last}
-use Rattle.lists.proofs.TestsLaws.{both-left, both-right, both-intro, both-left-false, both-right-false, each-append, each-all}
-use Rattle.rules.specs.Limits.{maxCells}
+use lib.ListN.{getD, take}
+use Rattle.lists.specs.Tests.{all}
 use Rattle.desk.specs.declared.CutList.{CutList}
 use Rattle.desk.specs.declared.Slot.{Slot}
 use Rattle.desk.specs.declared.Directory.{Directory}
 use Rattle.desk.specs.Layout.{noSlot}
-use Rattle.desk.specs.Views.{cutsBy, slotsIn, directoryWith, edgesOf as rectOf}
-use Rattle.desk.proofs.UniqueLaws.{take-slotted}
-use Rattle.mirror.specs.Cells.{numbersTest, roundTest}
+use Rattle.desk.specs.Views.{cutsBy, slotsIn, edgesOf as rectOf}
 use Rattle.mirror.specs.Grid.{edgesTest}
-use Rattle.mirror.proofs.LoopsLaws.{all-false, at-most-twice, marks-at-most}
-use Rattle.sound_grid.specs.Views.{numbersIn}
-use Rattle.sound_grid.specs.Sound.{weighs, slotsTest, slotWeight, namesSound, directorySound, edgesSound}
-use Rattle.sound_grid.proofs.LoopLaws.{true-both, all-map, same-at, Passes, pass-fails, pass-turn, pass-end}
-use Rattle.sound_grid.proofs.SlotLaws.{slots-long, slots-heavy, slots-fit, slots-count, slots-used, slots-slotted, slotted-slots}
-
--- ---- numbers by marks
-
-count-last : (k : ℕ) (l : List ℕ) (i : ℕ) → i < length l → count k (take (i + 1) l) ≡ count k (take i l) + one-if (eqb k (getD l i 0))
-count-last k l i h = rw (add-one, take-suc l i 0 h) (sum-last (λ x. one-if (eqb k x)) (take i l) (getD l i 0))
-
--- the first i numbers are below the limit, and each has set its mark
-pub record Marked (d : Directory) (i : ℕ) (marks : List Bool) : Type 0 where
-  pub fits : d .n ≤ length (d .slots)
-  pub size : length marks ≡ maxCells
-  pub own : (k : ℕ) → one-if (getD marks k false) ≡ count k (take i (numbersIn d))
-  pub below : Each (λ x. x < maxCells) (take i (numbersIn d))
-
-pub mark-start : (d : Directory) → length (d .slots) ≡ maxCells → d .n ≤ maxCells → Marked d 0 (replicate maxCells false)
-mark-start d l h = record { fits = omega arith; size = refl; own = λ k. ap one-if (same-at false maxCells k) ∙ sym (sum-nil (λ x. one-if (eqb k x))); below = tt }
-
-length-numbers : (d : Directory) → d .n ≤ length (d .slots) → length (numbersIn d) ≡ d .n
-unfolding slotsIn
-length-numbers d h = length-map (take (d .n) (d .slots)) (λ s. s .number) ∙ length-take-le (d .n) (d .slots) h
-
-number-at : (d : Directory) (i : ℕ) → i < d .n → getD (numbersIn d) i 0 ≡ getD (d .slots) i noSlot .number
-unfolding slotsIn
-number-at d i h = List·getD-map (λ s. s .number) (take (d .n) (d .slots)) i noSlot ∙ ap (λ s. s .number) (getD-take (d .n) (d .slots) i noSlot h)
-
-module _ {d : Directory} {i : ℕ} {marks : List Bool} (m : Marked d i marks) where
-  module _ (more : i < d .n) {k : ℕ} (said : k ≡ getD (d .slots) i noSlot .number) where
-    here : getD (numbersIn d) i 0 ≡ k
-    here = number-at d i more ∙ sym said
-
-    inside : i < length (numbersIn d)
-    inside = omega (arith, length-numbers d (m .fits))
-
-    pub mark-beyond : maxCells ≤ k → false ≡ namesSound d
-    unfolding namesSound numbersTest
-    mark-beyond h = sym (both-left-false (roundTest (numbersIn d)) (all-false (λ n. ltb n maxCells) (numbersIn d) i 0 inside (le-ltb (getD (numbersIn d) i 0) maxCells (omega (arith, here)))))
-
-    last : (q : ℕ) → count q (take (i + 1) (numbersIn d)) ≡ count q (take i (numbersIn d)) + one-if (eqb q k)
-    last q = count-last q (numbersIn d) i inside ∙ ap (λ (y : ℕ). count q (take i (numbersIn d)) + one-if (eqb q y)) here
-
-    pub mark-twice : k < maxCells → getD marks k false ≡ true → false ≡ namesSound d
-    unfolding namesSound roundTest
-    mark-twice h t =
-        sym (both-right-false (numbersTest (numbersIn d)) (at-most-twice maxCells (numbersIn d) k h
-        (omega (arith, m .own k, ap one-if t, last k, ap one-if (eq-eqb k k refl), sum-take-drop (λ x. one-if (eqb k x)) (i + 1) (numbersIn d)))))
-
-    pub mark-turn : k < maxCells → getD marks k false ≡ false → Marked d (i + 1) (set marks k true)
-    mark-turn h t = record {
-      fits = m .fits;
-      size = length-set marks k true ∙ m .size;
-      own = λ q. by-cases (eqb q k)
-          (λ e. let z = eqb-true q k e in
-          omega (
-            arith,
-            ap one-if (ap (λ (j : ℕ). getD (set marks k true) j false) z ∙ getD-set-same marks k true false (omega (arith, m .size))),
-            ap one-if (ap (λ (j : ℕ). getD marks j false) z ∙ t),
-            m .own q,
-            last q,
-            ap one-if e,
-          ))
-          (λ e. omega (arith, ap one-if (getD-set-other marks k q true false (eqb-false q k e)), m .own q, last q, ap one-if e));
-      below = rw (add-one, take-suc (numbersIn d) i 0 inside) (each-append (λ x. x < maxCells) (take i (numbersIn d)) (getD (numbersIn d) i 0 ∷ []) (m .below) (omega (arith, here), tt));
-    }
-
-  pub mark-end : d .n ≤ i → true ≡ namesSound d
-  unfolding namesSound numbersTest roundTest
-  mark-end h =
-      let a : take i (numbersIn d) ≡ numbersIn d = take-all i (numbersIn d) (omega (arith, length-numbers d (m .fits))) in
-      sym (both-intro (each-all (λ n. ltb n maxCells) (λ n. n < maxCells) (numbersIn d) (λ n b. lt-ltb n maxCells b) (rw a at (m .below)))
-      (marks-at-most maxCells (numbersIn d) marks (m .size) (λ q. m .own q ∙ ap (count q) a)))
-
--- ---- the directory
-
-slot-nothing : (x : Slot) → slotWeight x ≡ 0 → x ≡ noSlot
-slot-nothing x e =
-    let k : x .number ≡ 0 = omega arith in
-    let w : x .west ≡ 0 = omega arith in
-    let a : x .east ≡ 0 = omega arith in
-    let u : x .south ≡ 0 = omega arith in
-    let o : x .north ≡ 0 = omega arith in
-    let f : x .first ≡ 0 = omega arith in
-    λ i. record { number = k i; west = w i; east = a i; south = u i; north = o i; first = f i }
-
-module _ (d : Directory) where
-  pub directory-long : maxCells < d .n → false ≡ directorySound d
-  unfolding directorySound
-  directory-long h = sym (both-left-false (namesSound d) (slots-long slotWeight maxCells (d .n) (d .slots) h))
-
-  pub directory-heavy : {s : ℕ} → s ≡ weighs slotWeight (d .n) (d .slots) → s ≢ 0 → false ≡ directorySound d
-  unfolding directorySound
-  directory-heavy e h = sym (both-left-false (namesSound d) (slots-heavy slotWeight maxCells (d .n) (d .slots) e h))
-
-  pub directory-names : {s : ℕ} {r : Bool} → d .n ≤ maxCells → s ≡ weighs slotWeight (d .n) (d .slots) → s ≡ 0 → r ≡ namesSound d → r ≡ directorySound d
-  unfolding directorySound
-  directory-names h e z q = q ∙ sym (true-both (namesSound d) (slots-fit slotWeight maxCells (d .n) (d .slots) h e z))
-
-  module _ (t : directorySound d ≡ true) where
-    slots-ok : slotsTest slotWeight maxCells (d .n) (d .slots) ≡ true
-    unfolding directorySound
-    slots-ok = both-left (slotsTest slotWeight maxCells (d .n) (d .slots)) (namesSound d) t
-
-    names-ok : both (numbersTest (numbersIn d)) (roundTest (numbersIn d)) ≡ true
-    unfolding directorySound namesSound
-    names-ok = both-right (slotsTest slotWeight maxCells (d .n) (d .slots)) (namesSound d) t
-
-    pub directory-count : d .n ≤ maxCells
-    directory-count = slots-count slotWeight maxCells (d .n) (d .slots) slots-ok
-
-    pub directory-whole : length (d .slots) ≡ maxCells → (d ≡ directoryWith (slotsIn d)) × (numbersTest (numbersIn d) ≡ true) × (roundTest (numbersIn d) ≡ true)
-    unfolding directoryWith slotsIn
-    directory-whole l =
-        let n = slots-used slotWeight maxCells (d .n) (d .slots) slots-ok maxCells l (omega arith) in
-        let a = slots-slotted slotWeight maxCells (d .n) (d .slots) slots-ok maxCells l (omega arith) noSlot slot-nothing in
-        (λ i. record { n = n i; slots = a i }, both-left (numbersTest (numbersIn d)) (roundTest (numbersIn d)) names-ok, both-right (numbersTest (numbersIn d)) (roundTest (numbersIn d)) names-ok)
-
-pub slots-in : (l : List Slot) → slotsIn (directoryWith l) ≡ l
-unfolding slotsIn directoryWith
-slots-in l = take-slotted maxCells noSlot l
-
-pub whole-directory : (l : List Slot) → length l ≤ maxCells → numbersTest (map (λ s. s .number) l) ≡ true → roundTest (map (λ s. s .number) l) ≡ true → directorySound (directoryWith l) ≡ true
-unfolding directorySound namesSound
-whole-directory l h t u =
-    both-intro (unfold directoryWith in slotted-slots slotWeight maxCells maxCells noSlot l refl h)
-    (both-intro (ap (λ (y : List Slot). numbersTest (map (λ s. s .number) y)) (slots-in l) ∙ t) (ap (λ (y : List Slot). roundTest (map (λ s. s .number) y)) (slots-in l) ∙ u))
-
--- ---- edges
+use Rattle.sound_grid.specs.Sound.{edgesSound}
+use Rattle.sound_directory.proofs.LoopLaws.{all-map}
+use Rattle.sound_grid.proofs.LoopLaws.{Passes, pass-fails, pass-turn, pass-end}
 
 -- a slot's edges are whole
 abbrev pub edged : CutList → CutList → Slot → Bool

@@ -7,10 +7,11 @@ use Rattle.lists.proofs.TestsLaws.{both-left, both-right, not-false}
 use Rattle.rules.specs.Limits.{maxCells, maxCuts}
 use Rattle.desk.specs.declared.CutList.{CutList}
 use Rattle.desk.specs.declared.Directory.{Directory}
-use Rattle.sound_grid.specs.Sound.{slotsTest, number, cutsSound, directorySound, edgesSound, tileSound, gridSound}
-use Rattle.sound_grid.proofs.LoopLaws.{stops, goes}
-use Rattle.sound_grid.proofs.SlotLaws.{slots-count}
-use Rattle.sound_grid.proofs.GridLaws.{directory-count}
+use Rattle.sound_grid.specs.Sound.{edgesSound, tileSound, gridSound}
+use Rattle.sound_directory.specs.Sound.{slotsTest, number, cutsSound, directorySound}
+use Rattle.sound_directory.proofs.LoopLaws.{stops, goes}
+use Rattle.sound_directory.proofs.SlotLaws.{slots-count}
+use Rattle.sound_directory.proofs.DirectoryLaws.{directory-count}
 
 -- ---- what a part that has passed gives to the tests after it
 

@@ -33,8 +33,9 @@ use Rattle.sound_grid.specs.Views.{rectsIn}
 use Rattle.boxes.specs.Boxes.{maxStripes, tableSize, boxAt}
 use Rattle.sound_grid.specs.declared.Extent.{Extent}
 use Rattle.sound_grid.specs.declared.Extent.the-variants.{Whole}
-use Rattle.sound_grid.specs.Sound.{slotsTest, number, cutsSound, edgesSound, several, Raised, RaisedIf, inRow, inStripes, holders, rowOnce, rowsOnce, tileSound}
-use Rattle.sound_grid.proofs.LoopLaws.{same-at, goes, passed-true}
+use Rattle.sound_grid.specs.Sound.{edgesSound, several, Raised, RaisedIf, inRow, inStripes, holders, rowOnce, rowsOnce, tileSound}
+use Rattle.sound_directory.specs.Sound.{slotsTest, number, cutsSound}
+use Rattle.sound_directory.proofs.LoopLaws.{same-at, goes, passed-true}
 use Rattle.sound_grid.proofs.EdgeLaws.{extent-whole, extentIn}
 
 -- ---- lists

@@ -1,12 +1,8 @@
--- The cells of a directory in any condition, as far as its count says.
+-- The edges of the cells of a directory in any condition, as far as its count says.
 use mathlib.Core.List.{List, map}
-use Prim.Native.Nat.{ℕ}
 use Rattle.rules.specs.Grid.{Rect}
 use Rattle.desk.specs.declared.Directory.{Directory}
 use Rattle.desk.specs.Views.{slotsIn, edgesOf as rectOf}
-
-abbrev pub numbersIn : Directory → List ℕ
-numbersIn d = map (λ s. s .number) (slotsIn d)
 
 abbrev pub rectsIn : Directory → List Rect
 rectsIn d = map rectOf (slotsIn d)

@@ -1,19 +1,19 @@
-// The test of soundness as far as it looks at cuts and directory alone. They may be in any condition: a count is tested before a slot is looked at.
+// The test of soundness as far as it looks at cuts and directory alone: with what each of them says by itself, the edges of each cell, and that the cells tile the area. They may be in any condition: a count is tested before a slot is looked at.
 ghost use mathlib.Core.Bool.{true};
 ghost use mathlib.Core.Path.{_≡_};
 ghost use mathlib.Core.List.{[], _∷_};
 ghost use Prim.Native.Nat.{_+_, _-_, _*_, _<_, _≤_, min};
-ghost use lib.Dec.{eqb, leb, ltb};
+ghost use lib.Dec.{ltb};
 ghost use lib.ListN.{length, take};
 ghost use Rattle.lists.specs.Sums.{count};
 ghost use Rattle.lists.specs.Tests.{both};
 ghost use Rattle.rules.specs.Limits.{maxCells, maxCuts};
 ghost use Rattle.rules.specs.Grid.{stripe};
 ghost use Rattle.desk.specs.Views.{cutsBy, edgesOf as rectOf};
-ghost use Rattle.mirror.specs.Loops.{risesTo};
 ghost use Rattle.mirror.specs.Grid.{cutsTest, lowTest, highTest, spanTest, edgesTest, stripes};
 ghost use Rattle.boxes.specs.Boxes.{maxStripes, tableSize};
-ghost use Rattle.sound_grid.specs.Sound.{weighs, mostField, number, cutsSound, slotWeight, namesSound, directorySound, edgesSound, edgeOf, extentOf, several, Raised, RaisedIf, inRow, inStripes, holders, rowOnce, rowsOnce, tileSound, gridSound};
+ghost use Rattle.sound_grid.specs.Sound.{edgesSound, edgeOf, extentOf, several, Raised, RaisedIf, inRow, inStripes, holders, rowOnce, rowsOnce, tileSound, gridSound};
+ghost use Rattle.sound_directory.specs.Sound.{cutsSound};
 ghost use Rattle.sound_grid.specs.Views.{rectsIn};
 use boxes::BOXES;
 use boxes::STRIPES;
@@ -25,130 +25,6 @@ use desk::Slot;
 const ONCE: u8 = 1;
 
 const SEVERAL: u8 = 2;
-
-pub fn wide(x: u16) -> u32
-    ensures { λ r. ⌜ (r ≡ x) × (r ≤ mostField) ⌝ }
-{
-    x as u32
-}
-
-// ---- numbers in slots
-
-// Whether x is above the last, and at most `top`. No branch, so that many are tested at a time.
-pub fn goes_on(last: u16, x: u16, top: u16) -> bool
-    ensures { λ r. ⌜ r ≡ both (ltb last x) (leb x top) ⌝ }
-{
-    (last < x) & (x <= top)
-}
-
-// Whether the first n rise, from above 0 to at most `top`. It never leaves early, so that many numbers are looked at at a time.
-pub fn rises(slots: &[u16], n: usize, top: u16) -> bool
-    requires { ⌜ n ≤ length (now slots) ⌝ }
-    ensures { λ r. ⌜ r ≡ risesTo top 0 (take n (now (slots .entry))) ⌝ }
-{
-    let mut so = true;
-    let mut last: u16 = 0;
-    let mut i: usize = 0;
-    while i < n {
-        let x = slots[i];
-        so = so & goes_on(last, x, top);
-        last = x;
-        i += 1;
-    }
-    so
-}
-
-// Whether each slot from n on is zero. It never leaves early, so that many are looked at at a time.
-pub fn is_clear(slots: &[u16], n: usize) -> bool
-    requires { ⌜ n ≤ length (now slots) ⌝ }
-    ensures { λ r. ⌜ r ≡ eqb (weighs number n (now (slots .entry))) 0 ⌝ }
-{
-    let mut so = true;
-    let mut i = n;
-    while i < slots.len() {
-        so = so & (slots[i] == 0);
-        i += 1;
-    }
-    so
-}
-
-// ---- cuts
-
-// Whether the cuts of one direction are sound.
-pub fn cuts_sound(c: CutList) -> bool
-    ensures { λ r. ⌜ r ≡ cutsSound c ⌝ }
-{
-    if Desk::MAX_CUTS < c.n {
-        return false;
-    }
-    if !is_clear(&c.at, c.n) {
-        return false;
-    }
-    rises(&c.at, c.n, Desk::LAST_METRE)
-}
-
-// ---- the directory
-
-fn slot_weight(x: Slot) -> u32
-    ensures { λ r. ⌜ (r ≡ slotWeight x) × (r ≤ 6 * mostField) ⌝ }
-{
-    wide(x.number) + wide(x.west) + wide(x.east) + wide(x.south) + wide(x.north) + wide(x.first)
-}
-
-// What the slots past the cells weigh.
-fn slots_rest(d: Directory) -> u32
-    requires { ⌜ d .n ≤ maxCells ⌝ }
-    ensures { λ r. ⌜ r ≡ weighs slotWeight (d .n) (d .slots) ⌝ }
-{
-    let mut sum: u32 = 0;
-    let mut i = d.n;
-    while i < Desk::MAX_CELLS {
-        sum = sum + slot_weight(d.slots[i]);
-        i += 1;
-    }
-    sum
-}
-
-fn index(x: u16) -> usize
-    ensures { λ r. ⌜ r ≡ x ⌝ }
-{
-    x as usize
-}
-
-// Whether the cells have numbers from 0 to 63, each once: each marks its own.
-fn names_sound(d: Directory) -> bool
-    requires { ⌜ d .n ≤ maxCells ⌝ }
-    ensures { λ r. ⌜ r ≡ namesSound d ⌝ }
-{
-    let mut marks = [false; Desk::MAX_CELLS];
-    let mut i: usize = 0;
-    while i < d.n {
-        let x = d.slots[i];
-        let k = index(x.number);
-        if Desk::MAX_CELLS <= k {
-            return false;
-        }
-        if marks[k] {
-            return false;
-        }
-        marks[k] = true;
-        i += 1;
-    }
-    true
-}
-
-// Whether the directory is sound, but for edges and pages.
-pub fn directory_sound(d: Directory) -> bool
-    ensures { λ r. ⌜ r ≡ directorySound d ⌝ }
-{
-    if Desk::MAX_CELLS < d.n {
-        return false;
-    }
-    if slots_rest(d) != 0 {
-        return false;
-    }
-    names_sound(d)
-}
 
 // ---- edges
 
@@ -335,13 +211,13 @@ fn cells_sound(easts: CutList, norths: CutList, d: Directory) -> bool
 pub fn grid_sound(easts: CutList, norths: CutList, d: Directory) -> bool
     ensures { λ r. ⌜ r ≡ gridSound easts norths d ⌝ }
 {
-    if !cuts_sound(easts) {
+    if !sound_directory::cuts_sound(easts) {
         return false;
     }
-    if !cuts_sound(norths) {
+    if !sound_directory::cuts_sound(norths) {
         return false;
     }
-    if !directory_sound(d) {
+    if !sound_directory::directory_sound(d) {
         return false;
     }
     cells_sound(easts, norths, d)

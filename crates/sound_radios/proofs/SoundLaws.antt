@@ -19,7 +19,7 @@ use Rattle.desk.specs.Views.{radiosOf}
 use Rattle.memo.specs.Memo.{linesOf}
 use Rattle.mirror.specs.Radios.{onAt, presentTest, unmarkedTest, linesTest}
 use Rattle.mirror.specs.Round.{staleCount, staleCounts, boundTest}
-use Rattle.sound_grid.proofs.LoopLaws.{stops, goes}
+use Rattle.sound_directory.proofs.LoopLaws.{stops, goes}
 use Rattle.waiting.specs.Waiting.{reportsOf}
 use Rattle.sound_radios.specs.Entries.{rowsRead, entriesTest}
 use Rattle.sound_radios.specs.Tables.{Blank, added, written, Named, weigh, markNew, belongsBy, missedOff, oneOff, staleSum, allSettled}

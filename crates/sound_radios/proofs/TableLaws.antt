@@ -17,7 +17,7 @@ use Rattle.lists.proofs.Cases.{by-cases}
 use Rattle.lists.proofs.MapLaws.{map-drop}
 use Rattle.lists.proofs.RowsLaws.{find-below}
 use Rattle.lists.proofs.SumsLaws.{sum-nil, sum-cons}
-use Rattle.sound_grid.proofs.LoopLaws.{used-cons, used-none}
+use Rattle.sound_directory.proofs.LoopLaws.{used-cons, used-none}
 use Rattle.sound_radios.specs.Tables.{fieldEnd, added, written}
 
 -- ---- what the slots in use stand for

@@ -2,8 +2,8 @@
 use Prim.Native.Nat.{_*_, _≤_, _-_}
 use Rattle.lists.proofs.ShiftLaws.{length-mapped}
 use Rattle.rules.specs.Limits.{fullMemory}
-use Rattle.sound_grid.specs.Sound.{mostField}
-use Rattle.sound_grid.proofs.LoopLaws.{Weighed, weighed-start, weighed-turn}
+use Rattle.sound_directory.specs.Sound.{mostField}
+use Rattle.sound_directory.proofs.LoopLaws.{Weighed, weighed-start, weighed-turn}
 use Rattle.sound_desk.specs.Sound.{reportWeight, reportTest}
 use Rattle.sound_desk.proofs.ClimbLaws.{Climbs, climb-start, climb-stops, climb-fails, climb-turn, climb-end}
 use Rattle.sound_desk.proofs.PartLaws.{waiting-long, waiting-heavy, waiting-climb}

@@ -1,4 +1,4 @@
-use Rattle.sound_grid.proofs.LoopLaws.{stops}
+use Rattle.sound_directory.proofs.LoopLaws.{stops}
 use Rattle.sound_grid.proofs.TileLaws.{raised-size, tile-end}
 use borrow.Author.Needs.{needs}
 use Rattle.sound_grid.proofs.cells_sound.Statement.{statement}

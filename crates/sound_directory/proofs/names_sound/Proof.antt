@@ -1,10 +1,10 @@
 -- Each number so far has set its own mark (`Marked`).
 use Prim.Native.Nat.{_≤_, _-_}
 use Rattle.lists.proofs.ShiftLaws.{length-mapped}
-use Rattle.sound_grid.proofs.GridLaws.{Marked, mark-start, mark-beyond, mark-twice, mark-turn, mark-end}
+use Rattle.sound_directory.proofs.DirectoryLaws.{Marked, mark-start, mark-beyond, mark-twice, mark-turn, mark-end}
 use borrow.Author.Needs.{needs}
-use Rattle.sound_grid.proofs.names_sound.Statement.{statement}
-use Rattle.sound_grid.proofs.names_sound.Tie as tie
+use Rattle.sound_directory.proofs.names_sound.Statement.{statement}
+use Rattle.sound_directory.proofs.names_sound.Tie as tie
 
 abbrev Inv-loop : tie.InvT-loop
 Inv-loop d marks₀ i₀ marks i = (i ≤ d .n) × Marked d i marks

@@ -2,11 +2,11 @@
 use Prim.Native.Nat.{_*_, _≤_, _-_}
 use Rattle.lists.proofs.ShiftLaws.{length-mapped}
 use Rattle.rules.specs.Limits.{maxCells}
-use Rattle.sound_grid.specs.Sound.{mostField, slotWeight}
-use Rattle.sound_grid.proofs.LoopLaws.{Weighed, weighed-start, weighed-turn, weighed-end}
+use Rattle.sound_directory.specs.Sound.{mostField, slotWeight}
+use Rattle.sound_directory.proofs.LoopLaws.{Weighed, weighed-start, weighed-turn, weighed-end}
 use borrow.Author.Needs.{needs}
-use Rattle.sound_grid.proofs.slots_rest.Statement.{statement}
-use Rattle.sound_grid.proofs.slots_rest.Tie as tie
+use Rattle.sound_directory.proofs.slots_rest.Statement.{statement}
+use Rattle.sound_directory.proofs.slots_rest.Tie as tie
 
 abbrev Inv-loop : tie.InvT-loop
 Inv-loop d sum₀ i₀ sum i = (i ≤ maxCells) × (sum ≤ 6 * mostField * i) × Weighed slotWeight (d .slots) maxCells (d .n) i sum

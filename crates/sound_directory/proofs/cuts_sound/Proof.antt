@@ -1,7 +1,7 @@
-use Rattle.sound_grid.proofs.CutsLaws.{cuts-long, cuts-unclear, cuts-rise}
+use Rattle.sound_directory.proofs.CutsLaws.{cuts-long, cuts-unclear, cuts-rise}
 use borrow.Author.Needs.{needs}
-use Rattle.sound_grid.proofs.cuts_sound.Statement.{statement}
-use Rattle.sound_grid.proofs.cuts_sound.Tie as tie
+use Rattle.sound_directory.proofs.cuts_sound.Statement.{statement}
+use Rattle.sound_directory.proofs.cuts_sound.Tie as tie
 
 returns : tie.Need-returns
 returns c = search cuts-long

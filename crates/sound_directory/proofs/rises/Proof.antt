@@ -1,9 +1,9 @@
 -- With what is left to test, from the last number on, the verdict so far is the test (`Rises`).
 use Prim.Native.Nat.{_≤_, _-_}
-use Rattle.sound_grid.proofs.LoopLaws.{Rises, rise-start, rise-turn, rise-end}
+use Rattle.sound_directory.proofs.LoopLaws.{Rises, rise-start, rise-turn, rise-end}
 use borrow.Author.Needs.{needs}
-use Rattle.sound_grid.proofs.rises.Statement.{statement}
-use Rattle.sound_grid.proofs.rises.Tie as tie
+use Rattle.sound_directory.proofs.rises.Statement.{statement}
+use Rattle.sound_directory.proofs.rises.Tie as tie
 
 abbrev Inv-loop : tie.InvT-loop
 Inv-loop slots n top so₀ last₀ i₀ so last i = (i ≤ n) × Rises top slots n so last i

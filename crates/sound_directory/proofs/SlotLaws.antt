@@ -12,7 +12,7 @@ use borrow.Author.Tests.{le-leb, lt-leb, leb-true, eqb-true, eq-eqb, ne-eqb}
 use Rattle.lists.specs.Sums.{sumBy}
 use Rattle.lists.proofs.TestsLaws.{both-left, both-right, both-intro, both-left-false, both-right-false, not-true, not-false}
 use Rattle.desk.specs.Layout.{slotted}
-use Rattle.sound_grid.specs.Sound.{weighs, slotsTest}
+use Rattle.sound_directory.specs.Sound.{weighs, slotsTest}
 
 -- ---- lists
 

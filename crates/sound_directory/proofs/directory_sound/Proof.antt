@@ -1,7 +1,7 @@
-use Rattle.sound_grid.proofs.GridLaws.{directory-long, directory-heavy, directory-names}
+use Rattle.sound_directory.proofs.DirectoryLaws.{directory-long, directory-heavy, directory-names}
 use borrow.Author.Needs.{needs}
-use Rattle.sound_grid.proofs.directory_sound.Statement.{statement}
-use Rattle.sound_grid.proofs.directory_sound.Tie as tie
+use Rattle.sound_directory.proofs.directory_sound.Statement.{statement}
+use Rattle.sound_directory.proofs.directory_sound.Tie as tie
 
 returns : tie.Need-returns
 returns c = search directory-long

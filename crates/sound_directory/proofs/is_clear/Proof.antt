@@ -1,10 +1,10 @@
 -- With whether the rest is, the verdict so far is the test (`Clear`).
 use Prim.Native.Nat.{_≤_, _-_}
 use lib.ListN.{length}
-use Rattle.sound_grid.proofs.LoopLaws.{Clear, clear-start, clear-turn, clear-end}
+use Rattle.sound_directory.proofs.LoopLaws.{Clear, clear-start, clear-turn, clear-end}
 use borrow.Author.Needs.{needs}
-use Rattle.sound_grid.proofs.is_clear.Statement.{statement}
-use Rattle.sound_grid.proofs.is_clear.Tie as tie
+use Rattle.sound_directory.proofs.is_clear.Statement.{statement}
+use Rattle.sound_directory.proofs.is_clear.Tie as tie
 
 abbrev Inv-loop : tie.InvT-loop
 Inv-loop slots n so₀ i₀ so i = (i ≤ length slots) × Clear slots n so i

@@ -15,9 +15,9 @@ use Rattle.desk.specs.Views.{cutsIn}
 use Rattle.desk.proofs.UniqueLaws.{take-cuts}
 use Rattle.mirror.specs.Loops.{risesTo}
 use Rattle.mirror.specs.Grid.{cutsTest}
-use Rattle.sound_grid.specs.Sound.{weighs, slotsTest, number, cutsSound}
-use Rattle.sound_grid.proofs.LoopLaws.{true-both, few-used}
-use Rattle.sound_grid.proofs.SlotLaws.{slots-long, slots-unclear, slots-clear, slots-used, slots-slotted, slotted-slots}
+use Rattle.sound_directory.specs.Sound.{weighs, slotsTest, number, cutsSound}
+use Rattle.sound_directory.proofs.LoopLaws.{true-both, few-used}
+use Rattle.sound_directory.proofs.SlotLaws.{slots-long, slots-unclear, slots-clear, slots-used, slots-slotted, slotted-slots}
 
 module _ (c : CutList) where
   pub cuts-long : maxCuts < c .n → false ≡ cutsSound c

@@ -1,6 +1,6 @@
 use Rattle.lists.proofs.TestsLaws.{and-both}
-use Rattle.sound_grid.proofs.goes_on.Statement.{statement}
-use Rattle.sound_grid.proofs.goes_on.Tie as tie
+use Rattle.sound_directory.proofs.goes_on.Statement.{statement}
+use Rattle.sound_directory.proofs.goes_on.Tie as tie
 
 returns : tie.Need-returns
 returns c = and-both _ _

@@ -1,0 +1,4 @@
+pub mod LoopLaws
+pub mod SlotLaws
+pub mod CutsLaws
+pub mod DirectoryLaws

@@ -1,0 +1,155 @@
+-- Loops over the slots of a part of the desk: over those in use, that they rise, and over the others, that they are zero.
+use mathlib.Core.Path.{_≡_, refl, sym, ap, _∙_}
+use mathlib.Core.Bool.{Bool, true, false, not, _&&_}
+use mathlib.Core.List.{List, [], _∷_, map}
+use Prim.Native.Nat.{ℕ, _+_, _≤_, _<_}
+use native.Mathlib.Omega.{arith}
+use native.Mathlib.Numerals.{add-one}
+use lib.Dec.{eqb, leb, ltb}
+use lib.ListN.{length, getD, take, drop, replicate, length-take, length-replicate, getD-replicate, drop-of-length-le, List·getD-eq-default}
+use lib.Seq.{drop-cons, getD-take}
+use borrow.Author.Tests.{ltb-true, ltb-false, eqb-true, eqb-false, eq-eqb, ne-eqb}
+use Rattle.lists.specs.Sums.{sumBy}
+use Rattle.lists.specs.Tests.{both, all}
+use Rattle.lists.proofs.Cases.{by-cases}
+use Rattle.lists.proofs.TestsLaws.{both-left-false, both-true, not-true, not-false, and-both}
+use Rattle.mirror.specs.Loops.{risesTo}
+use Rattle.mirror.proofs.LoopsLaws.{rises-nil, rises-cons}
+use Rattle.sound_directory.specs.Sound.{weighs, number}
+
+-- ---- lists
+
+pub true-both : {a : Bool} (b : Bool) → a ≡ true → both a b ≡ b
+unfolding both
+true-both b e = rw e
+
+pub all-nil : {A : Type 0} (p : A → Bool) → all p [] ≡ true
+unfolding all
+all-nil p = refl
+
+module _ {A : Type 0} where
+  -- the slots in use from i on
+  pub used-cons : (xs : List A) (n i : ℕ) (d : A) → n ≤ length xs → i < n → drop i (take n xs) ≡ getD xs i d ∷ drop (i + 1) (take n xs)
+  used-cons xs n i d h k =
+      let l : i < length (take n xs) = rw length-take (omega arith) in
+      rw (add-one, drop-cons (take n xs) i d l, getD-take n xs i d k)
+
+  pub used-none : (xs : List A) (n i : ℕ) → n ≤ i → drop i (take n xs) ≡ []
+  used-none xs n i h = drop-of-length-le (take n xs) {i = i} (rw length-take (omega arith))
+
+pub all-map : {A B : Type 0} (p : B → Bool) (f : A → B) (l : List A) → all p (map f l) ≡ all (λ x. p (f x)) l
+unfolding all
+all-map p f [] = refl
+all-map p f (x ∷ xs) = ap (both (p (f x))) (all-map p f xs)
+
+pub few-used : {A : Type 0} (n most : ℕ) (xs : List A) → n ≤ most → length (take n xs) ≤ most
+few-used n most xs h = rw length-take (omega arith)
+
+-- a list of the same at any place
+pub same-at : {A : Type 0} (z : A) (n k : ℕ) → getD (replicate n z) k z ≡ z
+same-at z n k =
+    by-cases (ltb k n)
+    (λ t. getD-replicate n k z z (ltb-true k n t))
+    (λ t. List·getD-eq-default (replicate n z) z {n = k} (rw (length-replicate n z) (ltb-false k n t)))
+
+-- ---- one test after the other
+
+pub stops : {a x : Bool} (rest : Bool) → a ≡ x → not a ≡ true → false ≡ both x rest
+stops {a} rest e f = sym (both-left-false rest (sym e ∙ not-true a f))
+
+pub goes : {a x r rest : Bool} → a ≡ x → not a ≡ false → r ≡ rest → r ≡ both x rest
+goes {a} {x} {r} {rest} e f q = q ∙ sym (true-both rest (sym e ∙ not-false a f))
+
+pub passed-true : {a x : Bool} → a ≡ x → not a ≡ false → x ≡ true
+passed-true {a} e f = sym e ∙ not-false a f
+
+-- ---- numbers that rise
+
+-- up to i they do if so, and end at last: with what is left to test it is the test
+pub record Rises (top : ℕ) (xs : List ℕ) (n : ℕ) (so : Bool) (last i : ℕ) : Type 0 where
+  pub fits : n ≤ length xs
+  pub same : both so (risesTo top last (drop i (take n xs))) ≡ risesTo top 0 (take n xs)
+
+pub rise-start : (top : ℕ) (xs : List ℕ) (n : ℕ) → n ≤ length xs → Rises top xs n true 0 0
+unfolding both
+rise-start top xs n h = record { fits = h; same = refl }
+
+both-then : (a b c : Bool) → both (both a b) c ≡ both a (both b c)
+unfolding both
+both-then a b c = by-cases a (λ t. rw t) (λ t. rw t)
+
+module _ {top : ℕ} {xs : List ℕ} {n : ℕ} {so : Bool} {last i : ℕ} (r : Rises top xs n so last i) where
+  pub rise-turn : {b : Bool} → i < n → b ≡ both (ltb last (getD xs i 0)) (leb (getD xs i 0) top) → Rises top xs n (so && b) (getD xs i 0) (i + 1)
+  rise-turn {b} more e =
+      let x = getD xs i 0 in
+      let tail = drop (i + 1) (take n xs) in
+      record {
+        fits = r .fits;
+        same =
+            ap (λ (y : Bool). both y (risesTo top x tail)) (and-both so b ∙ ap (both so) e)
+            ∙ both-then so (both (ltb last x) (leb x top)) (risesTo top x tail)
+            ∙ ap (both so) (sym (rises-cons top last x tail) ∙ ap (risesTo top last) (sym (used-cons xs n i 0 (r .fits) more)))
+            ∙ r .same;
+      }
+
+  pub rise-end : n ≤ i → so ≡ risesTo top 0 (take n xs)
+  rise-end h = sym (both-true so) ∙ ap (both so) (sym (ap (risesTo top last) (used-none xs n i h) ∙ rises-nil top last)) ∙ r .same
+
+-- ---- what the slots that are not used weigh
+
+-- those up to i weigh sum: with the rest it is the whole
+pub record Weighed {A : Type 0} (w : A → ℕ) (xs : List A) (size n i sum : ℕ) : Type 0 where
+  pub sized : length xs ≡ size
+  pub same : sum + weighs w i xs ≡ weighs w n xs
+
+pub weighed-start : {A : Type 0} (w : A → ℕ) (xs : List A) (size n : ℕ) → length xs ≡ size → Weighed w xs size n n 0
+weighed-start w xs size n e = record { sized = e; same = omega arith }
+
+weigh-cons : {A : Type 0} (w : A → ℕ) (xs : List A) (i : ℕ) (d : A) → i < length xs → weighs w i xs ≡ w (getD xs i d) + weighs w (i + 1) xs
+unfolding weighs sumBy
+weigh-cons w xs i d h = rw (add-one, drop-cons xs i d h)
+
+weigh-none : {A : Type 0} (w : A → ℕ) (xs : List A) (i : ℕ) → length xs ≤ i → weighs w i xs ≡ 0
+unfolding weighs sumBy
+weigh-none w xs i h = rw (drop-of-length-le xs {i = i} h)
+
+module _ {A : Type 0} {w : A → ℕ} {xs : List A} {size n i sum : ℕ} (r : Weighed w xs size n i sum) where
+  pub weighed-turn : {e : ℕ} (d : A) → i < size → e ≡ w (getD xs i d) → Weighed w xs size n (i + 1) (sum + e)
+  weighed-turn d h q = record { sized = r .sized; same = omega (arith, weigh-cons w xs i d (omega (arith, r .sized)), r .same) }
+
+  pub weighed-end : size ≤ i → sum ≡ weighs w n xs
+  weighed-end h = omega (arith, weigh-none w xs i (omega (arith, r .sized)), r .same)
+
+-- ---- whether the slots that are not used are zero
+
+-- those up to i are if so: with the rest it is the test
+pub record Clear (xs : List ℕ) (n : ℕ) (so : Bool) (i : ℕ) : Type 0 where
+  pub same : both so (eqb (weighs number i xs) 0) ≡ eqb (weighs number n xs) 0
+
+pub clear-start : (xs : List ℕ) (n : ℕ) → Clear xs n true n
+unfolding both
+clear-start xs n = record { same = refl }
+
+-- a sum is 0 just if its parts are
+sum-clear : (a b : ℕ) → eqb (a + b) 0 ≡ both (eqb a 0) (eqb b 0)
+unfolding both
+sum-clear a b =
+    by-cases (eqb a 0)
+    (λ t. let e : a + b ≡ b = omega (arith, eqb-true a 0 t) in rw t (ap (λ (k : ℕ). eqb k 0) e))
+    (λ t. rw t (ne-eqb (a + b) 0 (omega (arith, eqb-false a 0 t))))
+
+module _ {xs : List ℕ} {n : ℕ} {so : Bool} {i : ℕ} (r : Clear xs n so i) where
+  pub clear-turn : i < length xs → Clear xs n (so && eqb (getD xs i 0) 0) (i + 1)
+  clear-turn more =
+      let x = eqb (getD xs i 0) 0 in
+      let rest = eqb (weighs number (i + 1) xs) 0 in
+      record {
+        same =
+            ap (λ (y : Bool). both y rest) (and-both so x)
+            ∙ both-then so x rest
+            ∙ ap (both so) (sym (sum-clear (getD xs i 0) (weighs number (i + 1) xs)) ∙ ap (λ (k : ℕ). eqb k 0) (sym (weigh-cons number xs i 0 more)))
+            ∙ r .same;
+      }
+
+  pub clear-end : length xs ≤ i → so ≡ eqb (weighs number n xs) 0
+  clear-end h = sym (both-true so) ∙ ap (both so) (sym (eq-eqb (weighs number i xs) 0 (weigh-none number xs i h))) ∙ r .same
