@@ -1,4 +1,4 @@
--- The starred points hold of the definitions: the checker computes the whole table.
+-- The starred points of one record hold of the definitions: the checker computes the table.
 use mathlib.Core.Path.{refl}
 use Rattle.lists.specs.Chains.{walk, settledChain, settledFree}
 use Rattle.lists.specs.Parts.{part, put, tab, insertAt, removeAt}
@@ -16,6 +16,6 @@ use Rattle.rules.specs.Store.{fresh, cellAt, others, pagesFor, settled, 
 use Rattle.rules.specs.Sweep.{lowerEach, sweptEntries, sweptMemo, swept, sweepFront, tick}
 use Rattle.rules.specs.Worked.{after, seen, points, Starred}
 
-pub starred : Starred
+pub starred : Starred points
 unfolding walk settledChain settledFree part put tab insertAt removeAt find rank alter merge sortIn sort firstAbove sumBy filter concat sumTo both either all firstAt best le word isOn onCount signedOn reported signedOff boxToFlush waitingIn flushDue afterReport liveIn storedIn latest listOf found bytesOf answered carriedOut carry allowedIn allowed lowCount cutsThrough fits difference existingCut median medianCut chosenCut enter enterEach inBox flushedInto grown addCut unusedNumber lowCell highCell splitAt beside joinable neighbours named joinedWith reshaped allowedAt cellOfBox flush allowedFlush stripe stripeLow boxOf cornerOf boxes lengthField kindField lengthOf radioField placeField rectField requestOf notAtHand unknownKind wrongLength noRadio reversed onAlready notOn noRoom refusal fresh cellAt others pagesFor settled freeAfter lowerEach sweptEntries sweptMemo swept sweepFront tick after seen points
 starred = refl

@@ -1,0 +1,1 @@
+// The starred worked points with a long run before them, computed by the checker. No code.
