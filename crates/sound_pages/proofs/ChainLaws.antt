@@ -23,7 +23,8 @@ use Rattle.page_layout.specs.Layout.{kindFits}
 use Rattle.page.proofs.PageLaws.{page-fields, entries-pageOf}
 use Rattle.desk.specs.declared.Slot.{Slot}
 use Rattle.desk.specs.Layout.{At, leaves, freeLeaves}
-use Rattle.sound_pages.specs.Walks.{Walk, isPage, lastRadio, insideOf, pageOk, unmarked, passed, failed, chainTest, freeTest}
+use Rattle.sound_page.specs.PageTest.{isPage, lastRadio, insideOf, pageOk}
+use Rattle.sound_pages.specs.Walks.{Walk, unmarked, passed, failed, chainTest, freeTest}
 use Rattle.sound_pages.proofs.MarksLaws.{Marked, Room, Passes, unmarked-bounds, mark-none, mark-cons, room-unmarked, room-rest}
 use Rattle.sound_pages.proofs.PageLaws.{CellPage, bytes-page, free-right, free-left, next-free, cell-right, cell-left, rising-join, rising-split}
 

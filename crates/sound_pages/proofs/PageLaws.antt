@@ -5,26 +5,24 @@ use mathlib.Core.Path.{_≡_, refl, sym, ap, _∙_, subst}
 use Prim.Native.Nat.{ℕ, _+_, _*_, _≤_, _<_}
 use native.Mathlib.Omega.{arith}
 use lib.Dec.{eqb, ltb}
-use lib.ListN.{length, drop, List·getD-eq-default}
+use lib.ListN.{length, List·getD-eq-default}
 use borrow.Author.Tests.{eqb-true, eq-eqb, lt-ltb, ltb-true, ltb-false}
 use Rattle.terms.specs.Terms.{Place, maxRadio, pages, pageEntries, noPage, noCell}
-use Rattle.lists.specs.Parts.{tab}
 use Rattle.lists.specs.Rows.{Rows, Rising, UpTo}
 use Rattle.lists.specs.Tests.{both, either, Each}
 use Rattle.lists.specs.Words.{Bytes}
 use Rattle.lists.proofs.Cases.{by-cases}
 use Rattle.lists.proofs.PartsLaws.{getD-part}
 use Rattle.lists.proofs.RowsLaws.{rising-less}
-use Rattle.lists.proofs.TestsLaws.{both-left, both-right, both-intro, both-true, true-both, either-cases, each-all, all-each}
-use Rattle.page.specs.Page.{pageBytes, headBytes, entryBytes, kindFree, kindFurther, pageOf, freePageOf, roomOf, used, kind, next, cell, count, entries}
+use Rattle.lists.proofs.TestsLaws.{both-left, both-right, both-intro, either-cases, each-all, all-each}
+use Rattle.page.specs.Page.{pageBytes, kindFree, kindFurther, pageOf, freePageOf, kind, next, cell, count, entries}
 use Rattle.page.specs.Buffer.{bufferBytes, pageAt}
-use Rattle.page_layout.specs.Layout.{climb, climbs, top, kindFits, laidOut}
+use Rattle.page_layout.specs.Layout.{kindFits}
 use Rattle.page.proofs.BufferLaws.{length-pageAt}
-use Rattle.page_layout.proofs.LayoutLaws.{climb-none, laid-out, laid-out-rows, page-passes}
-use Rattle.page_layout.proofs.TestLaws.{fits-free}
+use Rattle.page_layout.proofs.LayoutLaws.{laid-out, laid-out-rows, page-passes}
 use Rattle.page.proofs.PageLaws.{length-entries, page-fields, count-pageOf, entries-pageOf}
 use Rattle.desk.specs.declared.Slot.{Slot}
-use Rattle.sound_pages.specs.Walks.{isPage, fullOrLast, startsAbove, lastRadio, insideOf, pageOk}
+use Rattle.sound_page.specs.PageTest.{isPage, fullOrLast, startsAbove, lastRadio, insideOf, pageOk}
 
 -- ---- lists: radios from page to page
 
@@ -107,37 +105,6 @@ free-left n = page-left kindFree n noCell [] (omega arith) refl tt tt
 pub next-free : (n : ℕ) → next (freePageOf n) ≡ n
 unfolding freePageOf
 next-free n = page-fields kindFree n noCell [] .2
-
--- of kind free it has room for no entry
-pub free-used : (b : List ℕ) → isPage kindFree noCell b ≡ true → used b ≡ headBytes
-unfolding isPage laidOut
-free-used b t =
-    let f = eqb-true (kind b) kindFree (both-left _ _ (both-right _ _ t)) in
-    let u = both-right _ _ (both-left _ _ t) in
-    let n = eqb-true (count b) 0 (fits-free (kind b) (count b) f ∙ both-left _ _ (both-right _ _ u)) in
-    omega (arith, eqb-true (used b) (headBytes + entryBytes * count b) (both-left _ _ u))
-
-no-entry : (b : List ℕ) → used b ≡ headBytes → count b ≡ 0
-unfolding count
-no-entry b e = ap roomOf e
-
-no-climb : (b : List ℕ) → used b ≡ headBytes → climbs (climb 0 (entries b)) ≡ true
-unfolding entries tab
-no-climb b e = rw (no-entry b e, climb-none 0)
-
--- with no entry the zero bytes are all that is left to test
-pub free-zeros : (b : List ℕ) → length b ≡ pageBytes → used b ≡ headBytes → kind b ≡ kindFree → cell b ≡ noCell → eqb (top (drop headBytes b)) 0 ≡ isPage kindFree noCell b
-unfolding isPage laidOut
-free-zeros b l u k c =
-    rw (
-      no-climb b u,
-      no-entry b u,
-      eq-eqb (length b) pageBytes l,
-      eq-eqb (used b) headBytes u,
-      ← fits-free (kind b) 0 k,
-      eq-eqb (kind b) kindFree k,
-      eq-eqb (cell b) noCell c,
-    ) (simp (true-both, both-true))
 
 -- ---- a page of a cell
 

@@ -19,9 +19,10 @@ use Rattle.rules.specs.Limits.{maxCells}
 use Rattle.desk.specs.declared.Slot.{Slot}
 use Rattle.desk.specs.declared.Directory.{Directory}
 use Rattle.desk.specs.Layout.{noSlot}
+use Rattle.sound_page.specs.PageTest.{isPage, lastRadio, pageOk}
+use Rattle.sound_page.proofs.CodeLaws.{both-no, both-next}
 use Rattle.sound_pages.specs.PagesSound.{PagesSound}
-use Rattle.sound_pages.specs.Walks.{Walk, isPage, lastRadio, pageOk, noMarks, unmarked, passed, failed, chainTest, slotTest, slotsTest, freeTest, frontTest, restTest, pagesTest}
-use Rattle.sound_pages.proofs.CodeLaws.{both-no, both-next}
+use Rattle.sound_pages.specs.Walks.{Walk, noMarks, unmarked, passed, failed, chainTest, slotTest, slotsTest, freeTest, frontTest, restTest, pagesTest}
 use Rattle.sound_pages.proofs.MarksLaws.{unmarked-bounds}
 use Rattle.sound_pages.proofs.ChainLaws.{chain-spent, chain-out, chain-bad, chain-last, chain-more, free-spent, free-last, free-out, free-bad, free-more}
 use Rattle.sound_pages.proofs.SoundLaws.{slots-none, slots-out, slots-more, sound-few, test-sound, sound-test}

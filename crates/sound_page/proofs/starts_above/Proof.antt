@@ -1,7 +1,7 @@
 use borrow.Author.Needs.{needs}
-use Rattle.sound_pages.proofs.CodeLaws.{starts-none, starts-first}
-use Rattle.sound_pages.proofs.starts_above.Statement.{statement}
-use Rattle.sound_pages.proofs.starts_above.Tie as tie
+use Rattle.sound_page.proofs.CodeLaws.{starts-none, starts-first}
+use Rattle.sound_page.proofs.starts_above.Statement.{statement}
+use Rattle.sound_page.proofs.starts_above.Tie as tie
 
 returns : tie.Need-returns
 returns c = search starts-none

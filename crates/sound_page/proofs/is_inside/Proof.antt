@@ -1,7 +1,7 @@
 use borrow.Author.Needs.{needs}
 use Rattle.lists.proofs.TestsLaws.{both-tell}
-use Rattle.sound_pages.proofs.is_inside.Statement.{statement}
-use Rattle.sound_pages.proofs.is_inside.Tie as tie
+use Rattle.sound_page.proofs.is_inside.Statement.{statement}
+use Rattle.sound_page.proofs.is_inside.Tie as tie
 
 is-between-requires : tie.Need-is-between-requires
 is-between-requires c κs = search needs

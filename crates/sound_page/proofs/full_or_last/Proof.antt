@@ -1,7 +1,7 @@
 use borrow.Author.Needs.{needs}
-use Rattle.sound_pages.proofs.CodeLaws.{last-page, full-page}
-use Rattle.sound_pages.proofs.full_or_last.Statement.{statement}
-use Rattle.sound_pages.proofs.full_or_last.Tie as tie
+use Rattle.sound_page.proofs.CodeLaws.{last-page, full-page}
+use Rattle.sound_page.proofs.full_or_last.Statement.{statement}
+use Rattle.sound_page.proofs.full_or_last.Tie as tie
 
 read-header-requires : tie.Need-read-header-requires
 read-header-requires c κs = search needs

@@ -1,7 +1,7 @@
 use borrow.Author.Needs.{needs}
-use Rattle.sound_pages.proofs.CodeLaws.{next-is}
-use Rattle.sound_pages.proofs.next_of.Statement.{statement}
-use Rattle.sound_pages.proofs.next_of.Tie as tie
+use Rattle.sound_page.proofs.CodeLaws.{next-is}
+use Rattle.sound_page.proofs.next_of.Statement.{statement}
+use Rattle.sound_page.proofs.next_of.Tie as tie
 
 read-header-requires : tie.Need-read-header-requires
 read-header-requires c κs = search needs

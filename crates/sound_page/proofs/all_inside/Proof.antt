@@ -5,11 +5,11 @@ use lib.ListN.{drop}
 use Rattle.lists.specs.Parts.{tab}
 use Rattle.lists.specs.Tests.{all}
 use Rattle.page.specs.Page.{entryAt}
-use Rattle.sound_pages.specs.Walks.{insideOf}
+use Rattle.sound_page.specs.PageTest.{insideOf}
 use borrow.Author.Needs.{needs}
-use Rattle.sound_pages.proofs.CodeLaws.{inside-no, inside-turn, inside-end}
-use Rattle.sound_pages.proofs.all_inside.Statement.{statement}
-use Rattle.sound_pages.proofs.all_inside.Tie as tie
+use Rattle.sound_page.proofs.CodeLaws.{inside-no, inside-turn, inside-end}
+use Rattle.sound_page.proofs.all_inside.Statement.{statement}
+use Rattle.sound_page.proofs.all_inside.Tie as tie
 
 abbrev Inv-loop : tie.InvT-loop
 Inv-loop page n s i₀ i = (i ≤ n) × (all (insideOf s) (drop i (tab n (entryAt page))) ≡ all (insideOf s) (tab n (entryAt page)))

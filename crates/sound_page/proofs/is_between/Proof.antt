@@ -1,7 +1,7 @@
 use mathlib.Core.Path.{refl}
 use Rattle.lists.proofs.TestsLaws.{both-tell}
-use Rattle.sound_pages.proofs.is_between.Statement.{statement}
-use Rattle.sound_pages.proofs.is_between.Tie as tie
+use Rattle.sound_page.proofs.is_between.Statement.{statement}
+use Rattle.sound_page.proofs.is_between.Tie as tie
 
 returns : tie.Need-returns
 returns c = both-tell _ _ refl refl

@@ -1,7 +1,7 @@
 use borrow.Author.Needs.{needs}
-use Rattle.sound_pages.proofs.CodeLaws.{page-not-laid, page-other-kind, page-cell}
-use Rattle.sound_pages.proofs.is_page.Statement.{statement}
-use Rattle.sound_pages.proofs.is_page.Tie as tie
+use Rattle.sound_page.proofs.CodeLaws.{page-not-laid, page-other-kind, page-cell}
+use Rattle.sound_page.proofs.is_page.Statement.{statement}
+use Rattle.sound_page.proofs.is_page.Tie as tie
 
 laid-out-requires : tie.Need-laid-out-requires
 laid-out-requires c κs = search needs

@@ -1,7 +1,7 @@
 use borrow.Author.Needs.{needs}
-use Rattle.sound_pages.proofs.CodeLaws.{last-none, last-some}
-use Rattle.sound_pages.proofs.last_radio.Statement.{statement}
-use Rattle.sound_pages.proofs.last_radio.Tie as tie
+use Rattle.sound_page.proofs.CodeLaws.{last-none, last-some}
+use Rattle.sound_page.proofs.last_radio.Statement.{statement}
+use Rattle.sound_page.proofs.last_radio.Tie as tie
 
 entry-count-requires : tie.Need-entry-count-requires
 entry-count-requires c κs = search needs

@@ -1,7 +1,7 @@
 use borrow.Author.Needs.{needs}
-use Rattle.sound_pages.proofs.CodeLaws.{ok-not-page, ok-not-full, ok-not-above, ok-inside}
-use Rattle.sound_pages.proofs.page_ok.Statement.{statement}
-use Rattle.sound_pages.proofs.page_ok.Tie as tie
+use Rattle.sound_page.proofs.CodeLaws.{ok-not-page, ok-not-full, ok-not-above, ok-inside}
+use Rattle.sound_page.proofs.page_ok.Statement.{statement}
+use Rattle.sound_page.proofs.page_ok.Tie as tie
 
 is-page-requires : tie.Need-is-page-requires
 is-page-requires c κs = search needs

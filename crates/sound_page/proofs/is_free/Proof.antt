@@ -1,7 +1,7 @@
 use borrow.Author.Needs.{needs}
-use Rattle.sound_pages.proofs.CodeLaws.{free-has-entry, free-other-kind, free-of-cell, free-tested}
-use Rattle.sound_pages.proofs.is_free.Statement.{statement}
-use Rattle.sound_pages.proofs.is_free.Tie as tie
+use Rattle.sound_page.proofs.CodeLaws.{free-has-entry, free-other-kind, free-of-cell, free-tested}
+use Rattle.sound_page.proofs.is_free.Statement.{statement}
+use Rattle.sound_page.proofs.is_free.Tie as tie
 
 read-header-requires : tie.Need-read-header-requires
 read-header-requires c κs = search needs
