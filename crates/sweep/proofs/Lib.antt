@@ -1,4 +1,4 @@
 pub mod CellLaws
 pub mod TableLaws
 pub mod SweepLaws
-pub mod LowerLaws
+pub mod MarksLaws

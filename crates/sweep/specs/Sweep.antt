@@ -3,21 +3,20 @@ use mathlib.Core.Bool.{Bool, false, not, cond}
 use mathlib.Core.List.{List, [], _∷_, _++_, map}
 use mathlib.Core.Option.{Option, none, some}
 use mathlib.Core.Path.{_≡_}
-use Prim.Native.Nat.{ℕ, suc, _+_, _-_, _≤_, _<_}
+use Prim.Native.Nat.{ℕ, suc, _+_, _-_, _≤_}
 use lib.Dec.{ltb}
 use lib.ListN.{length, getD, set}
 use Rattle.terms.specs.Terms.{Place, maxOn}
 use Rattle.lists.specs.Parts.{tab}
-use Rattle.lists.specs.Rows.{Row, Rows, Rising, find, rank, putRow}
+use Rattle.lists.specs.Rows.{Row, Rows, Rising, find, rank}
 use Rattle.lists.specs.Sums.{concat, filter}
 use Rattle.entries.specs.declared.Entries.{Entries}
 use Rattle.entries.specs.Entries.{rowsOf}
 use Rattle.page.specs.Page.{entries}
 use Rattle.page.specs.Buffer.{pageAt}
 use Rattle.rules.specs.Store.{Line}
-use Rattle.rules.specs.Sweep.{isAt, lowered}
-use Rattle.desk.specs.declared.Line.{Line as Slot}
-use Rattle.desk.specs.Layout.{lineSlots, lineWith, noLine}
+use Rattle.rules.specs.Sweep.{isAt}
+use Rattle.desk.specs.Layout.{lineSlots}
 use Rattle.memo.specs.Memo.{lastOf}
 
 -- the entries on these pages, one page after the other
@@ -85,27 +84,3 @@ pub record SweepsAll (lasts : Rows (Option Place)) (before : List Bool) (es : Ro
   pub rows : rowsOf table ≡ stay lasts es
   pub count : table .n ≡ length (stay lasts es)
   pub marks : after ≡ marked lasts before es
-
--- ---- lines lowered
-
--- "lower the missed count by 1; drop the line at 0", if it is marked
-abbrev pub lowerIf : Bool → Line → Option Line
-lowerIf mark l = cond mark (lowered (some l)) (some l)
-
--- what is left of a line in its slot
-abbrev pub lineIf : ℕ → Option Line → Slot
-lineIf r none = noLine
-lineIf r (some l) = lineWith r (l .missed) (l .last)
-
--- every line that stays
-unfoldable pub lowerWhere : (Row Line → Bool) → Rows Line → Rows Line
-lowerWhere mark [] = []
-lowerWhere mark (x ∷ l) = putRow (x .key) (lowerIf (mark x) (x .val)) (lowerWhere mark l)
-
--- the mark at a line's place
-abbrev pub markOf : List Bool → Rows Line → Row Line → Bool
-markOf marks memo x = getD marks (rank (x .key) memo) false
-
--- none of the first n lines is marked
-abbrev pub Unmarked : List Bool → ℕ → Type 0
-Unmarked marks n = (k : ℕ) → k < n → getD marks k false ≡ false

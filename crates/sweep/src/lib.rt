@@ -6,27 +6,20 @@ ghost use Prim.Native.Nat.{_*_, _<_, _≤_};
 ghost use lib.ListN.{length};
 ghost use Rattle.terms.specs.Terms.{maxOn, pages};
 ghost use Rattle.lists.specs.Rows.{Rising, rank};
-ghost use Rattle.lists.specs.Tests.{Each, one-if, isSome};
+ghost use Rattle.lists.specs.Tests.{Each};
 ghost use Rattle.entries.specs.Entries.{rowOf as entryRow, placeOf, rowsOf};
 ghost use Rattle.page.specs.Page.{entries};
 ghost use Rattle.page.specs.Buffer.{pageAt, there, pagesOf};
 ghost use Rattle.rules.specs.Sweep.{isAt, sweptEntries, sweptMemo};
 ghost use Rattle.desk.specs.Layout.{lineSlots, lineFields, memoOf};
-ghost use Rattle.memo.specs.Memo.{rowOf, memoIn, linesOf, Plain, Whole};
-ghost use Rattle.sweep.specs.Sweep.{entriesOn, linePlaces, radiosIn, lastAt, lastsIn, lastsOf, isStale, stay, slotAfter, Ready, Sweeps, SweepsAll, lowerIf, lineIf, lowerWhere, markOf, Unmarked};
+ghost use Rattle.memo.specs.Memo.{memoIn, linesOf, Whole};
+ghost use Rattle.sweep.specs.Sweep.{entriesOn, linePlaces, radiosIn, lastAt, lastsIn, lastsOf, isStale, stay, slotAfter, Ready, Sweeps, SweepsAll};
 use desk::Desk;
-use desk::Line;
 use entries::Entries;
 use entries::Entry;
+use lowering::PLACES;
+use lowering::UNPLACED;
 use page::Chain;
-
-// As many lines as the memo has slots.
-const LINES: usize = Desk::MAX_LINES + 1;
-
-// A number for each line, and one for the place past the last.
-const PLACES: usize = LINES + 1;
-
-const UNPLACED: u16 = 0;
 
 // What stays of the entries read, and how many lines the memo then has.
 pub struct Swept {
@@ -133,13 +126,6 @@ fn entry_or(goes: bool, old: Entry, e: Entry) -> Entry
     if goes { old } else { e }
 }
 
-// 1 where the test holds.
-fn one_if(test: bool) -> usize
-    ensures { λ r. ⌜ (r ≡ one-if test) × (r ≤ 1) ⌝ }
-{
-    if test { 1 } else { 0 }
-}
-
 // The entries of page p: those that are stale mark their lines, the others go behind those in the table.
 fn sweep_page<'a>(
     buffer: &'a [u8],
@@ -168,7 +154,7 @@ fn sweep_page<'a>(
         let slot = slot_after(k);
         let old = all[slot];
         all[slot] = entry_or(stale, old, e);
-        k = k + one_if(!stale);
+        k = k + lowering::one_if(!stale);
         i += 1;
     }
     Entries { n: k, all }
@@ -196,92 +182,6 @@ fn sweep_pages<'a>(
         i += 1;
     }
     table
-}
-
-// ---- lines
-
-// "lower the missed count by 1; drop the line at 0": what is left of a line in its slot.
-fn lowered_line(x: Line, mark: bool) -> Line
-    requires { ⌜ Plain x ⌝ }
-    ensures { λ r. ⌜ r ≡ lineIf (x .radio) (lowerIf mark (rowOf x .val)) ⌝ }
-{
-    if !mark {
-        return x;
-    }
-    if x.missed <= 1 {
-        return Line {
-            radio: 0,
-            missed: 0,
-            placed: UNPLACED,
-            east: 0,
-            north: 0,
-        };
-    }
-    Line {
-        radio: x.radio,
-        missed: x.missed - 1,
-        placed: x.placed,
-        east: x.east,
-        north: x.north,
-    }
-}
-
-// Whether a line stays.
-fn line_stays(x: Line, mark: bool) -> bool
-    ensures { λ r. ⌜ r ≡ isSome (lowerIf mark (rowOf x .val)) ⌝ }
-{
-    if !mark {
-        return true;
-    }
-    1 < x.missed
-}
-
-// Whether none of the first n lines is marked. It never leaves early, so that many marks are looked at at a time.
-fn none_marked<'a>(marks: &'a [bool; PLACES], n: usize) -> bool
-    requires { ⌜ n ≤ lineSlots ⌝ }
-    ensures { λ r. ⌜ (r ≡ true → Unmarked (now (marks .entry)) n) × (Unmarked (now (marks .entry)) n → r ≡ true) ⌝ }
-{
-    let mut so = true;
-    let mut i: usize = 0;
-    while i < n {
-        so = so & !marks[i];
-        i += 1;
-    }
-    so
-}
-
-// Each marked line has one miss less; those that stay, one after the other, in an array of their own, which then takes the memo's place. How many they are.
-fn written_anew<'a>(
-    words: &'a mut [u16; Desk::MEMO_WORDS],
-    n: usize,
-    marks: &'a [bool; PLACES],
-) -> usize
-    requires { ⌜ Whole (memoIn n (now words)) × (n ≤ lineSlots) × Rising 0 (linesOf (memoIn n (now words))) ⌝ }
-    ensures { λ r. ⌜ memoIn r (now (words .exit)) ≡ memoOf (lowerWhere (markOf (now (marks .entry)) (linesOf (memoIn n (now (words .entry))))) (linesOf (memoIn n (now (words .entry))))) ⌝ }
-{
-    let mut left = [0u16; Desk::MEMO_WORDS];
-    let mut k: usize = 0;
-    let mut i: usize = 0;
-    while i < n {
-        let x = desk::line_at(words, i);
-        let mark = marks[i];
-        desk::put_line(&mut left, k, lowered_line(x, mark));
-        k = k + one_if(line_stays(x, mark));
-        i += 1;
-    }
-    *words = left;
-    k
-}
-
-// Each marked line has one miss less, and goes at 0. Where none is marked the memo is as it was: many cells have no stale entry.
-fn lowered<'a>(words: &'a mut [u16; Desk::MEMO_WORDS], n: usize, marks: &'a [bool; PLACES]) -> usize
-    requires { ⌜ Whole (memoIn n (now words)) × (n ≤ lineSlots) × Rising 0 (linesOf (memoIn n (now words))) ⌝ }
-    ensures { λ r. ⌜ memoIn r (now (words .exit)) ≡ memoOf (lowerWhere (markOf (now (marks .entry)) (linesOf (memoIn n (now (words .entry))))) (linesOf (memoIn n (now (words .entry))))) ⌝ }
-{
-    if none_marked(marks, n) {
-        return n;
-    }
-    written_anew(words, n, marks)
 }
 
 // ---- a chain
@@ -314,6 +214,6 @@ pub fn sweep_chain<'a>(
     );
     Swept {
         table,
-        lines: lowered(words, n, &marks),
+        lines: lowering::lowered(words, n, &marks),
     }
 }

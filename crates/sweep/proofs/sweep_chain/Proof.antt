@@ -1,5 +1,5 @@
 use Rattle.memo.proofs.MemoLaws.{whole-size}
-use Rattle.sweep.proofs.LowerLaws.{chain-rising, chain-room, chain-swept}
+use Rattle.sweep.proofs.MarksLaws.{chain-rising, chain-room, chain-swept}
 use borrow.Author.Needs.{needs}
 use Rattle.sweep.proofs.sweep_chain.Statement.{statement}
 use Rattle.sweep.proofs.sweep_chain.Tie as tie

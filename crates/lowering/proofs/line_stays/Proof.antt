@@ -1,6 +1,6 @@
-use Rattle.sweep.proofs.LowerLaws.{stays-kept, stays-lowered}
-use Rattle.sweep.proofs.line_stays.Statement.{statement}
-use Rattle.sweep.proofs.line_stays.Tie as tie
+use Rattle.lowering.proofs.LowerLaws.{stays-kept, stays-lowered}
+use Rattle.lowering.proofs.line_stays.Statement.{statement}
+use Rattle.lowering.proofs.line_stays.Tie as tie
 
 returns : tie.Need-returns
 returns c = search stays-kept

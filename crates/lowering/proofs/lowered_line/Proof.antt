@@ -1,7 +1,7 @@
-use Rattle.sweep.proofs.LowerLaws.{line-kept, line-dropped, line-lowered}
+use Rattle.lowering.proofs.LowerLaws.{line-kept, line-dropped, line-lowered}
 use borrow.Author.Needs.{needs}
-use Rattle.sweep.proofs.lowered_line.Statement.{statement}
-use Rattle.sweep.proofs.lowered_line.Tie as tie
+use Rattle.lowering.proofs.lowered_line.Statement.{statement}
+use Rattle.lowering.proofs.lowered_line.Tie as tie
 
 returns : tie.Need-returns
 returns c = search line-kept

@@ -3,9 +3,9 @@ use Prim.Native.Nat.{_-_, _≤_}
 use borrow.Author.Needs.{needs}
 use Rattle.memo.specs.Memo.{memoIn}
 use Rattle.memo.proofs.MemoLaws.{whole-size}
-use Rattle.sweep.proofs.LowerLaws.{Lowering, lower-start, line-plain, lower-turn, lower-end}
-use Rattle.sweep.proofs.written_anew.Statement.{statement}
-use Rattle.sweep.proofs.written_anew.Tie as tie
+use Rattle.lowering.proofs.LowerLaws.{Lowering, lower-start, line-plain, lower-turn, lower-end}
+use Rattle.lowering.proofs.written_anew.Statement.{statement}
+use Rattle.lowering.proofs.written_anew.Tie as tie
 
 abbrev Inv-loop : tie.InvT-loop
 Inv-loop words n marks left₀ k₀ i₀ left k i = (k ≤ i) × (i ≤ n) × Lowering marks (memoIn n words) i k left

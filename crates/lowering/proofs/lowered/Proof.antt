@@ -1,8 +1,8 @@
 use borrow.Author.Needs.{needs}
 use Rattle.memo.specs.Memo.{memoIn}
-use Rattle.sweep.proofs.LowerLaws.{lower-none}
-use Rattle.sweep.proofs.lowered.Statement.{statement}
-use Rattle.sweep.proofs.lowered.Tie as tie
+use Rattle.lowering.proofs.LowerLaws.{lower-none}
+use Rattle.lowering.proofs.lowered.Statement.{statement}
+use Rattle.lowering.proofs.lowered.Tie as tie
 
 none-marked-requires : tie.Need-none-marked-requires
 none-marked-requires c κs = search needs

@@ -1,9 +1,9 @@
 -- Whether none of the first i is marked (`Seen`).
 use Prim.Native.Nat.{_-_, _≤_}
 use borrow.Author.Needs.{needs}
-use Rattle.sweep.proofs.LowerLaws.{Seen, seen-start, seen-turn, seen-end}
-use Rattle.sweep.proofs.none_marked.Statement.{statement}
-use Rattle.sweep.proofs.none_marked.Tie as tie
+use Rattle.lowering.proofs.LowerLaws.{Seen, seen-start, seen-turn, seen-end}
+use Rattle.lowering.proofs.none_marked.Statement.{statement}
+use Rattle.lowering.proofs.none_marked.Tie as tie
 
 abbrev Inv-loop : tie.InvT-loop
 Inv-loop marks n so₀ i₀ so i = (i ≤ n) × Seen marks i so
