@@ -16,7 +16,7 @@ use Rattle.desk.specs.declared.Line.{Line}
 use Rattle.desk.specs.Layout.{lineSlots, noLine}
 use Rattle.desk.specs.Views.{linesIn}
 use Rattle.memo.specs.Memo.{lastOf}
-use Rattle.sound_radios.specs.Tables.{Named, lineNamed, judged}
+use Rattle.balance.specs.Tables.{Named, lineNamed, judged}
 
 -- ---- judge: the sections grow with the tests passed
 
@@ -51,11 +51,3 @@ module _ (words lines : List ℕ) (e : Entry) {k : ℕ} (at : k ≡ e .radio) wh
     judge-in {x} {r} f q =
         let z : getD lines k 0 ≡ suc (p - 1) = omega arith in
         rw (judged-at, z, ← f) q
-
--- ---- differences
-
-pub apart-same : (a b : ℕ) → a ≡ b → 0 ≡ one-if (not (eqb a b))
-apart-same a b t = rw (eq-eqb a b t)
-
-pub apart-other : (a b : ℕ) → a ≢ b → 1 ≡ one-if (not (eqb a b))
-apart-other a b t = rw (ne-eqb a b t)

@@ -1,9 +1,8 @@
-pub mod DueLaws
+pub mod BoundLaws
+pub mod HeldLaws
 pub mod JudgeLaws
 pub mod KnownLaws
 pub mod ReadLaws
 pub mod SoundLaws
-pub mod TableLaws
 pub mod TestLaws
-pub mod VerdictLaws
 pub mod WalkLaws

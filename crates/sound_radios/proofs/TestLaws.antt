@@ -24,8 +24,9 @@ use Rattle.mirror.specs.Loops.{passing}
 use Rattle.mirror.specs.Radios.{liveAt, staleAt, newAt, onAt, entriesAt, presentTest, unmarkedTest, lineTest, linesTest, missedAt}
 use Rattle.mirror.proofs.LoopsLaws.{bool-same, allTo-true, true-allTo, passing-found}
 use Rattle.mirror.proofs.RadiosLaws.{stale-live, stale-missed}
-use Rattle.sound_radios.specs.Tables.{tableSize, fieldEnd, half, Blank, keyed, added, written, weigh, markNew, belongsBy, missedOff, oneOff, allSettled}
-use Rattle.sound_radios.proofs.TableLaws.{Comes, share, added-comes, foundOr, written-found, length-added, length-written}
+use Rattle.balance.specs.Tables.{tableSize, fieldEnd, half, Blank, added, written, markNew, belongsBy, missedOff, oneOff, allSettled}
+use Rattle.sound_radios.specs.Entries.{weigh, keyed}
+use Rattle.sound_radios.proofs.HeldLaws.{Comes, share, added-comes, foundOr, written-found, length-added, length-written}
 
 -- ---- a table of zeros
 

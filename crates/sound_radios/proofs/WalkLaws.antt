@@ -29,11 +29,16 @@ use Rattle.desk.specs.declared.Directory.{Directory}
 use Rattle.desk.specs.Layout.{noSlot}
 use Rattle.desk.specs.Views.{slotsIn}
 use Rattle.sweep.specs.Sweep.{entriesOn}
-use Rattle.sound_radios.specs.Entries.{entriesFrom, rowsRead}
-use Rattle.sound_radios.specs.Tables.{fieldEnd, half, added, weight, weigh, staleSum}
-use Rattle.sound_radios.proofs.TableLaws.{row-next, row-none, added-append, Adding, adding-start, adding-end, adding-key, adding-turn}
+use Rattle.balance.specs.Tables.{fieldEnd, half, added}
+use Rattle.balance.proofs.TableLaws.{row-next, row-none, addedOne, Adding, adding-start, adding-end, adding-key, adding-turn}
+use Rattle.sound_radios.specs.Entries.{entriesFrom, rowsRead, weight, weigh, staleSum}
 
--- ---- one entry
+-- ---- one entry after the other
+
+added-append : {Val : Type 0} (w : Row Val → ℕ) (t : List ℕ) (a b : Rows Val) → added w t (a ++ b) ≡ added w (added w t a) b
+unfolding added
+added-append w t [] b = refl
+added-append w t (x ∷ a) b = added-append w (addedOne w t x) a b
 
 pub weight-is : (b : Bool) → weight b ≡ 1 + (half - 1) * one-if b
 weight-is true = refl

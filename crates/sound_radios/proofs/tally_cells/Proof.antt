@@ -4,7 +4,7 @@ use Prim.Native.Nat.{_-_, _≤_}
 use lib.ListN.{length}
 use Rattle.lists.proofs.ShiftLaws.{length-mapped}
 use Rattle.rules.specs.Limits.{maxCells}
-use Rattle.sound_radios.specs.Tables.{judged}
+use Rattle.balance.specs.Tables.{judged}
 use Rattle.sound_radios.proofs.WalkLaws.{Cells, cells-start, cells-radios, cells-turn, cells-end}
 use borrow.Author.Needs.{needs}
 use Rattle.sound_radios.proofs.tally_cells.Statement.{statement}

@@ -1,7 +1,7 @@
 -- The entries so far are added, and counted where they are stale (`Tallying`).
 use Prim.Native.Nat.{_-_, _≤_}
 use Rattle.page.specs.Page.{entries}
-use Rattle.sound_radios.specs.Tables.{judged}
+use Rattle.balance.specs.Tables.{judged}
 use Rattle.sound_radios.proofs.WalkLaws.{Tallying, tally-start, page-radio, page-turn, page-end}
 use borrow.Author.Needs.{needs}
 use Rattle.sound_radios.proofs.tally_page.Statement.{statement}

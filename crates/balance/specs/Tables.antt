@@ -1,6 +1,6 @@
--- Tables by radio, a number for each: what the code of the test keeps, and what it answers from them.
+-- What is due and what is found of each radio, in one table by radio: a number for each.
 use mathlib.Core.Path.{_≡_}
-use mathlib.Core.Bool.{Bool, true, false, not}
+use mathlib.Core.Bool.{Bool, not}
 use mathlib.Core.List.{List, [], _∷_}
 use mathlib.Core.Option.{Option, none, some}
 use Prim.Native.Nat.{ℕ, zero, suc, _+_, _-_, _*_, _%_, _≤_, min}
@@ -8,14 +8,13 @@ use lib.Dec.{eqb}
 use lib.ListN.{length, getD, set}
 use Rattle.terms.specs.Terms.{Place, maxRadio}
 use Rattle.lists.specs.Rows.{Row, Rows}
-use Rattle.lists.specs.Sums.{sumBy}
 use Rattle.lists.specs.Tests.{one-if, either}
 use Rattle.rules.specs.Store.{Report, Line}
 use Rattle.rules.specs.Sweep.{staleBy}
 use Rattle.desk.specs.Layout.{lineSlots, lineFields, noLine}
 use Rattle.desk.specs.Views.{linesIn}
 use Rattle.memo.specs.Memo.{rowOf}
-use Rattle.mirror.specs.Loops.{allTo, passing}
+use Rattle.mirror.specs.Loops.{allTo}
 
 -- a number for each radio, and one for 0
 abbrev pub tableSize : ℕ
@@ -40,10 +39,6 @@ module _ {Val : Type 0} where
   unfoldable pub written : (Row Val → ℕ) → List ℕ → Rows Val → List ℕ
   written v t [] = t
   written v t (x ∷ xs) = written v (set t (x .key) (v x)) xs
-
-  -- how many rows have the key
-  abbrev pub keyed : ℕ → Rows Val → ℕ
-  keyed = passing (λ _. true)
 
 -- each radio's number is 0 again: what is due is found, and no more
 unfoldable pub allSettled : List ℕ → Bool
@@ -71,14 +66,6 @@ judged words lines e = staleBy (lineNamed words (getD lines (e .key) 0)) (e .val
 abbrev pub half : ℕ
 half = 256
 
--- of an entry: in the low half if it isn't stale, else in the high half
-abbrev pub weight : Bool → ℕ
-weight true = half
-weight false = 1
-
-abbrev pub weigh : (Row Place → Bool) → Row Place → ℕ
-weigh old e = weight (old e)
-
 -- of a waiting report marked new: in the low half
 abbrev pub markNew : Row Report → ℕ
 markNew w = one-if (w .val .new)
@@ -94,7 +81,3 @@ missedOff l = (fieldEnd - half * min (l .val .missed) (half - 1)) % fieldEnd
 -- of a radio on: 1 is taken off
 abbrev pub oneOff : Row (Unit {0}) → ℕ
 oneOff x = fieldEnd - 1
-
--- how many of the entries are stale
-unfoldable pub staleSum : (Row Place → Bool) → Rows Place → ℕ
-staleSum old es = sumBy (λ e. one-if (old e)) es

@@ -1,9 +1,9 @@
 -- The lines so far are added and named (`LinesDue`).
 use Prim.Native.Nat.{_-_, _≤_}
-use Rattle.sound_radios.proofs.DueLaws.{LinesDue, lines-start, line-radio, lines-turn, lines-end}
+use Rattle.balance.proofs.DueLaws.{LinesDue, lines-start, line-radio, lines-turn, lines-end}
 use borrow.Author.Needs.{needs}
-use Rattle.sound_radios.proofs.lines_due.Statement.{statement}
-use Rattle.sound_radios.proofs.lines_due.Tie as tie
+use Rattle.balance.proofs.lines_due.Statement.{statement}
+use Rattle.balance.proofs.lines_due.Tie as tie
 
 abbrev Inv-loop : tie.InvT-loop
 Inv-loop words n balance₀ lines₀ i₀ balance lines i = (i ≤ n) × LinesDue (record { n = n; words = words }) balance₀ i balance lines

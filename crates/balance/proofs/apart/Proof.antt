@@ -1,7 +1,7 @@
 use borrow.Author.Needs.{needs}
-use Rattle.sound_radios.proofs.JudgeLaws.{apart-same, apart-other}
-use Rattle.sound_radios.proofs.apart.Statement.{statement}
-use Rattle.sound_radios.proofs.apart.Tie as tie
+use Rattle.balance.proofs.SettledLaws.{apart-same, apart-other}
+use Rattle.balance.proofs.apart.Statement.{statement}
+use Rattle.balance.proofs.apart.Tie as tie
 
 returns : tie.Need-returns
 returns c = (search apart-same, search needs)

@@ -1,9 +1,9 @@
 -- The radios so far are written (`OnDue`).
 use Prim.Native.Nat.{_-_, _≤_}
-use Rattle.sound_radios.proofs.DueLaws.{OnDue, on-start, on-radio, on-turn, on-end}
+use Rattle.balance.proofs.DueLaws.{OnDue, on-start, on-radio, on-turn, on-end}
 use borrow.Author.Needs.{needs}
-use Rattle.sound_radios.proofs.on_due.Statement.{statement}
-use Rattle.sound_radios.proofs.on_due.Tie as tie
+use Rattle.balance.proofs.on_due.Statement.{statement}
+use Rattle.balance.proofs.on_due.Tie as tie
 
 abbrev Inv-loop : tie.InvT-loop
 Inv-loop radios n balance₀ i₀ balance i = (i ≤ n) × OnDue (record { n = n; radios = radios }) balance₀ i balance

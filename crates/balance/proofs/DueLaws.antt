@@ -29,8 +29,8 @@ use Rattle.desk.proofs.LinesLaws.{length-lines-in}
 use Rattle.memo.specs.Memo.{rowOf, linesOf}
 use Rattle.sound_directory.proofs.LoopLaws.{all-nil}
 use Rattle.waiting.specs.Waiting.{rowOf as reportRow, reportsOf}
-use Rattle.sound_radios.specs.Tables.{tableSize, fieldEnd, half, Blank, added, written, Named, lineNamed, judged, markNew, belongsBy, missedOff, oneOff}
-use Rattle.sound_radios.proofs.TableLaws.{row-next, row-none, Adding, adding-start, adding-end, adding-key, adding-turn}
+use Rattle.balance.specs.Tables.{tableSize, fieldEnd, half, Blank, added, written, Named, lineNamed, judged, markNew, belongsBy, missedOff, oneOff}
+use Rattle.balance.proofs.TableLaws.{row-next, row-none, Adding, adding-start, adding-end, adding-key, adding-turn}
 
 -- ---- radios on
 

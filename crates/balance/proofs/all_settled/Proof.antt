@@ -1,11 +1,11 @@
 -- The numbers so far that are not settled are counted.
 use mathlib.Core.Path.{_≡_}
 use Prim.Native.Nat.{_-_, _≤_}
-use Rattle.sound_radios.specs.Tables.{tableSize}
-use Rattle.sound_radios.proofs.VerdictLaws.{unsettled, settled-start, settled-turn, settled-end}
+use Rattle.balance.specs.Tables.{tableSize}
+use Rattle.balance.proofs.SettledLaws.{unsettled, settled-start, settled-turn, settled-end}
 use borrow.Author.Needs.{needs}
-use Rattle.sound_radios.proofs.all_settled.Statement.{statement}
-use Rattle.sound_radios.proofs.all_settled.Tie as tie
+use Rattle.balance.proofs.all_settled.Statement.{statement}
+use Rattle.balance.proofs.all_settled.Tie as tie
 
 abbrev Inv-loop : tie.InvT-loop
 Inv-loop balance n₀ i₀ n i = (i ≤ tableSize) × (n ≤ i) × (n ≡ unsettled balance i)

@@ -1,8 +1,8 @@
 use mathlib.Core.Bool.{Bool, true, false, _||_}
 use mathlib.Core.Path.{_≡_, refl}
 use Rattle.lists.specs.Tests.{either}
-use Rattle.sound_radios.proofs.belongs.Statement.{statement}
-use Rattle.sound_radios.proofs.belongs.Tie as tie
+use Rattle.balance.proofs.belongs.Statement.{statement}
+use Rattle.balance.proofs.belongs.Tie as tie
 
 -- the code's "or"
 or-either : (a b : Bool) → (a || b) ≡ either a b

@@ -5,12 +5,12 @@ use lib.ListN.{length}
 use Rattle.lists.proofs.ShiftLaws.{length-mapped}
 use Rattle.rules.specs.Limits.{fullMemory}
 use Rattle.waiting.specs.Waiting.{reportsOf}
-use Rattle.sound_radios.specs.Tables.{markNew}
-use Rattle.sound_radios.proofs.TableLaws.{Adding, adding-start}
-use Rattle.sound_radios.proofs.DueLaws.{Belonging, belonging-start, new-radio, new-turn, new-end, belonging-turn, belonging-end}
+use Rattle.balance.specs.Tables.{markNew}
+use Rattle.balance.proofs.TableLaws.{Adding, adding-start}
+use Rattle.balance.proofs.DueLaws.{Belonging, belonging-start, new-radio, new-turn, new-end, belonging-turn, belonging-end}
 use borrow.Author.Needs.{needs}
-use Rattle.sound_radios.proofs.tally_new.Statement.{statement}
-use Rattle.sound_radios.proofs.tally_new.Tie as tie
+use Rattle.balance.proofs.tally_new.Statement.{statement}
+use Rattle.balance.proofs.tally_new.Tie as tie
 
 abbrev Inv-loop : tie.InvT-loop
 Inv-loop balance₀ w n so₀ i₀ balance so i = (i ≤ w .n) × (length (w .rows) ≡ fullMemory) × Adding markNew balance₀ (reportsOf w) i balance × Belonging balance₀ (reportsOf w) i so balance

@@ -1,0 +1,3 @@
+pub mod DueLaws
+pub mod SettledLaws
+pub mod TableLaws
