@@ -25,7 +25,8 @@ use Rattle.waiting.specs.Waiting.{reportsOf}
 use Rattle.sound_desk.specs.Views.{cellOf}
 use Rattle.sound_desk.specs.Sound.{missedTest, deskSound, Shaped}
 use Rattle.sound_desk.proofs.DeskLaws.{desk-shown, desk-tested}
-use Rattle.sound_radios.specs.Entries.{rowsRead, keyed}
+use Rattle.entry_walk.specs.Entries.{rowsRead}
+use Rattle.sound_radios.specs.Entries.{keyed}
 use Rattle.sound_radios.proofs.ReadLaws.{one-row, radios-read, once-read}
 
 pub record Known (b : List ℕ) (d : Desk) : Type 0 where

@@ -25,7 +25,8 @@ use Rattle.sweep.specs.Sweep.{entriesOn}
 use Rattle.sound_pages.specs.PagesSound.{CellSound, PagesSound}
 use Rattle.sound_pages.proofs.StoreLaws.{store-once, store-laid}
 use Rattle.sound_desk.proofs.PartLaws.{map-map}
-use Rattle.sound_radios.specs.Entries.{entriesFrom, rowsRead, keyed}
+use Rattle.entry_walk.specs.Entries.{entriesFrom, rowsRead}
+use Rattle.sound_radios.specs.Entries.{keyed}
 
 map-each : {A B : Type 0} (f g : A → B) (l : List A) → Each (λ x. f x ≡ g x) l → map f l ≡ map g l
 map-each f g [] e = refl

@@ -22,7 +22,8 @@ use Rattle.mirror.specs.Round.{staleCount, staleCounts, boundTest}
 use Rattle.sound_directory.proofs.LoopLaws.{stops, goes}
 use Rattle.waiting.specs.Waiting.{reportsOf}
 use Rattle.balance.specs.Tables.{Blank, added, written, Named, markNew, belongsBy, missedOff, oneOff, allSettled}
-use Rattle.sound_radios.specs.Entries.{rowsRead, weigh, staleSum, entriesTest}
+use Rattle.entry_walk.specs.Entries.{rowsRead, weigh, staleSum}
+use Rattle.sound_radios.specs.Entries.{entriesTest}
 use Rattle.sound_radios.proofs.KnownLaws.{Known}
 use Rattle.sound_radios.proofs.TestLaws.{belong-unmarked, balance-counts, settled-tests}
 

@@ -25,7 +25,8 @@ use Rattle.mirror.specs.Radios.{liveAt, staleAt, newAt, onAt, entriesAt, presen
 use Rattle.mirror.proofs.LoopsLaws.{bool-same, allTo-true, true-allTo, passing-found}
 use Rattle.mirror.proofs.RadiosLaws.{stale-live, stale-missed}
 use Rattle.balance.specs.Tables.{tableSize, fieldEnd, half, Blank, added, written, markNew, belongsBy, missedOff, oneOff, allSettled}
-use Rattle.sound_radios.specs.Entries.{weigh, keyed}
+use Rattle.entry_walk.specs.Entries.{weigh}
+use Rattle.sound_radios.specs.Entries.{keyed}
 use Rattle.sound_radios.proofs.HeldLaws.{Comes, share, added-comes, foundOr, written-found, length-added, length-written}
 
 -- ---- a table of zeros

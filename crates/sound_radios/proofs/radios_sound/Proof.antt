@@ -12,7 +12,7 @@ use Rattle.balance.proofs.all_settled.Reads as all-settled-reads
 use Rattle.sound_radios.proofs.bound_ok.Reads as bound-ok-reads
 use Rattle.balance.proofs.lines_due.Reads as lines-due-reads
 use Rattle.balance.proofs.on_due.Reads as on-due-reads
-use Rattle.sound_radios.proofs.tally_cells.Reads as tally-cells-reads
+use Rattle.entry_walk.proofs.tally_cells.Reads as tally-cells-reads
 use Rattle.balance.proofs.tally_new.Reads as tally-new-reads
 
 shown : (s : lts.Start (on-due-reads.Asked, on-due-reads.Learnt, lines-due-reads.Asked, lines-due-reads.Learnt, tally-new-reads.Asked, tally-new-reads.Learnt, tally-cells-reads.Asked, tally-cells-reads.Learnt, all-settled-reads.Asked, all-settled-reads.Learnt, bound-ok-reads.Asked, bound-ok-reads.Learnt) reads.Pre reads.Post)

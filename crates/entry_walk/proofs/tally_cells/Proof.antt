@@ -5,10 +5,10 @@ use lib.ListN.{length}
 use Rattle.lists.proofs.ShiftLaws.{length-mapped}
 use Rattle.rules.specs.Limits.{maxCells}
 use Rattle.balance.specs.Tables.{judged}
-use Rattle.sound_radios.proofs.WalkLaws.{Cells, cells-start, cells-radios, cells-turn, cells-end}
+use Rattle.entry_walk.proofs.WalkLaws.{Cells, cells-start, cells-radios, cells-turn, cells-end}
 use borrow.Author.Needs.{needs}
-use Rattle.sound_radios.proofs.tally_cells.Statement.{statement}
-use Rattle.sound_radios.proofs.tally_cells.Tie as tie
+use Rattle.entry_walk.proofs.tally_cells.Statement.{statement}
+use Rattle.entry_walk.proofs.tally_cells.Tie as tie
 
 abbrev Inv-loop : tie.InvT-loop
 Inv-loop pages words lines balance₀ cells counts₀ n i₀ balance counts i = (i ≤ cells .n) × (length (cells .slots) ≡ maxCells) × Cells (judged words lines) pages cells balance₀ balance counts i

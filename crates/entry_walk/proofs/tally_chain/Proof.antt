@@ -3,10 +3,10 @@ use Prim.Native.Nat.{_+_, _*_, _≤_}
 use Rattle.terms.specs.Terms.{pages as sheets, pageEntries}
 use Rattle.page.proofs.ChainLaws.{was-there}
 use Rattle.balance.specs.Tables.{judged}
-use Rattle.sound_radios.proofs.WalkLaws.{Chaining, chaining-start, page-asks, chaining-gone, chaining-radios, chaining-turn, chaining-out}
+use Rattle.entry_walk.proofs.WalkLaws.{Chaining, chaining-start, page-asks, chaining-gone, chaining-radios, chaining-turn, chaining-out}
 use borrow.Author.Needs.{needs}
-use Rattle.sound_radios.proofs.tally_chain.Statement.{statement}
-use Rattle.sound_radios.proofs.tally_chain.Tie as tie
+use Rattle.entry_walk.proofs.tally_chain.Statement.{statement}
+use Rattle.entry_walk.proofs.tally_chain.Tie as tie
 
 abbrev Inv-loop : tie.InvT-loop
 Inv-loop pages first words lines balance₀ sum₀ p₀ fuel₀ balance sum p fuel = (sum + pageEntries * fuel ≤ pageEntries * sheets) × Chaining (judged words lines) pages first balance₀ balance sum p fuel

@@ -2,10 +2,10 @@
 use Prim.Native.Nat.{_-_, _≤_}
 use Rattle.page.specs.Page.{entries}
 use Rattle.balance.specs.Tables.{judged}
-use Rattle.sound_radios.proofs.WalkLaws.{Tallying, tally-start, page-radio, page-turn, page-end}
+use Rattle.entry_walk.proofs.WalkLaws.{Tallying, tally-start, page-radio, page-turn, page-end}
 use borrow.Author.Needs.{needs}
-use Rattle.sound_radios.proofs.tally_page.Statement.{statement}
-use Rattle.sound_radios.proofs.tally_page.Tie as tie
+use Rattle.entry_walk.proofs.tally_page.Statement.{statement}
+use Rattle.entry_walk.proofs.tally_page.Tie as tie
 
 abbrev Inv-loop : tie.InvT-loop
 Inv-loop page words lines balance₀ n sum₀ i₀ balance sum i = (i ≤ n) × (sum ≤ i) × Tallying (judged words lines) balance₀ (entries page) i balance sum

@@ -31,7 +31,7 @@ use Rattle.desk.specs.Views.{slotsIn}
 use Rattle.sweep.specs.Sweep.{entriesOn}
 use Rattle.balance.specs.Tables.{fieldEnd, half, added}
 use Rattle.balance.proofs.TableLaws.{row-next, row-none, addedOne, Adding, adding-start, adding-end, adding-key, adding-turn}
-use Rattle.sound_radios.specs.Entries.{entriesFrom, rowsRead, weight, weigh, staleSum}
+use Rattle.entry_walk.specs.Entries.{entriesFrom, rowsRead, weight, weigh, staleSum}
 
 -- ---- one entry after the other
 

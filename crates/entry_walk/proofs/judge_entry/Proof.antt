@@ -1,7 +1,7 @@
-use Rattle.sound_radios.proofs.JudgeLaws.{judge-no-line, judge-slot, judge-in}
+use Rattle.entry_walk.proofs.JudgeLaws.{judge-no-line, judge-slot, judge-in}
 use borrow.Author.Needs.{needs}
-use Rattle.sound_radios.proofs.judge_entry.Statement.{statement}
-use Rattle.sound_radios.proofs.judge_entry.Tie as tie
+use Rattle.entry_walk.proofs.judge_entry.Statement.{statement}
+use Rattle.entry_walk.proofs.judge_entry.Tie as tie
 
 radio-index-requires : tie.Need-radio-index-requires
 radio-index-requires c κs = search needs

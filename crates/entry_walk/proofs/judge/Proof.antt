@@ -1,7 +1,7 @@
 use borrow.Author.Needs.{needs}
-use Rattle.sound_radios.proofs.JudgeLaws.{judge-none, judge-east, judge-north}
-use Rattle.sound_radios.proofs.judge.Statement.{statement}
-use Rattle.sound_radios.proofs.judge.Tie as tie
+use Rattle.entry_walk.proofs.JudgeLaws.{judge-none, judge-east, judge-north}
+use Rattle.entry_walk.proofs.judge.Statement.{statement}
+use Rattle.entry_walk.proofs.judge.Tie as tie
 
 returns : tie.Need-returns
 returns c = (search judge-none, search needs)
