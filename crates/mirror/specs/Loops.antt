@@ -7,10 +7,6 @@ use Rattle.lists.specs.Rows.{Row, Rows}
 use Rattle.lists.specs.Sums.{sumBy, count}
 use Rattle.lists.specs.Tests.{one-if, both, all}
 
--- every test passes
-unfoldable pub every : List Bool → Bool
-every l = all (λ b. b) l
-
 -- every number below n passes
 unfoldable pub allTo : ℕ → (ℕ → Bool) → Bool
 allTo zero p = true

@@ -1,7 +1,7 @@
--- What a caller needs: the pages of a sound store are sound; and cells and free chain of sound pages are the only ones, and make directory and layout of a store.
-use mathlib.Core.List.{List, [], _++_, map}
+-- What a caller needs: the pages of a sound store are sound, and cells and free chain of sound pages make directory and layout of a store.
+use mathlib.Core.List.{List, _++_, map}
 use mathlib.Core.Path.{_≡_, refl, sym, ap₂, _∙_, subst}
-use Prim.Native.Nat.{ℕ, _-_}
+use Prim.Native.Nat.{ℕ}
 use Rattle.terms.specs.Terms.{noPage}
 use Rattle.lists.specs.Chains.{firstOf}
 use Rattle.lists.specs.Sums.{concat, count}
@@ -58,9 +58,3 @@ module _ {b : List ℕ} {d : Directory} {free : ℕ} (x : PagesSound b d free) w
         (subst (λ (cs : List Cell). Each (At b) (cellsLeaves cs)) (sym e) (x .leaf))
         (subst (λ (ps : List ℕ). Each (At b) (freeLeaves ps)) (sym f) (x .freeLeaf));
   }
-
--- ---- there is one such list of cells, and one such free chain
-
--- a store of cells and free chain alone
-abbrev bare : List Cell → List ℕ → Store
-bare cells free = record { cuts = record { easts = []; norths = [] }; cells = cells; free = free; waiting = []; memo = []; on = []; tally = 0 }

@@ -2,23 +2,22 @@
 use mathlib.Core.Path.{_≡_, refl, sym, ap, _∙_, subst}
 use mathlib.Core.Bool.{Bool, true, false, not, cond}
 use mathlib.Core.List.{List, [], _∷_, _++_, append-assoc, append-nil, map, map-append}
-use mathlib.Core.Option.{Option, none, some}
+use mathlib.Core.Option.{Option}
 use Prim.Native.Nat.{ℕ, zero, suc, _+_, _-_, _≤_, _<_}
 use native.Mathlib.Omega.{arith}
 use native.Mathlib.Nat.{add-zero}
 use native.Mathlib.Numerals.{add-one}
-use lib.Dec.{ltb}
 use lib.ListN.{length, length-append, getD, set, take, drop, take-append-drop}
 use lib.Seq.{getD-take, length-take-le, take-suc, take-take, set-getD}
 use borrow.Author.Tests.{lt-ltb, le-ltb}
 use Rattle.terms.specs.Terms.{Place, maxOn, pages}
 use Rattle.lists.specs.Parts.{tab}
-use Rattle.lists.specs.Rows.{Row, Rows, Rising, find, rank, alter, countFound}
+use Rattle.lists.specs.Rows.{Row, Rows, Rising, rank, alter}
 use Rattle.lists.specs.Sums.{filter, concat}
 use Rattle.lists.specs.Tests.{Each, one-if}
 use Rattle.lists.proofs.Cases.{by-cases}
 use Rattle.lists.proofs.PartsLaws.{tab-suc}
-use Rattle.lists.proofs.RowsLaws.{rising-alter, rising-filter, length-alter}
+use Rattle.lists.proofs.RowsLaws.{rising-alter, rising-filter}
 use Rattle.lists.proofs.SumsLaws.{filter-append}
 use Rattle.lists.proofs.TestsLaws.{each-getD}
 use Rattle.entries.specs.declared.Entry.{Entry}
@@ -243,21 +242,6 @@ rising-lower : (b : ℕ) (es : Rows Place) (l : Rows Line) → Rising b es → R
 unfolding lowerEach
 rising-lower b [] l a r = r
 rising-lower b (e ∷ es) l a r = rising-lower (e .key) es (alter lowered (e .key) l) (a .1) (rising-alter lowered 0 (e .key) l (omega arith) r)
-
--- no line is made
-count-lowered : (r : ℕ) (o : Option Line) → countFound (λ _ _. 1) r (lowered o) ≤ countFound (λ _ _. 1) r o
-count-lowered r none = omega arith
-count-lowered r (some v) = by-cases (ltb 1 (v .missed)) (λ t. rw t (omega arith)) (λ t. rw t (omega arith))
-
-length-lowered : (r : ℕ) (l : Rows Line) → 0 < r → Rising 0 l → length (alter lowered r l) ≤ length l
-length-lowered r l h a = omega (arith, length-alter lowered 0 r l h a, count-lowered r (find l r))
-
-length-lower : (b : ℕ) (es : Rows Place) (l : Rows Line) → Rising b es → Rising 0 l → length (lowerEach es l) ≤ length l
-unfolding lowerEach
-length-lower b [] l a r = omega arith
-length-lower b (e ∷ es) l a r =
-    let h : 0 < e .key = omega arith in
-    omega (arith, length-lower (e .key) es (alter lowered (e .key) l) (a .1) (rising-alter lowered 0 (e .key) l h r), length-lowered (e .key) l h r)
 
 module _ (l : Rows Line) (es : Rows Place) (rising : Rising 0 es) (lines : Rising 0 l) where
   pub rising-sweptMemo : Rising 0 (sweptMemo l es)
