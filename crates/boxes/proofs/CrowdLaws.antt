@@ -6,27 +6,23 @@ use mathlib.Core.Path.{_≡_, sym, ap, _∙_}
 use Prim.Native.Nat.{ℕ, _+_, _≤_, _<_}
 use native.Mathlib.Omega.{arith}
 use lib.Dec.{eqb}
-use lib.ListN.{length, getD, set, take, replicate, length-set, length-take, length-replicate, getD-replicate}
-use lib.Seq.{take-all, getD-set-same, getD-set-other}
+use lib.ListN.{length, getD, set, replicate, length-set, length-take, length-replicate, getD-replicate}
+use lib.Seq.{getD-set-same, getD-set-other}
 use borrow.Author.Tests.{eqb-true, eq-eqb}
 use Rattle.lists.specs.Rows.{Row, Rows}
 use Rattle.lists.specs.Tests.{one-if}
 use Rattle.lists.proofs.Cases.{by-cases}
 use Rattle.lists.proofs.SumsLaws.{sum-nil, sum-last, sum-le, sum-const}
 use Rattle.lists.proofs.TestsLaws.{both-left, both-right, both-intro, one-if-le}
-use Rattle.rules.specs.Limits.{fullMemory, maxCuts}
+use Rattle.rules.specs.Limits.{maxCuts}
 use Rattle.rules.specs.Grid.{Box, Cuts, stripe, boxOf}
 use Rattle.rules.specs.Flush.{inBox}
 use Rattle.rules.specs.Carry.{waitingIn}
 use Rattle.rules.specs.Store.{Report as StoreReport}
 use Rattle.rules.proofs.TilingLaws.{stripe-most}
 use Rattle.desk.specs.declared.CutList.{CutList}
-use Rattle.desk.specs.declared.Waiting.{Waiting}
-use Rattle.desk.specs.Layout.{noReport}
-use Rattle.desk.specs.Views.{cutsIn, cutsBy}
+use Rattle.desk.specs.Views.{cutsIn}
 use Rattle.boxes.specs.Boxes.{maxStripes, tableSize, boxAt, Crowd}
-use Rattle.waiting.specs.Waiting.{rowOf, reportsOf}
-use Rattle.waiting.proofs.WaitingLaws.{length-reports, reports-next}
 
 -- ---- the memory cell of a place
 
@@ -119,26 +115,3 @@ module _ {cuts : Cuts} {ws : Rows StoreReport} {crowd : List ℕ} (c : Crowd cut
 
   pub crowd-turn : Crowd cuts (ws ++ (x ∷ [])) more
   crowd-turn = record { size = length-set crowd k (getD crowd k 0 + 1) ∙ c .size; counts = counts-next }
-
--- ---- the waiting reports of the desk, one after the other
-
--- the first i of them are counted
-pub record Crowding (easts norths : CutList) (w : Waiting) (i : ℕ) (crowd : List ℕ) : Type 0 where
-  pub so : Crowd (cutsBy easts norths) (take i (reportsOf w)) crowd
-
-pub crowding-start : (easts norths : CutList) (w : Waiting) → Crowding easts norths w 0 (replicate tableSize 0)
-crowding-start easts norths w = record { so = crowd-start (cutsBy easts norths) }
-
-module _ {easts norths : CutList} (w : Waiting) {i : ℕ} {crowd : List ℕ} (c : Crowding easts norths w i crowd) (size : length (w .rows) ≡ fullMemory) (fits : w .n ≤ fullMemory) where
-  module _ (east-cuts : easts .n ≤ maxCuts) (north-cuts : norths .n ≤ maxCuts) (more : i < w .n) {k : ℕ}
-      (said : k ≡ boxAt (boxOf (cutsBy easts norths) (record { east = getD (w .rows) i noReport .east; north = getD (w .rows) i noReport .north }))) where
-    pub crowding-room : getD crowd k 0 < fullMemory
-    crowding-room = omega (arith, crowd-most (c .so) (few-cuts easts east-cuts) (few-cuts norths north-cuts) (rowOf (getD (w .rows) i noReport)) said, length-take i (reportsOf w))
-
-    pub crowding-turn : Crowding easts norths w (i + 1) (set crowd k (getD crowd k 0 + 1))
-    crowding-turn = record {
-      so = rw (reports-next w size fits i more) (crowd-turn (c .so) (few-cuts easts east-cuts) (few-cuts norths north-cuts) (rowOf (getD (w .rows) i noReport)) said);
-    }
-
-  pub crowding-end : w .n ≤ i → Crowd (cutsBy easts norths) (reportsOf w) crowd
-  crowding-end h = rw (take-all i (reportsOf w) (rw (length-reports w size fits) h)) at (c .so)

@@ -1,5 +1,4 @@
 -- The memory cells of all slots at once: the stripes of their coordinates, cut by cut.
-use mathlib.Core.Bool.{Bool, cond, Bool·beq}
 use mathlib.Core.List.{List}
 use mathlib.Core.Path.{_≡_, refl, sym, ap, _∙_}
 use Prim.Native.Nat.{ℕ, _+_, _≤_, _<_}
@@ -9,12 +8,11 @@ use lib.Dec.{eqb, leb}
 use lib.ListN.{length, getD, set, take, replicate, length-set, length-take, length-replicate, getD-replicate}
 use lib.Seq.{take-suc, take-all, getD-take, getD-set-same, getD-set-other}
 use borrow.Author.Tests.{le-leb, lt-leb, eqb-true, eqb-false}
-use Rattle.lists.specs.Tests.{one-if, both}
+use Rattle.lists.specs.Tests.{one-if}
 use Rattle.lists.proofs.Cases.{by-cases}
 use Rattle.lists.proofs.SumsLaws.{sum-nil, sum-last}
 use Rattle.rules.specs.Limits.{fullMemory, maxCuts}
-use Rattle.rules.specs.Grid.{Box, Cuts, stripe, boxOf}
-use Rattle.rules.specs.Flush.{inBox}
+use Rattle.rules.specs.Grid.{Box, stripe, boxOf}
 use Rattle.rules.proofs.TilingLaws.{stripe-most}
 use Rattle.desk.specs.declared.CutList.{CutList}
 use Rattle.desk.specs.declared.Report.{Report}
@@ -22,10 +20,9 @@ use Rattle.desk.specs.declared.Waiting.{Waiting}
 use Rattle.desk.specs.Layout.{noReport}
 use Rattle.desk.specs.Views.{cutsIn, cutsBy}
 use Rattle.boxes.specs.declared.Stripes.{Stripes}
-use Rattle.boxes.specs.Boxes.{Coordinates, Passing, Striped, Boxed, maxStripes, tableSize, boxAt}
-use Rattle.boxes.proofs.BoxLaws.{length-cuts, box-laid, Parted, part-start, part-turn}
-use Rattle.waiting.specs.Waiting.{rowOf}
-use Rattle.boxes.proofs.CrowdLaws.{few-cuts, stripe-few, Crowding, crowding-start, crowding-room, crowding-turn}
+use Rattle.boxes.specs.Boxes.{Coordinates, Passing, Striped, Boxed, maxStripes, boxAt}
+use Rattle.boxes.proofs.BoxLaws.{length-cuts, box-laid}
+use Rattle.boxes.proofs.CrowdLaws.{few-cuts, stripe-few}
 
 -- ---- the coordinates
 
@@ -156,45 +153,3 @@ module _ {easts norths : CutList} {w : Waiting} {at : Stripes} (s : Seated easts
 
   pub seat-at : {k : ℕ} → k ≡ boxAt (record { east = getD (at .easts) i 0; north = getD (at .norths) i 0 }) → k ≡ boxAt its
   seat-at e = e ∙ ap boxAt its-seat
-
--- ---- parting by them
-
--- by whichever cuts these are their memory cells, those of the first i that stay are in the slots
-pub record PartedAt (wanted : Bool) (m : Box) (w : Waiting) (at : Stripes) (i k : ℕ) (ys : List Report) : Type 0 where
-  pub so : (cuts : Cuts) → Boxed cuts (w .rows) at → Parted wanted cuts m w i k ys
-
-pub part-at-start : (wanted : Bool) (m : Box) (w : Waiting) (at : Stripes) → PartedAt wanted m w at 0 0 (replicate fullMemory noReport)
-part-at-start wanted m w at = record { so = λ cuts b. part-start wanted cuts m w }
-
--- a report in m or not, by its stripes
-seat-in : {cuts : Cuts} {rows : List Report} {at : Stripes} {i : ℕ} (m : Box) → Boxed cuts rows at → i < fullMemory
-    → both (eqb (getD (at .easts) i 0) (m .east)) (eqb (getD (at .norths) i 0) (m .north)) ≡ inBox cuts m (rowOf (getD rows i noReport))
-unfolding inBox
-seat-in {i = i} m b h = ap (λ (x : Box). both (eqb (x .east) (m .east)) (eqb (x .north) (m .north))) (b .told i h)
-
-pub part-at-turn : {wanted : Bool} {m : Box} (w : Waiting) {at : Stripes} {i k : ℕ} {ys : List Report} → PartedAt wanted m w at i k ys
-    → {b : Bool} {e : Report} {t : ℕ} → length (w .rows) ≡ fullMemory → w .n ≤ fullMemory → i < w .n → k ≤ i → b ≡ both (eqb (getD (at .easts) i 0) (m .east)) (eqb (getD (at .norths) i 0) (m .north))
-    → e ≡ cond (Bool·beq b wanted) (getD (w .rows) i noReport) noReport → t ≡ one-if (Bool·beq b wanted) → PartedAt wanted m w at (i + 1) (k + t) (set ys k e)
-part-at-turn {m = m} w p size fits h g y u v = record { so = λ cuts b. part-turn w (p .so cuts b) size fits h g (y ∙ seat-in m b (omega arith)) u v }
-
--- ---- counting by them
-
--- whosever memory cells these are, the first i are counted
-pub record CrowdingAt (n : ℕ) (at : Stripes) (i : ℕ) (crowd : List ℕ) : Type 0 where
-  pub so : (easts norths : CutList) (w : Waiting) → Seated easts norths w at → w .n ≡ n → Crowding easts norths w i crowd
-
-pub crowding-at-start : (n : ℕ) (at : Stripes) → CrowdingAt n at 0 (replicate tableSize 0)
-crowding-at-start n at = record { so = λ easts norths w s e. crowding-start easts norths w }
-
-module _ {n : ℕ} {at : Stripes} {i : ℕ} {crowd : List ℕ} (c : CrowdingAt n at i crowd) {k : ℕ} (said : k ≡ boxAt (record { east = getD (at .easts) i 0; north = getD (at .norths) i 0 })) (more : i < n) where
-  pub crowding-at-room : (easts norths : CutList) (w : Waiting) → Seated easts norths w at → w .n ≡ n → getD crowd k 0 < fullMemory
-  crowding-at-room easts norths w s e =
-      let h : i < w .n = omega (arith, e) in
-      crowding-room w (c .so easts norths w s e) (s .size) (s .fits) (s .east-cuts) (s .north-cuts) h (seat-at s h said)
-
-  pub crowding-at-turn : CrowdingAt n at (i + 1) (set crowd k (getD crowd k 0 + 1))
-  crowding-at-turn = record {
-    so = λ easts norths w s e.
-        let h : i < w .n = omega (arith, e) in
-        crowding-turn w (c .so easts norths w s e) (s .size) (s .fits) (s .east-cuts) (s .north-cuts) h (seat-at s h said);
-  }

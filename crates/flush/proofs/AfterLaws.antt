@@ -20,12 +20,13 @@ use Rattle.desk.specs.declared.Waiting.{Waiting}
 use Rattle.desk.specs.declared.Memo.{Memo}
 use Rattle.desk.specs.Views.{cutsBy}
 use Rattle.boxes.specs.declared.BoxAt.{BoxAt}
-use Rattle.boxes.specs.declared.BoxDue.{BoxDue}
-use Rattle.boxes.specs.declared.BoxDue.the-variants.{Flush, Nothing}
-use Rattle.boxes.specs.Boxes.{boxIn, dueOf}
+use Rattle.box_due.specs.declared.BoxDue.{BoxDue}
+use Rattle.box_due.specs.declared.BoxDue.the-variants.{Flush, Nothing}
+use Rattle.boxes.specs.Boxes.{boxIn}
+use Rattle.box_due.specs.Due.{dueOf}
 use Rattle.waiting.specs.Waiting.{reportsOf}
 use Rattle.waiting.proofs.WaitingLaws.{reports-laid}
-use Rattle.boxes.proofs.DueLaws.{Boxed}
+use Rattle.boxes.proofs.BoxLaws.{Boxed}
 use Rattle.directory.proofs.DirectoryLaws.{boxed-due, boxed-counts}
 use Rattle.flush.specs.Flush.{Tallied, Reported, Flushes, After, quiet}
 use Rattle.flush.proofs.FlushLaws.{holds-easts, holds-norths, holds-cuts, few-easts, few-norths, few-wait}

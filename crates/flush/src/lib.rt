@@ -13,8 +13,8 @@ ghost use Rattle.boxes.specs.Boxes.{boxIn};
 ghost use Rattle.waiting.specs.Waiting.{reportsOf};
 ghost use Rattle.directory.specs.Directory.{slotAt, foundAt};
 ghost use Rattle.flush.specs.Flush.{Holds, AtPlace, InHand, Tallied, Sixteenth, Ticks, Reported, Homed, Flushes, After, quiet};
+use box_due::BoxDue;
 use boxes::BoxAt;
-use boxes::BoxDue;
 use desk::CutList;
 use desk::Desk;
 use desk::Grid;
@@ -179,7 +179,7 @@ pub fn flush(
     let done = reshape::reshape(buffer, grid, at, chain, table, words, d.lines);
     let easts = grid.easts;
     let norths = grid.norths;
-    let left = boxes::cleared(easts, norths, waiting, m);
+    let left = parting::cleared(easts, norths, waiting, m);
     let shape = done.grid;
     Emptied {
         grid: shape,
@@ -203,7 +203,7 @@ pub fn after_report(
 {
     let easts = grid.easts;
     let norths = grid.norths;
-    let BoxDue::Flush(m) = boxes::box_due(easts, norths, waiting, east, north) else {
+    let BoxDue::Flush(m) = box_due::box_due(easts, norths, waiting, east, north) else {
         return Emptied {
             grid,
             waiting,
@@ -225,7 +225,7 @@ pub fn is_quiet(
     requires { ⌜ (waiting .n ≤ fullMemory) × (easts .n ≤ maxCuts) × (norths .n ≤ maxCuts) × (tally < sweepEvery) ⌝ }
     ensures { λ r. ⌜ r ≡ quiet (boxToFlush (cutsBy easts norths) (waitingIn (cutsBy easts norths) (reportsOf waiting)) (length (reportsOf waiting)) (record { east = east; north = north })) (tally + 1) ⌝ }
 {
-    match boxes::box_due(easts, norths, waiting, east, north) {
+    match box_due::box_due(easts, norths, waiting, east, north) {
         BoxDue::Flush(_) => false,
         BoxDue::Nothing => tally + 1 < Desk::SWEEP_EVERY,
     }

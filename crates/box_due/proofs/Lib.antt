@@ -1,0 +1,3 @@
+pub mod ReachLaws
+pub mod CrowdingLaws
+pub mod DueLaws
