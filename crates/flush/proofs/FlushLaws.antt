@@ -41,8 +41,9 @@ use Rattle.sweep.specs.declared.Swept.{Swept}
 use Rattle.memo.specs.Memo.{memoIn}
 use Rattle.enter.specs.Enter.{Held, heldIn, Enterable, Entered}
 use Rattle.enter.proofs.RoomLaws.{enter-asks, enter-gives}
-use Rattle.reshape.specs.Reshape.{Midway, Lays, Reshapes}
-use Rattle.reshape.proofs.MovedLaws.{lays-same}
+use Rattle.cell_last.specs.Loose.{Midway, Lays}
+use Rattle.reshape.specs.Reshape.{Reshapes}
+use Rattle.cell_last.proofs.MovedLaws.{lays-same}
 use Rattle.flush.specs.declared.Hand.{Hand}
 use Rattle.flush.specs.Flush.{Holds, AtPlace, InHand, Reported, Homed, Flushes}
 use Rattle.flush.proofs.HandLaws.{holds-lays, holds-cells, among-place}

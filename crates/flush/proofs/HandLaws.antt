@@ -25,8 +25,8 @@ use Rattle.desk.specs.declared.Memo.{Memo}
 use Rattle.desk.specs.declared.Slot.{Slot}
 use Rattle.desk.specs.Layout.{lineSlots, noSlot, directoryOf, gridOf, memoOf}
 use Rattle.memo.specs.Memo.{memoIn, linesOf, Whole}
-use Rattle.reshape.specs.Reshape.{Lays}
-use Rattle.reshape.proofs.MovedLaws.{lays-same}
+use Rattle.cell_last.specs.Loose.{Lays}
+use Rattle.cell_last.proofs.MovedLaws.{lays-same}
 use Rattle.sweep.specs.declared.Swept.{Swept}
 use Rattle.sweep.specs.Sweep.{entriesOn}
 use Rattle.sweep.proofs.CellLaws.{Sweepable, cells-sweep, cell-asks, cell-gives}

@@ -23,7 +23,7 @@ use Rattle.lists.proofs.AmongLaws.{each-among}
 use Rattle.desk.specs.declared.Grid.{Grid}
 use Rattle.desk.specs.declared.Memo.{Memo}
 use Rattle.directory.proofs.DirectoryLaws.{stands-index}
-use Rattle.reshape.specs.Reshape.{Loose, Lays, movedLast}
+use Rattle.cell_last.specs.Loose.{Loose, Lays, movedLast}
 use Rattle.memo.specs.Memo.{memoIn}
 use Rattle.flush.specs.declared.Hand.{Hand}
 use Rattle.flush.specs.Flush.{Holds, AtPlace, InHand, Tallied, Sixteenth, Ticks}

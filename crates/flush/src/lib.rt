@@ -75,7 +75,7 @@ fn sweep_front(
     let d = swept_at(buffer, grid, 0, words, lines);
     let chain = d.chain;
     let table = d.table;
-    let moved = reshape::settled_last(buffer, grid, 0, chain, table);
+    let moved = cell_last::settled_last(buffer, grid, 0, chain, table);
     Ticked {
         grid: moved,
         lines: d.lines,

@@ -1,10 +1,2 @@
-pub mod CutLaws
-pub mod CellsLaws
-pub mod LaidLaws
-pub mod MovedLaws
-pub mod SplitLaws
-pub mod JoinLaws
 pub mod ReshapeLaws
-pub mod SidesLaws
-pub mod NearLaws
 pub mod WholeLaws

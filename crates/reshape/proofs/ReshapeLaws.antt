@@ -16,7 +16,8 @@ use Rattle.rules.specs.Flush.{Flushed, grown, splitAt, joinedWith, neighbours, 
 use Rattle.desk.specs.declared.Grid.{Grid}
 use Rattle.desk.specs.declared.Memo.{Memo}
 use Rattle.desk.specs.Layout.{memoOf}
-use Rattle.reshape.specs.Reshape.{Lays, Reshapes}
+use Rattle.cell_last.specs.Loose.{Lays}
+use Rattle.reshape.specs.Reshape.{Reshapes}
 
 many-allowed : (f : Flushed) (pick : ℕ) → ltb pageEntries (length (f .cell .entries)) ≡ true → allowedAt pick f ≡ true
 unfolding allowedAt

@@ -37,10 +37,12 @@ use Rattle.join.specs.declared.Neighbour.{Neighbour}
 use Rattle.join.specs.declared.Neighbour.the-variants.{At as Beside, Nobody}
 use Rattle.join.specs.Join.{foundAt, nearest}
 use Rattle.join.proofs.NeighbourLaws.{first-pages, neighbour-at, neighbour-named, neighbour-none}
-use Rattle.reshape.specs.Reshape.{Midway, Loose, Splitting, Nearing, Joined, Lays, Reshapes, movedLast}
-use Rattle.reshape.proofs.LaidLaws.{d-apart}
-use Rattle.reshape.proofs.MovedLaws.{getD-middle, loose-in, loose-in-slots, loose-rest}
-use Rattle.reshape.proofs.SplitLaws.{midway-loose, midway-slot, grown-lays}
+use Rattle.cell_last.specs.Loose.{Midway, Loose, Lays, movedLast}
+use Rattle.cell_split.specs.Splitting.{Splitting}
+use Rattle.cell_join.specs.Joining.{Nearing, Joined}
+use Rattle.reshape.specs.Reshape.{Reshapes}
+use Rattle.cell_last.proofs.MidwayLaws.{d-apart, midway-loose, midway-slot, grown-lays}
+use Rattle.cell_last.proofs.MovedLaws.{getD-middle, loose-in, loose-in-slots, loose-rest}
 use Rattle.reshape.proofs.ReshapeLaws.{full-grown, uncut-grown, cut-split, lone-grown, near-joined}
 
 stands-getD : {A : Type 0} (l : List A) (c z : A) (k : ℕ) → k < length l → l ≡ take k l ++ (c ∷ drop (suc k) l) → getD l k z ≡ c

@@ -1,7 +1,7 @@
 use native.Mathlib.Omega.{arith}
 use borrow.Author.Needs.{needs}
-use Rattle.reshape.proofs.MovedLaws.{loose-takes}
-use Rattle.reshape.proofs.SplitLaws.{midway-loose}
+use Rattle.cell_last.proofs.MovedLaws.{loose-takes}
+use Rattle.cell_last.proofs.MidwayLaws.{midway-loose}
 use Rattle.reshape.proofs.WholeLaws.{midway-in, lone-asks, lone-returns, nears, near-returns}
 use Rattle.reshape.proofs.joined_or_grown.Statement.{statement}
 use Rattle.reshape.proofs.joined_or_grown.Tie as tie

@@ -1,6 +1,6 @@
 use native.Mathlib.Omega.{arith}
 use borrow.Author.Needs.{needs}
-use Rattle.reshape.proofs.SplitLaws.{midway-loose}
+use Rattle.cell_last.proofs.MidwayLaws.{midway-loose}
 use Rattle.reshape.proofs.WholeLaws.{midway-in, cuts-few, full-returns, uncut-returns, splits, split-returns}
 use Rattle.reshape.proofs.split_or_grown.Statement.{statement}
 use Rattle.reshape.proofs.split_or_grown.Tie as tie

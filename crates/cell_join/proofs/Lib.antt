@@ -1,0 +1,4 @@
+pub mod SlotsLaws
+pub mod LaidLaws
+pub mod JoinLaws
+pub mod NearLaws

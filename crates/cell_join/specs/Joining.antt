@@ -1,0 +1,63 @@
+-- A join under way, and what is left at its end (01, "Join").
+use mathlib.Core.Bool.{true}
+use mathlib.Core.List.{List, _++_}
+use mathlib.Core.Path.{_≡_}
+use Prim.Native.Nat.{ℕ, _+_, _≤_}
+use lib.ListN.{length}
+use Rattle.terms.specs.Terms.{Place, noPage}
+use Rattle.lists.specs.Chains.{firstOf}
+use Rattle.lists.specs.Rows.{Rows, merge}
+use Rattle.lists.proofs.AmongLaws.{Among}
+use Rattle.rules.specs.Limits.{joinEntries}
+use Rattle.rules.specs.Store.{Line, Cell}
+use Rattle.rules.specs.Sweep.{sweptEntries, sweptMemo}
+use Rattle.rules.specs.Flush.{Flushed, joinable, joined, joinedWith}
+use Rattle.rules.proofs.FlushLaws.{Ready}
+use Rattle.desk.specs.declared.Slot.{Slot}
+use Rattle.desk.specs.declared.Directory.{Directory}
+use Rattle.desk.specs.declared.Grid.{Grid}
+use Rattle.desk.specs.declared.Memo.{Memo}
+use Rattle.desk.specs.Layout.{slotOf, directoryOf, memoOf, Laid}
+use Rattle.directory.proofs.DirectoryLaws.{Stands}
+use Rattle.settle.specs.declared.Settled.{Settled}
+use Rattle.cell_last.specs.Loose.{Lays, Midway}
+
+-- d and a neighbour m are to be joined: d's slot, its old pages, m's slot, its pages, and all entries that the joined cell has
+pub record Joining (free : ℕ) (d : Slot) (chain : List ℕ) (m : Slot) (other : List ℕ) (all : Rows Place) (bytes : List ℕ) : Type 0 where
+  pub flushed : Flushed
+  pub old : Cell
+  pub before : List Cell
+  pub after : List Cell
+  pub memo : Rows Line
+  pub n : ℕ
+  pub c : ℕ
+  pub ready : Ready flushed old before after memo n c
+  pub neighbour : Cell
+  pub among : Among (before ++ after) neighbour
+  pub small : length (flushed .cell .entries) + length (neighbour .entries) ≤ joinEntries
+  pub free-is : free ≡ firstOf noPage (flushed .store .free)
+  pub d-is : d ≡ slotOf old
+  pub chained : chain ≡ flushed .cell .chain
+  pub m-is : m ≡ slotOf neighbour
+  pub other-is : other ≡ neighbour .chain
+  pub all-is : all ≡ merge (sweptEntries (flushed .store .memo) (neighbour .entries)) (flushed .cell .entries)
+  pub laid : Laid (flushed .store) bytes
+
+-- the pages lay out the joined store's: where its joined cell begins, and its free chain
+pub record JoinedPages (f : Flushed) (m : Cell) (ends : Settled) (bytes : List ℕ) : Type 0 where
+  pub first : ends .first ≡ firstOf noPage (joined f m .chain)
+  pub free : ends .free ≡ firstOf noPage (joinedWith f m .free)
+  pub laid : Laid (joinedWith f m) bytes
+
+-- the cell at place k of the others may be joined with d
+pub record Nearing (grid : Grid) (at : ℕ) (rest : Directory) (k : ℕ) (chain : List ℕ) (rows : Rows Place) (memo : Memo) (bytes : List ℕ) : Type 0 where
+  pub midway : Midway grid at chain rows memo bytes
+  pub neighbour : Cell
+  pub rest-is : rest ≡ directoryOf (midway .before ++ midway .after)
+  pub stands : Stands rest (midway .before ++ midway .after) neighbour k
+  pub near : joinable (midway .flushed .cell) neighbour ≡ true
+
+-- grid, memo and pages are those of d joined with m
+pub record Joined (f : Flushed) (m : Cell) (grid : Grid) (memo : Memo) (bytes : List ℕ) : Type 0 where
+  pub lays : Lays (joinedWith f m) grid bytes
+  pub noted : memo ≡ memoOf (sweptMemo (f .store .memo) (m .entries))

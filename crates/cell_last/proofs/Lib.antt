@@ -1,0 +1,3 @@
+pub mod CellsLaws
+pub mod MovedLaws
+pub mod MidwayLaws

@@ -1,0 +1,88 @@
+-- The middle of a flush: d beside all that the bytes lay out, a cell whose entries are at hand, and d grown.
+use mathlib.Core.List.{List, [], _∷_, _++_}
+use mathlib.Core.Path.{_≡_, refl, sym, ap, subst, _∙_}
+use Prim.Native.Nat.{ℕ, _+_, _≤_}
+use native.Mathlib.Omega.{arith}
+use lib.ListN.{length, getD, length-append}
+use Rattle.terms.specs.Terms.{Place}
+use Rattle.lists.specs.Rows.{Rows}
+use Rattle.lists.proofs.SumsLaws.{sum-middle}
+use Rattle.rules.specs.Limits.{maxCells}
+use Rattle.rules.specs.Store.{Line, Cell, Store, pagesFor, settled}
+use Rattle.rules.specs.Flush.{Flushed, grown}
+use Rattle.rules.specs.WellFormed.{chains}
+use Rattle.rules.proofs.Parts.{Paged}
+use Rattle.rules.proofs.PagedLaws.{size, needed, pages-few, room-pages}
+use Rattle.rules.proofs.FlushLaws.{Ready}
+use Rattle.desk.specs.declared.Grid.{Grid}
+use Rattle.desk.specs.declared.Memo.{Memo}
+use Rattle.desk.specs.Layout.{noSlot, slotOf, Laid}
+use Rattle.desk.specs.Views.{slotsIn}
+use Rattle.desk.proofs.PagesLaws.{PagesOnce}
+use Rattle.settle.proofs.SettleLaws.{Apart, apart-cell}
+use Rattle.cell_last.specs.Loose.{Lays, Loose, movedLast, Midway}
+use Rattle.cell_last.proofs.MovedLaws.{lays-same, slot-same, loose-slot}
+
+paged-once : (s : Store) → Paged (s .cells) (s .free) → PagesOnce s
+unfolding chains
+paged-once s p = p .once
+
+module _ {f : Flushed} {d₀ : Cell} {before after : List Cell} {old : Rows Line} {n c : ℕ} (r : Ready f d₀ before after old n c) (b : List ℕ) (l : Laid (f .store) b) where
+  pub store-once : PagesOnce (f .store)
+  store-once = paged-once (f .store) (subst (λ (cs : List Cell). Paged cs (f .store .free)) (sym (r .cells)) (r .paged))
+
+  -- d's chain beside all that the bytes lay out
+  pub d-apart : Apart b (before ++ after) (f .cell .chain) (f .store .free)
+  d-apart = apart-cell (f .store) store-once b l before d₀ after (r .cells) (r .chain)
+
+  -- the free chain has the pages that d needs
+  pub d-room : pagesFor (length (f .cell .entries)) ≤ length (f .cell .chain) + length (f .store .free)
+  d-room =
+      omega (
+        arith,
+        room-pages before after d₀ (f .store .free) (r .paged),
+        pages-few (before ++ (f .cell ∷ after)) (omega (arith, r .few, sum-middle size before (f .cell) after))
+            (omega (arith, r .tiled .few-cells, length-append before (d₀ ∷ after), length-append before (f .cell ∷ after))),
+        sum-middle needed before (f .cell) after,
+        ap (λ (x : List ℕ). length x) (r .chain),
+      )
+
+module _ {grid : Grid} {at : ℕ} {chain : List ℕ} {rows : Rows Place} {memo : Memo} {b : List ℕ} (x : Midway grid at chain rows memo b) where
+  abbrev f : Flushed
+  f = x .flushed
+
+  abbrev free : List ℕ
+  free = f .store .free
+
+  abbrev rest : List Cell
+  rest = x .before ++ x .after
+
+  -- d is a cell whose entries are at hand
+  abbrev pub midway-loose : Loose grid at chain rows b
+  midway-loose = record {
+    store = f .store;
+    before = x .before;
+    old = x .d;
+    after = x .after;
+    cell = f .cell;
+    cells = x .ready .cells;
+    few = subst (λ (l : List Cell). length l ≤ maxCells) (sym (x .ready .cells)) (x .ready .tiled .few-cells);
+    number = x .ready .number;
+    edges = x .ready .edges;
+    chain-kept = x .ready .chain;
+    once = store-once (x .ready) b (x .laid);
+    room = d-room (x .ready) b (x .laid);
+    place = x .place;
+    held = x .held;
+    chained = x .chained;
+    entered = x .entered;
+    laid = x .laid;
+  }
+
+  -- d's slot, which has its number, its edges and its first page still
+  pub midway-slot : getD (slotsIn (grid .cells)) at noSlot ≡ slotOf (f .cell)
+  midway-slot = loose-slot midway-loose ∙ sym (slot-same (f .cell) (x .d) (x .ready .number) (x .ready .edges) (x .ready .chain))
+
+  pub grown-lays : {g : Grid} {b′ : List ℕ} → Lays (movedLast (f .store) rest (f .cell)) g b′ → Lays (grown f) g b′
+  unfolding grown movedLast
+  grown-lays l = lays-same _ _ refl (ap (λ (cs : List Cell). cs ++ (settled free (f .cell) ∷ [])) (sym (x .ready .rest))) refl l

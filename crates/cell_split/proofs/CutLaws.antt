@@ -1,0 +1,26 @@
+-- The cut of a split among those of its direction.
+use mathlib.Core.Path.{_≡_, _∙_}
+use Prim.Native.Nat.{ℕ}
+use borrow.Author.Tests.{eq-eqb, ne-eqb}
+use Rattle.rules.specs.Flush.{addCut}
+use Rattle.desk.specs.declared.Grid.{Grid}
+use Rattle.desk.specs.Layout.{cutListOf}
+use Rattle.desk.specs.Views.{cutsIn}
+use Rattle.cut.specs.Choice.{axisOf, cutAt}
+use Rattle.directory.specs.Cuts.{CutReady}
+use Rattle.cell_split.specs.Splitting.{Cuttable, cutGrid}
+
+module _ (g : Grid) (axis cut : ℕ) where
+  pub east-ready : Cuttable g axis cut → axis ≡ 0 → CutReady (g .easts) cut
+  east-ready x e = x .east e
+
+  pub north-ready : Cuttable g axis cut → (axis ≡ 0 → ⊥) → CutReady (g .norths) cut
+  north-ready x e = x .north e
+
+  pub east-grid : {r : Grid} → axis ≡ 0 → r ≡ record { easts = cutListOf (addCut cut (cutsIn (g .easts))); norths = g .norths; cells = g .cells; free = g .free } → r ≡ cutGrid g (cutAt axis cut)
+  unfolding cutGrid axisOf
+  east-grid e h = h ∙ rw (eq-eqb axis 0 e)
+
+  pub north-grid : {r : Grid} → (axis ≡ 0 → ⊥) → r ≡ record { easts = g .easts; norths = cutListOf (addCut cut (cutsIn (g .norths))); cells = g .cells; free = g .free } → r ≡ cutGrid g (cutAt axis cut)
+  unfolding cutGrid axisOf
+  north-grid e h = h ∙ rw (ne-eqb axis 0 e)
