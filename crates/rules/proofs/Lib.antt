@@ -10,7 +10,7 @@ pub mod PlaceLaws
 pub mod PlainLaws
 pub mod RecordLaws
 pub mod RoundLaws
-pub mod Starred
+pub mod ShortPoints
 pub mod StepLaws
 pub mod TilingLaws
 pub mod ToldLaws

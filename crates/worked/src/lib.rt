@@ -1,1 +1,1 @@
-// The starred worked points with a long run before them, computed by the checker. No code.
+// The starred worked points, computed by the checker: the table is in `rules`, and to compute it takes longer than all the laws there. No code.

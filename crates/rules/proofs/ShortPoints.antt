@@ -1,4 +1,4 @@
--- The starred points of one record hold of the definitions: the checker computes the table.
+-- The starred points without a long run, by themselves: soon computed, and enough to tell whether each check of a record is the one that was asked for. The whole table is computed in `worked`.
 use mathlib.Core.Path.{refl}
 use Rattle.lists.specs.Chains.{walk, settledChain, settledFree}
 use Rattle.lists.specs.Parts.{part, put, tab, insertAt, removeAt}
@@ -14,8 +14,8 @@ use Rattle.rules.specs.Grid.{stripe, stripeLow, boxOf, cornerOf, boxes}
 use Rattle.rules.specs.Records.{lengthField, kindField, lengthOf, radioField, placeField, rectField, requestOf, notAtHand, unknownKind, wrongLength, noRadio, reversed, onAlready, notOn, noRoom, refusal}
 use Rattle.rules.specs.Store.{fresh, cellAt, others, pagesFor, settled, freeAfter}
 use Rattle.rules.specs.Sweep.{lowerEach, sweptEntries, sweptMemo, swept, sweepFront, tick}
-use Rattle.rules.specs.Worked.{after, seen, points, Starred}
+use Rattle.rules.specs.Worked.{after, seen, shortPoints, Sees}
 
-pub starred : Starred points
-unfolding walk settledChain settledFree part put tab insertAt removeAt find rank alter merge sortIn sort firstAbove sumBy filter concat sumTo both either all firstAt best le word isOn onCount signedOn reported signedOff boxToFlush waitingIn flushDue afterReport liveIn storedIn latest listOf found bytesOf answered carriedOut carry allowedIn allowed lowCount cutsThrough fits difference existingCut median medianCut chosenCut enter enterEach inBox flushedInto grown addCut unusedNumber lowCell highCell splitAt beside joinable neighbours named joinedWith reshaped allowedAt cellOfBox flush allowedFlush stripe stripeLow boxOf cornerOf boxes lengthField kindField lengthOf radioField placeField rectField requestOf notAtHand unknownKind wrongLength noRadio reversed onAlready notOn noRoom refusal fresh cellAt others pagesFor settled freeAfter lowerEach sweptEntries sweptMemo swept sweepFront tick after seen points
-starred = refl
+pub short-points : Sees shortPoints
+unfolding walk settledChain settledFree part put tab insertAt removeAt find rank alter merge sortIn sort firstAbove sumBy filter concat sumTo both either all firstAt best le word isOn onCount signedOn reported signedOff boxToFlush waitingIn flushDue afterReport liveIn storedIn latest listOf found bytesOf answered carriedOut carry allowedIn allowed lowCount cutsThrough fits difference existingCut median medianCut chosenCut enter enterEach inBox flushedInto grown addCut unusedNumber lowCell highCell splitAt beside joinable neighbours named joinedWith reshaped allowedAt cellOfBox flush allowedFlush stripe stripeLow boxOf cornerOf boxes lengthField kindField lengthOf radioField placeField rectField requestOf notAtHand unknownKind wrongLength noRadio reversed onAlready notOn noRoom refusal fresh cellAt others pagesFor settled freeAfter lowerEach sweptEntries sweptMemo swept sweepFront tick after seen shortPoints
+short-points = refl
