@@ -11,7 +11,8 @@ ghost use Rattle.rules.specs.Limits.{fullMemory};
 ghost use Rattle.rules.specs.Sweep.{stale};
 ghost use Rattle.desk.specs.Layout.{lineSlots, lineFields};
 ghost use Rattle.desk.specs.Views.{radiosOf};
-ghost use Rattle.memo.specs.Memo.{linesOf};
+ghost use Rattle.memo.specs.Memo.{memoIn, linesOf};
+ghost use Rattle.waiting.specs.On.{onWith};
 ghost use Rattle.waiting.specs.Waiting.{reportsOf};
 ghost use Rattle.balance.specs.Tables.{tableSize, fieldEnd, half, Blank, added, written, allSettled, Named, judged, markNew, belongsBy, missedOff, oneOff};
 use desk::Desk;
@@ -65,8 +66,8 @@ pub fn apart(a: u16, b: u16) -> u16
 
 // Each radio on takes 1 off. Its number is settled before, so 1 off is written and nothing read.
 pub fn on_due<'a>(radios: &'a [u16; Desk::MAX_ON], n: usize, balance: &'a mut [u16; RADIOS])
-    requires { ⌜ (length (now radios) ≡ maxOn) × (n ≤ maxOn) × UpTo maxRadio (radiosOf (record { n = n; radios = now radios })) ⌝ }
-    ensures { λ _. ⌜ now (balance .exit) ≡ written oneOff (now (balance .entry)) (radiosOf (record { n = n; radios = now (radios .entry) })) ⌝ }
+    requires { ⌜ (length (now radios) ≡ maxOn) × (n ≤ maxOn) × UpTo maxRadio (radiosOf (onWith n (now radios))) ⌝ }
+    ensures { λ _. ⌜ now (balance .exit) ≡ written oneOff (now (balance .entry)) (radiosOf (onWith n (now (radios .entry)))) ⌝ }
 {
     let mut i: usize = 0;
     while i < n {
@@ -104,8 +105,8 @@ pub fn lines_due<'a>(
     balance: &'a mut [u16; RADIOS],
     lines: &'a mut [u16; RADIOS],
 )
-    requires { ⌜ (length (now words) ≡ lineFields * lineSlots) × (n ≤ lineSlots) × Rising 0 (linesOf (record { n = n; words = now words })) × UpTo maxRadio (linesOf (record { n = n; words = now words })) × Blank (now lines) ⌝ }
-    ensures { λ _. ⌜ (now (balance .exit) ≡ added missedOff (now (balance .entry)) (linesOf (record { n = n; words = now (words .entry) }))) × Named (now (words .entry)) (now (lines .exit)) × (judged (now (words .entry)) (now (lines .exit)) ≡ stale (linesOf (record { n = n; words = now (words .entry) }))) ⌝ }
+    requires { ⌜ (length (now words) ≡ lineFields * lineSlots) × (n ≤ lineSlots) × Rising 0 (linesOf (memoIn n (now words))) × UpTo maxRadio (linesOf (memoIn n (now words))) × Blank (now lines) ⌝ }
+    ensures { λ _. ⌜ (now (balance .exit) ≡ added missedOff (now (balance .entry)) (linesOf (memoIn n (now (words .entry))))) × Named (now (words .entry)) (now (lines .exit)) × (judged (now (words .entry)) (now (lines .exit)) ≡ stale (linesOf (memoIn n (now (words .entry))))) ⌝ }
 {
     let mut i: usize = 0;
     while i < n {

@@ -6,7 +6,7 @@ ghost use lib.ListN.{length, take};
 ghost use Rattle.rules.specs.Limits.{maxCells, fullMemory, sweepEvery};
 ghost use Rattle.desk.specs.Layout.{lineSlots, lineFields};
 ghost use Rattle.desk.specs.Views.{radiosOf};
-ghost use Rattle.memo.specs.Memo.{linesOf};
+ghost use Rattle.memo.specs.Memo.{memoIn, linesOf};
 ghost use Rattle.mirror.specs.Round.{boundTest};
 ghost use Rattle.sound_pages.specs.PagesSound.{PagesSound};
 ghost use Rattle.waiting.specs.Waiting.{reportsOf};
@@ -63,8 +63,8 @@ pub fn radios_sound<'a>(
     on: On,
     tally: u16,
 ) -> bool
-    requires { ⌜ (length (now words) ≡ lineFields * lineSlots) × (deskSound (record { grid = grid; waiting = waiting; memo = record { n = n; words = now words }; on = on; tally = tally }) ≡ true) × PagesSound (now pages) (grid .cells) (grid .free) ⌝ }
-    ensures { λ r. ⌜ r ≡ entriesTest (linesOf (record { n = n; words = now (words .entry) })) (reportsOf waiting) (radiosOf on) tally (rowsRead (now (pages .entry)) (grid .cells)) ⌝ }
+    requires { ⌜ (length (now words) ≡ lineFields * lineSlots) × (deskSound (record { grid = grid; waiting = waiting; memo = memoIn n (now words); on = on; tally = tally }) ≡ true) × PagesSound (now pages) (grid .cells) (grid .free) ⌝ }
+    ensures { λ r. ⌜ r ≡ entriesTest (linesOf (memoIn n (now (words .entry)))) (reportsOf waiting) (radiosOf on) tally (rowsRead (now (pages .entry)) (grid .cells)) ⌝ }
 {
     let mut balance = [SETTLED; RADIOS];
     let mut lines = [NO_LINE; RADIOS];

@@ -39,7 +39,7 @@ fn read_lines<'a>(
     norths: &'a mut [u16; PLACES],
 )
     requires { ⌜ (length (now words) ≡ lineFields * lineSlots) × (n ≤ lineSlots) × (length (now radios) ≡ linePlaces) × (length (now placed) ≡ linePlaces) × (length (now easts) ≡ linePlaces) × (length (now norths) ≡ linePlaces) ⌝ }
-    ensures { λ _. ⌜ lastsIn n (now (radios .exit)) (now (placed .exit)) (now (easts .exit)) (now (norths .exit)) ≡ lastsOf (linesOf (record { n = n; words = now (words .entry) })) ⌝ }
+    ensures { λ _. ⌜ lastsIn n (now (radios .exit)) (now (placed .exit)) (now (easts .exit)) (now (norths .exit)) ≡ lastsOf (linesOf (memoIn n (now (words .entry)))) ⌝ }
 {
     let mut i: usize = 0;
     while i < n {
