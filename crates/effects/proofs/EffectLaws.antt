@@ -23,8 +23,9 @@ use Rattle.desk.specs.declared.Desk.{Desk}
 use Rattle.desk.specs.Layout.{gridOf, waitingOf, memoOf, onOf, deskOf}
 use Rattle.desk.specs.Views.{cutsBy}
 use Rattle.waiting.specs.Waiting.{reportsOf}
-use Rattle.flush.specs.Flush.{Holds, Tallied, Ticks, Reported, After, quiet}
-use Rattle.flush.proofs.TickLaws.{tick-counts}
+use Rattle.tally.specs.Tally.{Holds, Tallied, Ticks}
+use Rattle.tally.proofs.TickLaws.{tick-counts}
+use Rattle.flush.specs.Flush.{Reported, After, quiet}
 use Rattle.flush.proofs.AfterLaws.{due-asks, quiet-due, after-nothing, after-tallied}
 use Rattle.effects.specs.Effects.{Stands, Left, Effected, Followed}
 

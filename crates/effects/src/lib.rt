@@ -16,7 +16,7 @@ fn ticked(parts: Parts, words: &mut [u16; Desk::MEMO_WORDS], pages: &mut [u8]) -
     let grid = parts.grid;
     let waiting = parts.waiting;
     let on = parts.on;
-    let done = flush::tick(pages, grid, words, parts.lines, parts.tally);
+    let done = tally::tick(pages, grid, words, parts.lines, parts.tally);
     let shape = done.grid;
     Parts {
         grid: shape,

@@ -28,7 +28,8 @@ use Rattle.waiting.specs.Waiting.{reportsOf}
 use Rattle.waiting.proofs.WaitingLaws.{reports-laid}
 use Rattle.boxes.proofs.BoxLaws.{Boxed}
 use Rattle.directory.proofs.DirectoryLaws.{boxed-due, boxed-counts}
-use Rattle.flush.specs.Flush.{Tallied, Reported, Flushes, After, quiet}
+use Rattle.tally.specs.Tally.{Tallied}
+use Rattle.flush.specs.Flush.{Reported, Flushes, After, quiet}
 use Rattle.flush.proofs.FlushLaws.{holds-easts, holds-norths, holds-cuts, few-easts, few-norths, few-wait}
 
 -- ---- the memory cell that is due

@@ -44,9 +44,10 @@ use Rattle.enter.proofs.RoomLaws.{enter-asks, enter-gives}
 use Rattle.cell_last.specs.Loose.{Midway, Lays}
 use Rattle.reshape.specs.Reshape.{Reshapes}
 use Rattle.cell_last.proofs.MovedLaws.{lays-same}
-use Rattle.flush.specs.declared.Hand.{Hand}
-use Rattle.flush.specs.Flush.{Holds, AtPlace, InHand, Reported, Homed, Flushes}
-use Rattle.flush.proofs.HandLaws.{holds-lays, holds-cells, among-place}
+use Rattle.tally.specs.declared.Hand.{Hand}
+use Rattle.tally.specs.Tally.{Holds, AtPlace, InHand}
+use Rattle.tally.proofs.HandLaws.{holds-lays, holds-cells, among-place}
+use Rattle.flush.specs.Flush.{Reported, Homed, Flushes}
 
 -- ---- the cell of m
 

@@ -1,4 +1,2 @@
-pub mod HandLaws
-pub mod TickLaws
 pub mod FlushLaws
 pub mod AfterLaws

@@ -1,10 +1,9 @@
-// What follows a record's own effect: a memory cell is flushed where one is due, and the tally counts the record and sweeps the front of the round at the 16th.
+// What follows the own effect of a sign-on or report, before the tally counts it: the memory cell that is due is flushed, if one is.
 ghost use mathlib.Core.Path.{_≡_};
 ghost use Prim.Native.Nat.{_+_, _<_, _≤_};
 ghost use lib.ListN.{length};
 ghost use Rattle.rules.specs.Limits.{maxCells, maxCuts, fullMemory, sweepEvery};
 ghost use Rattle.rules.specs.Grid.{cornerOf};
-ghost use Rattle.rules.specs.Sweep.{swept, sweptMemo, sweepFront};
 ghost use Rattle.rules.specs.Flush.{flushedInto};
 ghost use Rattle.rules.specs.Carry.{waitingIn, boxToFlush};
 ghost use Rattle.desk.specs.Views.{cutsBy, slotsIn};
@@ -12,7 +11,8 @@ ghost use Rattle.memo.specs.Memo.{memoIn};
 ghost use Rattle.boxes.specs.Boxes.{boxIn};
 ghost use Rattle.waiting.specs.Waiting.{reportsOf};
 ghost use Rattle.directory.specs.Directory.{slotAt, foundAt};
-ghost use Rattle.flush.specs.Flush.{Holds, AtPlace, InHand, Tallied, Sixteenth, Ticks, Reported, Homed, Flushes, After, quiet};
+ghost use Rattle.tally.specs.Tally.{InHand};
+ghost use Rattle.flush.specs.Flush.{Reported, Homed, Flushes, After, quiet};
 use box_due::BoxDue;
 use boxes::BoxAt;
 use desk::CutList;
@@ -20,92 +20,7 @@ use desk::Desk;
 use desk::Grid;
 use desk::Waiting;
 use directory::FoundCell;
-use entries::Entries;
-use page::Chain;
-
-// A cell's old pages, its entries as they now are, and how many lines the memo then has.
-struct Hand {
-    chain: Chain,
-    table: Entries,
-    lines: usize,
-}
-
-// "Sweep a cell": the one at place `at` of the round.
-fn swept_at(
-    buffer: &[u8],
-    grid: Grid,
-    at: usize,
-    words: &mut [u16; Desk::MEMO_WORDS],
-    lines: usize,
-) -> Hand
-    requires { ⌜ AtPlace grid at (memoIn lines (now words)) (now buffer) ⌝ }
-    ensures { λ r. ⌜ ((x : AtPlace grid at (memoIn lines (now (words .entry))) (now (buffer .entry))) → InHand (swept (x .store .memo) (x .cell)) (sweptMemo (x .store .memo) (x .cell .entries)) r (now (words .exit))) ⌝ }
-{
-    let cells = grid.cells;
-    let d = cells.slots[at];
-    let chain = page_chain::read_chain(buffer, d.first);
-    let swept = sweep::sweep_chain(buffer, chain, words, lines);
-    let table = swept.table;
-    Hand {
-        chain,
-        table,
-        lines: swept.lines,
-    }
-}
-
-// ---- the tally
-
-// What the tally changes, beside the memo's array.
-pub struct Ticked {
-    pub grid: Grid,
-    pub lines: usize,
-    pub tally: u16,
-}
-
-// "sweep the cell at the front of the round, move it to the end, set c to 0"
-fn sweep_front(
-    buffer: &mut [u8],
-    grid: Grid,
-    words: &mut [u16; Desk::MEMO_WORDS],
-    lines: usize,
-) -> Ticked
-    requires { ⌜ Sixteenth grid (memoIn lines (now words)) (now buffer) ⌝ }
-    ensures { λ r. ⌜ (r .tally ≡ 0) × ((x : Sixteenth grid (memoIn lines (now (words .entry))) (now (buffer .entry))) → Holds (sweepFront (x .store .cells) (x .store)) (r .grid) (memoIn (r .lines) (now (words .exit))) (now (buffer .exit))) ⌝ }
-{
-    let d = swept_at(buffer, grid, 0, words, lines);
-    let chain = d.chain;
-    let table = d.table;
-    let moved = cell_last::settled_last(buffer, grid, 0, chain, table);
-    Ticked {
-        grid: moved,
-        lines: d.lines,
-        tally: 0,
-    }
-}
-
-// "Each accepted sign-on, report or sign-off adds 1 to c. At 16, sweep the cell at the front of the round, move it to the end, set c to 0."
-pub fn tick(
-    buffer: &mut [u8],
-    grid: Grid,
-    words: &mut [u16; Desk::MEMO_WORDS],
-    lines: usize,
-    tally: u16,
-) -> Ticked
-    requires { ⌜ Tallied grid (memoIn lines (now words)) tally (now buffer) ⌝ }
-    ensures { λ r. ⌜ ((x : Tallied grid (memoIn lines (now (words .entry))) tally (now (buffer .entry))) → Ticks (x .store) (r .grid) (memoIn (r .lines) (now (words .exit))) (r .tally) (now (buffer .exit))) ⌝ }
-{
-    let c = tally + 1;
-    if c < Desk::SWEEP_EVERY {
-        return Ticked {
-            grid,
-            lines,
-            tally: c,
-        };
-    }
-    sweep_front(buffer, grid, words, lines)
-}
-
-// ---- a flush
+use tally::Hand;
 
 // What a flush changes, beside the memo's array.
 pub struct Emptied {
@@ -139,7 +54,7 @@ fn entered(
     requires { ⌜ Homed grid at waiting (memoIn lines (now words)) (boxIn m) (now buffer) ⌝ }
     ensures { λ r. ⌜ ((x : Homed grid at waiting (memoIn lines (now (words .entry))) (boxIn m) (now (buffer .entry))) → InHand (flushedInto (boxIn m) (x .reported .store) (x .cell) .cell) (flushedInto (boxIn m) (x .reported .store) (x .cell) .store .memo) r (now (words .exit))) ⌝ }
 {
-    let d = swept_at(buffer, grid, at, words, lines);
+    let d = tally::swept_at(buffer, grid, at, words, lines);
     let chain = d.chain;
     let table = d.table;
     let easts = grid.easts;

@@ -1,8 +1,8 @@
 use native.Mathlib.Omega.{arith}
 use borrow.Author.Needs.{needs}
-use Rattle.flush.proofs.TickLaws.{tick-counts, tick-sixteenth, tick-sweeps}
-use Rattle.flush.proofs.tick.Statement.{statement}
-use Rattle.flush.proofs.tick.Tie as tie
+use Rattle.tally.proofs.TickLaws.{tick-counts, tick-sixteenth, tick-sweeps}
+use Rattle.tally.proofs.tick.Statement.{statement}
+use Rattle.tally.proofs.tick.Tie as tie
 
 add-c : tie.Need-add-c
 add-c c = search needs

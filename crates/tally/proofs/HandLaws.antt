@@ -30,7 +30,7 @@ use Rattle.cell_last.proofs.MovedLaws.{lays-same}
 use Rattle.sweep.specs.declared.Swept.{Swept}
 use Rattle.sweep.specs.Sweep.{entriesOn}
 use Rattle.sweep.proofs.CellLaws.{Sweepable, cells-sweep, cell-asks, cell-gives}
-use Rattle.flush.specs.Flush.{Holds, AtPlace, InHand}
+use Rattle.tally.specs.Tally.{Holds, AtPlace, InHand}
 
 -- ---- what is held
 

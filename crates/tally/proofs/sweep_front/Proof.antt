@@ -1,8 +1,8 @@
 use mathlib.Core.Path.{refl}
 use borrow.Author.Needs.{needs}
-use Rattle.flush.proofs.TickLaws.{front-place, front-asks, front-holds}
-use Rattle.flush.proofs.sweep_front.Statement.{statement}
-use Rattle.flush.proofs.sweep_front.Tie as tie
+use Rattle.tally.proofs.TickLaws.{front-place, front-asks, front-holds}
+use Rattle.tally.proofs.sweep_front.Statement.{statement}
+use Rattle.tally.proofs.sweep_front.Tie as tie
 
 swept-at-requires : tie.Need-swept-at-requires
 swept-at-requires c κs = search front-place

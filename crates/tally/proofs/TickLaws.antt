@@ -25,9 +25,9 @@ use Rattle.desk.specs.declared.Memo.{Memo}
 use Rattle.directory.proofs.DirectoryLaws.{stands-index}
 use Rattle.cell_last.specs.Loose.{Loose, Lays, movedLast}
 use Rattle.memo.specs.Memo.{memoIn}
-use Rattle.flush.specs.declared.Hand.{Hand}
-use Rattle.flush.specs.Flush.{Holds, AtPlace, InHand, Tallied, Sixteenth, Ticks}
-use Rattle.flush.proofs.HandLaws.{holds-lays, holds-same, holds-cells, among-place}
+use Rattle.tally.specs.declared.Hand.{Hand}
+use Rattle.tally.specs.Tally.{Holds, AtPlace, InHand, Tallied, Sixteenth, Ticks}
+use Rattle.tally.proofs.HandLaws.{holds-lays, holds-same, holds-cells, among-place}
 
 -- ---- the front of the round
 

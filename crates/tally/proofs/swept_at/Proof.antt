@@ -1,7 +1,7 @@
 use borrow.Author.Needs.{needs}
-use Rattle.flush.proofs.HandLaws.{place-asks, place-gives}
-use Rattle.flush.proofs.swept_at.Statement.{statement}
-use Rattle.flush.proofs.swept_at.Tie as tie
+use Rattle.tally.proofs.HandLaws.{place-asks, place-gives}
+use Rattle.tally.proofs.swept_at.Statement.{statement}
+use Rattle.tally.proofs.swept_at.Tie as tie
 
 mul-d : tie.Need-mul-d
 mul-d c = search needs
