@@ -30,9 +30,10 @@ use Rattle.records.specs.declared.Asked.{Asked}
 use Rattle.records.specs.declared.Asked.the-variants.{SignOn, Report, SignOff, Range, Refused}
 use Rattle.records.specs.Asked.{onIn, caseOf, askedOf}
 use Rattle.records.proofs.AskedLaws.{on-few, on-rises, refused-carry, refused-allowed, taken-carry, taken-allowed, asks-on, asks-report, asks-off}
-use Rattle.range.specs.declared.Rectangle.{Rectangle}
+use Rattle.places.specs.declared.Rectangle.{Rectangle}
+use Rattle.places.specs.Places.{rectOf}
 use Rattle.range.specs.declared.Listed.{Listed}
-use Rattle.range.specs.Range.{rectOf, foundIn}
+use Rattle.range.specs.Range.{foundIn}
 use Rattle.range.proofs.StoreLaws.{range-gives}
 use Rattle.effects.specs.Effects.{Stands, AskedOn, AskedReport, AskedOff, Carries}
 use Rattle.effects.proofs.EffectLaws.{on-held}

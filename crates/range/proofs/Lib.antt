@@ -1,4 +1,3 @@
-pub mod TableLaws
 pub mod ListLaws
 pub mod LatestLaws
 pub mod StoreLaws

@@ -1,10 +1,10 @@
--- The list: which radios are found, their bytes, and what a range is answered with.
-use mathlib.Core.Path.{_≡_, refl, sym, ap, _∙_, subst}
+-- The list: the empty table at its start, which radios are found, their bytes, and what a range is answered with.
+use mathlib.Core.Path.{_≡_, refl, sym, ap, _∙_, fun-ext, subst}
 use mathlib.Core.Bool.{Bool, true, false, _&&_}
 use mathlib.Core.List.{List, [], _∷_, _++_, append-nil, map, map-append}
-use Prim.Native.Nat.{ℕ, suc, _+_, _*_, _≤_, _<_}
+use Prim.Native.Nat.{ℕ, zero, suc, _+_, _*_, _≤_, _<_}
 use native.Mathlib.Omega.{arith}
-use lib.ListN.{length, getD, set, take, length-map, length-set, length-take}
+use lib.ListN.{length, getD, set, take, replicate, length-map, length-set, length-take, length-replicate}
 use lib.Seq.{take-suc-set, take-set-le}
 use borrow.Author.Tests.{lt-ltb, le-ltb}
 use Rattle.terms.specs.Terms.{Place, fieldBytes, maxRadio, maxOn}
@@ -27,8 +27,26 @@ use Rattle.desk.specs.declared.Memo.{Memo}
 use Rattle.desk.specs.Views.{radioRow, radiosOf, slotsIn}
 use Rattle.memo.specs.Memo.{linesOf}
 use Rattle.waiting.specs.Waiting.{reportsOf}
-use Rattle.range.specs.Range.{Places, placesIn, Holds, placesOf, isFound, rowAt, rowsAt, foundIn}
-use Rattle.range.proofs.TableLaws.{mapped-turn, mapped-end, each-mapped}
+use Rattle.places.specs.Places.{Places, noPlaces, placesIn, radioSlots, Holds, placesOf}
+use Rattle.places.proofs.TableLaws.{mapped-turn, mapped-end, each-mapped}
+use Rattle.range.specs.Range.{isFound, rowAt, rowsAt, foundIn}
+
+-- ---- nothing stands in an empty table
+
+getD-same : {A : Type 0} (n i : ℕ) (a : A) → getD (replicate n a) i a ≡ a
+getD-same zero i a = refl
+getD-same (suc n) zero a = refl
+getD-same (suc n) (suc i) a = getD-same n i a
+
+empty-places : (n : ℕ) (easts norths : List ℕ) → placesIn easts norths (replicate n false) ≡ noPlaces
+unfolding placesIn noPlaces
+empty-places n easts norths = fun-ext (λ r. rw (getD-same n r false))
+
+pub empty-table : Holds (replicate radioSlots 0) (replicate radioSlots 0) (replicate radioSlots false) noPlaces
+empty-table = record {
+  columns = record { east = length-replicate {A = ℕ} radioSlots 0; north = length-replicate {A = ℕ} radioSlots 0; mark = length-replicate radioSlots false };
+  places = empty-places radioSlots _ _;
+}
 
 -- ---- whether a radio is found
 

@@ -1,5 +1,4 @@
-use Rattle.range.proofs.TableLaws.{empty-table}
-use Rattle.range.proofs.ListLaws.{found-radios, told-short, told-listed}
+use Rattle.range.proofs.ListLaws.{empty-table, found-radios, told-short, told-listed}
 use borrow.Author.Needs.{needs}
 use Rattle.range.proofs.list.Statement.{statement}
 use Rattle.range.proofs.list.Tie as tie

@@ -4,11 +4,11 @@ use mathlib.Core.Bool.{Bool, true, false, not, cond}
 use mathlib.Core.List.{List, [], _∷_, _++_, map, map-append}
 use mathlib.Core.Logic.{_≢_}
 use mathlib.Core.Option.{Option, none, some}
-use Prim.Native.Nat.{ℕ, zero, suc, _+_, _-_, _*_, _≤_, _<_}
+use Prim.Native.Nat.{ℕ, suc, _+_, _-_, _*_, _≤_, _<_}
 use native.Mathlib.Omega.{arith}
 use native.Mathlib.Numerals.{add-one}
 use lib.Dec.{eqb}
-use lib.ListN.{length, getD, set, take, replicate, length-set, length-take, length-map, length-replicate, List·getD-map}
+use lib.ListN.{length, getD, set, take, length-set, length-take, length-map, List·getD-map}
 use lib.Seq.{getD-set-same, getD-set-other, take-suc, getD-take, take-all}
 use borrow.Author.Tests.{eqb-true, eqb-false, not-true}
 use Rattle.terms.specs.Terms.{Place, maxRadio, pages, noPage}
@@ -40,7 +40,7 @@ use Rattle.desk.proofs.LinesLaws.{length-lines-in}
 use Rattle.memo.specs.Memo.{linesOf, rowOf as lineRow}
 use Rattle.waiting.specs.Waiting.{reportsOf, rowOf as reportRow}
 use Rattle.sweep.specs.Sweep.{entriesOn}
-use Rattle.range.specs.Range.{Places, noPlaces, placesIn, radioSlots, Columns, Holds, over, rowOver, entriesOver, linesOver, reportsOver, touches, entriesFrom, slotOver, placesOf}
+use Rattle.places.specs.Places.{Places, noPlaces, placesIn, Columns, Holds, over, rowOver, entriesOver, linesOver, reportsOver, touches, entriesFrom, slotOver, placesOf}
 
 -- ---- the front of a table of structs
 
@@ -83,22 +83,6 @@ module _ (easts norths : List ℕ) (marks : List Bool) (r east north : ℕ) (pla
     columns = record { east = length-set easts r east ∙ size .east; north = length-set norths r north ∙ size .north; mark = length-set marks r placed ∙ size .mark };
     places = fun-ext held-at;
   }
-
--- nothing stands in an empty table
-getD-same : {A : Type 0} (n i : ℕ) (a : A) → getD (replicate n a) i a ≡ a
-getD-same zero i a = refl
-getD-same (suc n) zero a = refl
-getD-same (suc n) (suc i) a = getD-same n i a
-
-empty-places : (n : ℕ) (easts norths : List ℕ) → placesIn easts norths (replicate n false) ≡ noPlaces
-unfolding placesIn noPlaces
-empty-places n easts norths = fun-ext (λ r. rw (getD-same n r false))
-
-pub empty-table : Holds (replicate radioSlots 0) (replicate radioSlots 0) (replicate radioSlots false) noPlaces
-empty-table = record {
-  columns = record { east = length-replicate {A = ℕ} radioSlots 0; north = length-replicate {A = ℕ} radioSlots 0; mark = length-replicate radioSlots false };
-  places = empty-places radioSlots _ _;
-}
 
 -- ---- one over the other
 

@@ -3,11 +3,11 @@ use Prim.Native.Nat.{_-_, _≤_}
 use lib.ListN.{take}
 use Rattle.lists.proofs.ShiftLaws.{length-mapped}
 use Rattle.desk.specs.Views.{slotsIn}
-use Rattle.range.specs.Range.{rectOf, placesIn, Holds, over, slotOver}
-use Rattle.range.proofs.TableLaws.{cells-start, cells-radios, cells-turn, cells-end}
+use Rattle.places.specs.Places.{rectOf, placesIn, Holds, over, slotOver}
+use Rattle.places.proofs.TableLaws.{cells-start, cells-radios, cells-turn, cells-end}
 use borrow.Author.Needs.{needs}
-use Rattle.range.proofs.hold_cells.Statement.{statement}
-use Rattle.range.proofs.hold_cells.Tie as tie
+use Rattle.places.proofs.hold_cells.Statement.{statement}
+use Rattle.places.proofs.hold_cells.Tie as tie
 
 abbrev Inv-loop : tie.InvT-loop
 Inv-loop pages area easts₀ norths₀ marks₀ cells n i₀ easts norths marks i = (i ≤ n) × Holds easts norths marks (over (slotOver pages (rectOf area)) (take i (slotsIn cells)) (placesIn easts₀ norths₀ marks₀))

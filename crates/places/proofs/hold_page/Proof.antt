@@ -3,11 +3,11 @@ use Prim.Native.Nat.{_-_, _≤_}
 use Rattle.lists.specs.Parts.{tab}
 use Rattle.page.specs.Page.{entryAt}
 use Rattle.page.proofs.ChainLaws.{there-bounds}
-use Rattle.range.specs.Range.{placesIn, Holds, entriesOver}
-use Rattle.range.proofs.TableLaws.{page-start, page-end, page-radio, page-turn}
+use Rattle.places.specs.Places.{placesIn, Holds, entriesOver}
+use Rattle.places.proofs.TableLaws.{page-start, page-end, page-radio, page-turn}
 use borrow.Author.Needs.{needs}
-use Rattle.range.proofs.hold_page.Statement.{statement}
-use Rattle.range.proofs.hold_page.Tie as tie
+use Rattle.places.proofs.hold_page.Statement.{statement}
+use Rattle.places.proofs.hold_page.Tie as tie
 
 abbrev Inv-loop : tie.InvT-loop
 Inv-loop pages p easts₀ norths₀ marks₀ page n i₀ easts norths marks i = (i ≤ n) × Holds easts norths marks (entriesOver (tab i (entryAt page)) (placesIn easts₀ norths₀ marks₀))

@@ -1,7 +1,7 @@
-use Rattle.range.proofs.TableLaws.{slot-touched, slot-skipped}
+use Rattle.places.proofs.TableLaws.{slot-touched, slot-skipped}
 use borrow.Author.Needs.{needs}
-use Rattle.range.proofs.hold_touched.Statement.{statement}
-use Rattle.range.proofs.hold_touched.Tie as tie
+use Rattle.places.proofs.hold_touched.Statement.{statement}
+use Rattle.places.proofs.hold_touched.Tie as tie
 
 is-touched-requires : tie.Need-is-touched-requires
 is-touched-requires c κs = search needs

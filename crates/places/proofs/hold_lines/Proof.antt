@@ -2,11 +2,11 @@
 use Prim.Native.Nat.{_-_, _≤_}
 use lib.ListN.{take}
 use Rattle.memo.specs.Memo.{linesOf}
-use Rattle.range.specs.Range.{placesIn, Holds, linesOver}
-use Rattle.range.proofs.TableLaws.{lines-start, lines-radios, lines-turn, lines-end}
+use Rattle.places.specs.Places.{placesIn, Holds, linesOver}
+use Rattle.places.proofs.TableLaws.{lines-start, lines-radios, lines-turn, lines-end}
 use borrow.Author.Needs.{needs}
-use Rattle.range.proofs.hold_lines.Statement.{statement}
-use Rattle.range.proofs.hold_lines.Tie as tie
+use Rattle.places.proofs.hold_lines.Statement.{statement}
+use Rattle.places.proofs.hold_lines.Tie as tie
 
 abbrev Inv-loop : tie.InvT-loop
 Inv-loop words lines easts₀ norths₀ marks₀ i₀ easts norths marks i = (i ≤ lines) × Holds easts norths marks (linesOver (take i (linesOf (record { n = lines; words = words }))) (placesIn easts₀ norths₀ marks₀))

@@ -1,7 +1,7 @@
 use mathlib.Core.Path.{refl}
 use Rattle.lists.proofs.TestsLaws.{both-tell}
-use Rattle.range.proofs.is_meeting.Statement.{statement}
-use Rattle.range.proofs.is_meeting.Tie as tie
+use Rattle.places.proofs.is_meeting.Statement.{statement}
+use Rattle.places.proofs.is_meeting.Tie as tie
 
 returns : tie.Need-returns
 returns c = both-tell _ _ refl refl

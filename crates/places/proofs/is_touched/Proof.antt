@@ -1,8 +1,8 @@
 use Rattle.lists.proofs.TestsLaws.{both-tell}
-use Rattle.range.specs.Range.{touches}
+use Rattle.places.specs.Places.{touches}
 use borrow.Author.Needs.{needs}
-use Rattle.range.proofs.is_touched.Statement.{statement}
-use Rattle.range.proofs.is_touched.Tie as tie
+use Rattle.places.proofs.is_touched.Statement.{statement}
+use Rattle.places.proofs.is_touched.Tie as tie
 
 is-meeting-requires : tie.Need-is-meeting-requires
 is-meeting-requires c κs = search needs

@@ -4,11 +4,11 @@ use native.Mathlib.Omega.{arith}
 use lib.ListN.{take}
 use Rattle.lists.proofs.ShiftLaws.{length-mapped}
 use Rattle.waiting.specs.Waiting.{reportsOf}
-use Rattle.range.specs.Range.{placesIn, Holds, reportsOver}
-use Rattle.range.proofs.TableLaws.{reports-start, reports-radios, reports-turn, reports-end}
+use Rattle.places.specs.Places.{placesIn, Holds, reportsOver}
+use Rattle.places.proofs.TableLaws.{reports-start, reports-radios, reports-turn, reports-end}
 use borrow.Author.Needs.{needs}
-use Rattle.range.proofs.hold_reports.Statement.{statement}
-use Rattle.range.proofs.hold_reports.Tie as tie
+use Rattle.places.proofs.hold_reports.Statement.{statement}
+use Rattle.places.proofs.hold_reports.Tie as tie
 
 abbrev Inv-loop : tie.InvT-loop
 Inv-loop easts₀ norths₀ marks₀ waiting n i₀ easts norths marks i = (i ≤ n) × Holds easts norths marks (reportsOver (take i (reportsOf waiting)) (placesIn easts₀ norths₀ marks₀))

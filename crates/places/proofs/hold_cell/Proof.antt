@@ -1,10 +1,10 @@
 -- What the chain still has from p on, over the table, is what the whole chain has over the table at the start.
 use Rattle.page.proofs.ChainLaws.{was-there}
-use Rattle.range.specs.Range.{placesIn}
-use Rattle.range.proofs.TableLaws.{Walking, walking-start, walking-ended, walking-out, walking-lost, walking-radios, walking-turn}
+use Rattle.places.specs.Places.{placesIn}
+use Rattle.places.proofs.TableLaws.{Walking, walking-start, walking-ended, walking-out, walking-lost, walking-radios, walking-turn}
 use borrow.Author.Needs.{needs}
-use Rattle.range.proofs.hold_cell.Statement.{statement}
-use Rattle.range.proofs.hold_cell.Tie as tie
+use Rattle.places.proofs.hold_cell.Statement.{statement}
+use Rattle.places.proofs.hold_cell.Tie as tie
 
 abbrev Inv-loop : tie.InvT-loop
 Inv-loop pages first easts₀ norths₀ marks₀ p₀ fuel₀ easts norths marks p fuel = Walking pages first (placesIn easts₀ norths₀ marks₀) p fuel easts norths marks

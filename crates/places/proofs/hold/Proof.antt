@@ -1,7 +1,7 @@
-use Rattle.range.proofs.TableLaws.{held-place}
+use Rattle.places.proofs.TableLaws.{held-place}
 use borrow.Author.Needs.{needs}
-use Rattle.range.proofs.hold.Statement.{statement}
-use Rattle.range.proofs.hold.Tie as tie
+use Rattle.places.proofs.hold.Statement.{statement}
+use Rattle.places.proofs.hold.Tie as tie
 
 mul-easts : tie.Need-mul-easts
 mul-easts c = search needs

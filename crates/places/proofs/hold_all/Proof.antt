@@ -1,7 +1,7 @@
-use Rattle.range.proofs.TableLaws.{all-held}
+use Rattle.places.proofs.TableLaws.{all-held}
 use borrow.Author.Needs.{needs}
-use Rattle.range.proofs.hold_all.Statement.{statement}
-use Rattle.range.proofs.hold_all.Tie as tie
+use Rattle.places.proofs.hold_all.Statement.{statement}
+use Rattle.places.proofs.hold_all.Tie as tie
 
 hold-cells-requires : tie.Need-hold-cells-requires
 hold-cells-requires c κs = search needs
