@@ -1,4 +1,3 @@
-pub mod ClimbLaws
-pub mod PartLaws
+pub mod WholeLaws
 pub mod FewLaws
 pub mod DeskLaws

@@ -3,77 +3,31 @@
 use mathlib.Core.Bool.{Bool, true}
 use mathlib.Core.List.{List, [], _∷_, map}
 use mathlib.Core.Path.{_≡_}
-use Prim.Native.Nat.{ℕ, _+_, _-_, _*_}
-use lib.Dec.{eqb, leb, ltb}
-use lib.ListN.{length, take}
+use Prim.Native.Nat.{ℕ, _*_}
+use lib.Dec.{leb}
+use lib.ListN.{length}
 use Rattle.terms.specs.Terms.{maxOn}
 use Rattle.lists.specs.Rows.{Rows}
-use Rattle.lists.specs.Tests.{both, either, all}
+use Rattle.lists.specs.Tests.{both, all}
 use Rattle.rules.specs.Limits.{maxCells, maxCuts, fullMemory}
 use Rattle.rules.specs.Grid.{Rect, Cuts}
 use Rattle.rules.specs.Store.{Store, Report as StoreReport, Line as StoreLine}
 use Rattle.desk.specs.declared.CutList.{CutList}
-use Rattle.desk.specs.declared.Report.{Report}
 use Rattle.desk.specs.declared.Waiting.{Waiting}
-use Rattle.desk.specs.declared.Line.{Line}
-use Rattle.desk.specs.declared.Memo.{Memo}
 use Rattle.desk.specs.declared.On.{On}
 use Rattle.desk.specs.declared.Desk.{Desk}
 use Rattle.desk.specs.Layout.{lineSlots, lineFields}
-use Rattle.desk.specs.Views.{cutsBy, linesIn, radiosOf, slotsIn}
-use Rattle.memo.specs.Memo.{lastOf, linesOf}
-use Rattle.mirror.specs.Grid.{cutsTest, placeTest, edgesTest, tileTest}
+use Rattle.desk.specs.Views.{cutsBy, radiosOf, slotsIn}
+use Rattle.memo.specs.Memo.{linesOf}
+use Rattle.mirror.specs.Grid.{cutsTest, edgesTest, tileTest}
 use Rattle.mirror.specs.Cells.{numbersOf, edgesOf, numbersTest, roundTest}
-use Rattle.mirror.specs.Radios.{onTest, memoTest, lastTest, lastsTest}
+use Rattle.mirror.specs.Radios.{onTest, memoTest, lastsTest}
 use Rattle.mirror.specs.Round.{tallyTest}
 use Rattle.mirror.specs.Waiting.{waitingTest, placesTest, fewTest}
 use Rattle.sound_grid.specs.Sound.{gridSound}
-use Rattle.sound_directory.specs.Sound.{slotsTest, number}
 use Rattle.waiting.specs.Waiting.{reportsOf}
-use Rattle.sound_desk.specs.Views.{placeOf, cellOf}
-
--- ---- who is on
-
-unfoldable pub onSound : On → Bool
-onSound on = both (slotsTest number maxOn (on .n) (on .radios)) (onTest (radiosOf on))
-
--- ---- waiting reports
-
-abbrev pub reportWeight : Report → ℕ
-reportWeight x = x .radio + x .east + x .north + x .new
-
--- marked 1 or 0
-abbrev pub reportMarked : Report → Bool
-reportMarked x = leb (x .new) 1
-
-abbrev pub reportTest : Report → Bool
-reportTest x = both (reportMarked x) (placeTest (placeOf x))
-
-unfoldable pub waitingSound : Waiting → Bool
-waitingSound w =
-    both (slotsTest reportWeight (fullMemory - 1) (w .n) (w .rows))
-    (both (waitingTest (reportsOf w)) (both (all reportMarked (take (w .n) (w .rows))) (placesTest (reportsOf w))))
-
--- ---- the memo
-
-abbrev pub lineWeight : Line → ℕ
-lineWeight x = x .radio + x .missed + x .placed + x .east + x .north
-
--- marked 1, or marked 0 with the place zero
-abbrev pub lineMarked : Line → Bool
-lineMarked x = either (eqb (x .placed) 1) (both (eqb (x .placed) 0) (both (eqb (x .east) 0) (eqb (x .north) 0)))
-
--- "missed counts of 1 or more"
-unfoldable pub missedTest : Rows StoreLine → Bool
-missedTest memo = all (λ l. ltb 0 (l .val .missed)) memo
-
-abbrev pub lineTest : Line → Bool
-lineTest x = both (lineMarked x) (both (ltb 0 (x .missed)) (lastTest (lastOf x)))
-
-unfoldable pub memoSound : Memo → Bool
-memoSound m =
-    both (slotsTest lineWeight lineSlots (m .n) (linesIn (m .words)))
-    (both (memoTest (linesOf m)) (both (all lineMarked (take (m .n) (linesIn (m .words)))) (both (missedTest (linesOf m)) (lastsTest (linesOf m)))))
+use Rattle.sound_rows.specs.Sound.{onSound, waitingSound, missedTest, memoSound}
+use Rattle.sound_desk.specs.Views.{cellOf}
 
 -- ---- waiting reports against cuts
 

@@ -22,8 +22,9 @@ use Rattle.mirror.proofs.RadiosLaws.{on-true, memo-true}
 use Rattle.mirror.proofs.WaitingLaws.{waiting-true}
 use Rattle.sound_pages.specs.PagesSound.{PagesSound}
 use Rattle.waiting.specs.Waiting.{reportsOf}
+use Rattle.sound_rows.specs.Sound.{missedTest}
 use Rattle.sound_desk.specs.Views.{cellOf}
-use Rattle.sound_desk.specs.Sound.{missedTest, deskSound, Shaped}
+use Rattle.sound_desk.specs.Sound.{deskSound, Shaped}
 use Rattle.sound_desk.proofs.DeskLaws.{desk-shown, desk-tested}
 use Rattle.entry_walk.specs.Entries.{rowsRead}
 use Rattle.sound_radios.specs.Entries.{keyed}

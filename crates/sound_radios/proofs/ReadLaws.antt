@@ -24,7 +24,7 @@ use Rattle.mirror.proofs.LoopsLaws.{passing-found, passing-concat}
 use Rattle.sweep.specs.Sweep.{entriesOn}
 use Rattle.sound_pages.specs.PagesSound.{CellSound, PagesSound}
 use Rattle.sound_pages.proofs.StoreLaws.{store-once, store-laid}
-use Rattle.sound_desk.proofs.PartLaws.{map-map}
+use Rattle.sound_rows.proofs.CodeLaws.{map-map}
 use Rattle.entry_walk.specs.Entries.{entriesFrom, rowsRead}
 use Rattle.sound_radios.specs.Entries.{keyed}
 

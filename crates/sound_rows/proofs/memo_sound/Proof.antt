@@ -3,12 +3,12 @@ use Prim.Native.Nat.{_-_, _≤_}
 use Rattle.desk.specs.Layout.{lineSlots}
 use Rattle.desk.specs.Views.{linesIn}
 use Rattle.desk.proofs.LinesLaws.{length-lines-in}
-use Rattle.sound_desk.specs.Sound.{lineTest}
-use Rattle.sound_desk.proofs.ClimbLaws.{Climbs, climb-start, read-stops, read-fails, read-turn, climb-end}
-use Rattle.sound_desk.proofs.PartLaws.{memo-long, memo-unclear, memo-climb}
+use Rattle.sound_rows.specs.Sound.{lineTest}
+use Rattle.sound_rows.proofs.ClimbLaws.{Climbs, climb-start, read-stops, read-fails, read-turn, climb-end}
+use Rattle.sound_rows.proofs.CodeLaws.{memo-long, memo-unclear, memo-climb}
 use borrow.Author.Needs.{needs}
-use Rattle.sound_desk.proofs.memo_sound.Statement.{statement}
-use Rattle.sound_desk.proofs.memo_sound.Tie as tie
+use Rattle.sound_rows.proofs.memo_sound.Statement.{statement}
+use Rattle.sound_rows.proofs.memo_sound.Tie as tie
 
 abbrev Inv-loop : tie.InvT-loop
 Inv-loop words n last₀ i₀ last i = (i ≤ n) × Climbs (λ x. x .radio) lineTest (linesIn words) n last i

@@ -1,7 +1,7 @@
 use native.Mathlib.Omega.{arith}
-use Rattle.sound_desk.proofs.PartLaws.{report-marked}
-use Rattle.sound_desk.proofs.report_ok.Statement.{statement}
-use Rattle.sound_desk.proofs.report_ok.Tie as tie
+use Rattle.sound_rows.proofs.CodeLaws.{report-marked}
+use Rattle.sound_rows.proofs.report_ok.Statement.{statement}
+use Rattle.sound_rows.proofs.report_ok.Tie as tie
 
 returns : tie.Need-returns
 returns c = report-marked (c .before .args .x) (omega arith) (omega arith)

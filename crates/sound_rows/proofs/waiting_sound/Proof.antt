@@ -4,12 +4,12 @@ use Rattle.lists.proofs.ShiftLaws.{length-mapped}
 use Rattle.rules.specs.Limits.{fullMemory}
 use Rattle.sound_directory.specs.Sound.{mostField}
 use Rattle.sound_directory.proofs.LoopLaws.{Weighed, weighed-start, weighed-turn}
-use Rattle.sound_desk.specs.Sound.{reportWeight, reportTest}
-use Rattle.sound_desk.proofs.ClimbLaws.{Climbs, climb-start, climb-stops, climb-fails, climb-turn, climb-end}
-use Rattle.sound_desk.proofs.PartLaws.{waiting-long, waiting-heavy, waiting-climb}
+use Rattle.sound_rows.specs.Sound.{reportWeight, reportTest}
+use Rattle.sound_rows.proofs.ClimbLaws.{Climbs, climb-start, climb-stops, climb-fails, climb-turn, climb-end}
+use Rattle.sound_rows.proofs.CodeLaws.{waiting-long, waiting-heavy, waiting-climb}
 use borrow.Author.Needs.{needs}
-use Rattle.sound_desk.proofs.waiting_sound.Statement.{statement}
-use Rattle.sound_desk.proofs.waiting_sound.Tie as tie
+use Rattle.sound_rows.proofs.waiting_sound.Statement.{statement}
+use Rattle.sound_rows.proofs.waiting_sound.Tie as tie
 
 abbrev Inv-loop : tie.InvT-loop
 Inv-loop w sum₀ k₀ sum k = (k ≤ fullMemory) × (sum ≤ 4 * mostField * k) × Weighed reportWeight (w .rows) fullMemory (w .n) k sum

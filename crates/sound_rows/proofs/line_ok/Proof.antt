@@ -1,8 +1,8 @@
 use native.Mathlib.Omega.{arith}
-use Rattle.sound_desk.proofs.PartLaws.{line-unmissed, line-placed, line-unmarked, line-east, line-north}
+use Rattle.sound_rows.proofs.CodeLaws.{line-unmissed, line-placed, line-unmarked, line-east, line-north}
 use borrow.Author.Needs.{needs}
-use Rattle.sound_desk.proofs.line_ok.Statement.{statement}
-use Rattle.sound_desk.proofs.line_ok.Tie as tie
+use Rattle.sound_rows.proofs.line_ok.Statement.{statement}
+use Rattle.sound_rows.proofs.line_ok.Tie as tie
 
 returns : tie.Need-returns
 returns c = search line-unmissed

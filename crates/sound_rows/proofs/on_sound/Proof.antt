@@ -1,7 +1,7 @@
-use Rattle.sound_desk.proofs.PartLaws.{on-long, on-unclear, on-rise}
+use Rattle.sound_rows.proofs.CodeLaws.{on-long, on-unclear, on-rise}
 use borrow.Author.Needs.{needs}
-use Rattle.sound_desk.proofs.on_sound.Statement.{statement}
-use Rattle.sound_desk.proofs.on_sound.Tie as tie
+use Rattle.sound_rows.proofs.on_sound.Statement.{statement}
+use Rattle.sound_rows.proofs.on_sound.Tie as tie
 
 returns : tie.Need-returns
 returns c = search on-long

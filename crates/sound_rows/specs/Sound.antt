@@ -1,0 +1,68 @@
+-- The test of soundness as far as it looks at radios on, at waiting reports or at memo lines, each by itself (01, "A sound store"). They may be in any condition,
+-- with a count beyond their slots or anything in the slots that are not used.
+use mathlib.Core.Bool.{Bool}
+use Prim.Native.Nat.{ℕ, _+_, _-_}
+use lib.Dec.{eqb, leb, ltb}
+use lib.ListN.{take}
+use Rattle.terms.specs.Terms.{maxOn}
+use Rattle.lists.specs.Rows.{Rows}
+use Rattle.lists.specs.Tests.{both, either, all}
+use Rattle.rules.specs.Limits.{fullMemory}
+use Rattle.rules.specs.Store.{Line as StoreLine}
+use Rattle.desk.specs.declared.Report.{Report}
+use Rattle.desk.specs.declared.Waiting.{Waiting}
+use Rattle.desk.specs.declared.Line.{Line}
+use Rattle.desk.specs.declared.Memo.{Memo}
+use Rattle.desk.specs.declared.On.{On}
+use Rattle.desk.specs.Layout.{lineSlots}
+use Rattle.desk.specs.Views.{linesIn, radiosOf}
+use Rattle.memo.specs.Memo.{lastOf, linesOf}
+use Rattle.mirror.specs.Grid.{placeTest}
+use Rattle.mirror.specs.Radios.{onTest, memoTest, lastTest, lastsTest}
+use Rattle.mirror.specs.Waiting.{waitingTest, placesTest}
+use Rattle.sound_directory.specs.Sound.{slotsTest, number}
+use Rattle.waiting.specs.Waiting.{reportsOf}
+use Rattle.sound_rows.specs.Views.{placeOf}
+
+-- ---- who is on
+
+unfoldable pub onSound : On → Bool
+onSound on = both (slotsTest number maxOn (on .n) (on .radios)) (onTest (radiosOf on))
+
+-- ---- waiting reports
+
+abbrev pub reportWeight : Report → ℕ
+reportWeight x = x .radio + x .east + x .north + x .new
+
+-- marked 1 or 0
+abbrev pub reportMarked : Report → Bool
+reportMarked x = leb (x .new) 1
+
+abbrev pub reportTest : Report → Bool
+reportTest x = both (reportMarked x) (placeTest (placeOf x))
+
+unfoldable pub waitingSound : Waiting → Bool
+waitingSound w =
+    both (slotsTest reportWeight (fullMemory - 1) (w .n) (w .rows))
+    (both (waitingTest (reportsOf w)) (both (all reportMarked (take (w .n) (w .rows))) (placesTest (reportsOf w))))
+
+-- ---- the memo
+
+abbrev pub lineWeight : Line → ℕ
+lineWeight x = x .radio + x .missed + x .placed + x .east + x .north
+
+-- marked 1, or marked 0 with the place zero
+abbrev pub lineMarked : Line → Bool
+lineMarked x = either (eqb (x .placed) 1) (both (eqb (x .placed) 0) (both (eqb (x .east) 0) (eqb (x .north) 0)))
+
+-- "missed counts of 1 or more"
+unfoldable pub missedTest : Rows StoreLine → Bool
+missedTest memo = all (λ l. ltb 0 (l .val .missed)) memo
+
+abbrev pub lineTest : Line → Bool
+lineTest x = both (lineMarked x) (both (ltb 0 (x .missed)) (lastTest (lastOf x)))
+
+unfoldable pub memoSound : Memo → Bool
+memoSound m =
+    both (slotsTest lineWeight lineSlots (m .n) (linesIn (m .words)))
+    (both (memoTest (linesOf m)) (both (all lineMarked (take (m .n) (linesIn (m .words)))) (both (missedTest (linesOf m)) (lastsTest (linesOf m)))))
