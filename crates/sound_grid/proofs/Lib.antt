@@ -1,5 +1,5 @@
 pub mod LoopLaws
 pub mod GridLaws
-pub mod EdgeLaws
+pub mod ExtentLaws
 pub mod TileLaws
 pub mod SoundLaws

@@ -29,14 +29,14 @@ use Rattle.mirror.specs.Loops.{allTo}
 use Rattle.mirror.specs.Grid.{cutsTest, spanTest, edgesTest, stripes, holdsBox, holdingBox, tileBoxesTest}
 use Rattle.mirror.proofs.LoopsLaws.{allTo-zero, allTo-suc, allTo-false, allTo-ext, all-allTo}
 use Rattle.mirror.proofs.GridLaws.{WholeBoxes, by-axis, cuts-true, edges-true, tile-boxes}
+use Rattle.edges.specs.declared.Extent.{Extent}
+use Rattle.edges.specs.declared.Extent.the-variants.{Whole}
 use Rattle.sound_grid.specs.Views.{rectsIn}
 use Rattle.boxes.specs.Boxes.{maxStripes, tableSize, boxAt}
-use Rattle.sound_grid.specs.declared.Extent.{Extent}
-use Rattle.sound_grid.specs.declared.Extent.the-variants.{Whole}
 use Rattle.sound_grid.specs.Sound.{edgesSound, several, Raised, RaisedIf, inRow, inStripes, holders, rowOnce, rowsOnce, tileSound}
 use Rattle.sound_directory.specs.Sound.{slotsTest, number, cutsSound}
 use Rattle.sound_directory.proofs.LoopLaws.{same-at, goes, passed-true}
-use Rattle.sound_grid.proofs.EdgeLaws.{extent-whole, extentIn}
+use Rattle.sound_grid.proofs.ExtentLaws.{extent-whole, extentIn}
 
 -- ---- lists
 

@@ -1,13 +1,13 @@
 -- The test of soundness as far as it looks at cuts and directory alone (01, "A sound store"): the edges of each cell, and that the cells tile the area. They may be in any
 -- condition, with a count beyond their slots or anything in the slots that are not used.
-use mathlib.Core.Bool.{Bool, true, false}
+use mathlib.Core.Bool.{Bool, true}
 use mathlib.Core.List.{List}
 use mathlib.Core.Path.{_≡_}
 use Prim.Native.Nat.{ℕ, _+_, _*_, _<_, min}
 use lib.Dec.{eqb}
 use lib.ListN.{length, getD}
 use Rattle.lists.specs.Tests.{one-if, both, all}
-use Rattle.rules.specs.Grid.{Span, within, Rect, Cuts, Box}
+use Rattle.rules.specs.Grid.{within, Rect, Cuts, Box}
 use Rattle.desk.specs.declared.CutList.{CutList}
 use Rattle.desk.specs.declared.Directory.{Directory}
 use Rattle.desk.specs.Views.{cutsBy}
@@ -15,26 +15,12 @@ use Rattle.mirror.specs.Loops.{allTo}
 use Rattle.mirror.specs.Grid.{edgesTest, holdingBox, tileTest}
 use Rattle.boxes.specs.Boxes.{maxStripes, tableSize, boxAt}
 use Rattle.sound_directory.specs.Sound.{cutsSound, directorySound}
-use Rattle.sound_grid.specs.declared.Edge.{Edge}
-use Rattle.sound_grid.specs.declared.Edge.the-variants.{Bounds, Loose}
-use Rattle.sound_grid.specs.declared.Extent.{Extent}
-use Rattle.sound_grid.specs.declared.Extent.the-variants.{Whole, Broken}
 use Rattle.sound_grid.specs.Views.{rectsIn}
 
 -- ---- edges and tiling
 
 unfoldable pub edgesSound : CutList → CutList → Directory → Bool
 edgesSound easts norths d = all (edgesTest (cutsBy easts norths)) (rectsIn d)
-
--- a stripe, where the edge bounds it
-abbrev pub edgeOf : Bool → ℕ → Edge
-edgeOf true stripe = Bounds stripe
-edgeOf false stripe = Loose
-
--- stripes, where the edges are those of whole ones
-abbrev pub extentOf : Bool → Span → Extent
-extentOf true stripes = Whole (stripes .low) (stripes .high)
-extentOf false stripes = Broken
 
 -- what stands for any number above 1
 abbrev pub several : ℕ

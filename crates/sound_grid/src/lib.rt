@@ -2,100 +2,27 @@
 ghost use mathlib.Core.Bool.{true};
 ghost use mathlib.Core.Path.{_≡_};
 ghost use mathlib.Core.List.{[], _∷_};
-ghost use Prim.Native.Nat.{_+_, _-_, _*_, _<_, _≤_, min};
-ghost use lib.Dec.{ltb};
-ghost use lib.ListN.{length, take};
-ghost use Rattle.lists.specs.Sums.{count};
+ghost use Prim.Native.Nat.{_+_, _<_, _≤_, min};
+ghost use lib.ListN.{length};
 ghost use Rattle.lists.specs.Tests.{both};
 ghost use Rattle.rules.specs.Limits.{maxCells, maxCuts};
-ghost use Rattle.rules.specs.Grid.{stripe};
 ghost use Rattle.desk.specs.Views.{cutsBy, edgesOf as rectOf};
-ghost use Rattle.mirror.specs.Grid.{cutsTest, lowTest, highTest, spanTest, edgesTest, stripes};
+ghost use Rattle.mirror.specs.Grid.{edgesTest};
 ghost use Rattle.boxes.specs.Boxes.{maxStripes, tableSize};
-ghost use Rattle.sound_grid.specs.Sound.{edgesSound, edgeOf, extentOf, several, Raised, RaisedIf, inRow, inStripes, holders, rowOnce, rowsOnce, tileSound, gridSound};
 ghost use Rattle.sound_directory.specs.Sound.{cutsSound};
+ghost use Rattle.sound_grid.specs.Sound.{edgesSound, several, Raised, RaisedIf, inRow, inStripes, holders, rowOnce, rowsOnce, tileSound, gridSound};
 ghost use Rattle.sound_grid.specs.Views.{rectsIn};
 use boxes::BOXES;
 use boxes::STRIPES;
 use desk::CutList;
-use desk::Desk;
 use desk::Directory;
 use desk::Slot;
+use edges::Extent;
+use edges::extent_of;
 
 const ONCE: u8 = 1;
 
 const SEVERAL: u8 = 2;
-
-// ---- edges
-
-// The stripe that an edge bounds, where it bounds one.
-enum Edge {
-    Bounds(usize),
-    Loose,
-}
-
-// The first and the last stripe between two edges, where these are whole stripes.
-enum Extent {
-    Whole(usize, usize),
-    Broken,
-}
-
-// The stripe that a cut at x ends, where there is such a cut among the first n: as the cuts rise, it is the cut's own place.
-fn ended_at(slots: &[u16], n: usize, x: u16) -> Edge
-    requires { ⌜ (n ≤ length (now slots)) × (cutsTest (take n (now slots)) ≡ true) ⌝ }
-    ensures { λ r. ⌜ r ≡ edgeOf (ltb 0 (count x (take n (now (slots .entry))))) (stripe (take n (now (slots .entry))) (x - 1)) ⌝ }
-{
-    let mut i: usize = 0;
-    while i < n {
-        if slots[i] == x {
-            return Edge::Bounds(i);
-        }
-        i += 1;
-    }
-    Edge::Loose
-}
-
-// The stripe whose least coordinate is x.
-fn low_edge(slots: &[u16], n: usize, x: u16) -> Edge
-    requires { ⌜ (n ≤ length (now slots)) × (cutsTest (take n (now slots)) ≡ true) ⌝ }
-    ensures { λ r. ⌜ r ≡ edgeOf (lowTest (take n (now (slots .entry))) x) (stripe (take n (now (slots .entry))) x) ⌝ }
-{
-    if x == 0 {
-        return Edge::Bounds(0);
-    }
-    let Edge::Bounds(before) = ended_at(slots, n, x) else {
-        return Edge::Loose;
-    };
-    Edge::Bounds(before + 1)
-}
-
-// The stripe whose greatest coordinate is x.
-fn high_edge(slots: &[u16], n: usize, x: u16) -> Edge
-    requires { ⌜ (n ≤ length (now slots)) × (cutsTest (take n (now slots)) ≡ true) ⌝ }
-    ensures { λ r. ⌜ r ≡ edgeOf (highTest (take n (now (slots .entry))) x) (stripe (take n (now (slots .entry))) x) ⌝ }
-{
-    if x == Desk::LAST_METRE {
-        return Edge::Bounds(n);
-    }
-    ended_at(slots, n, x + 1)
-}
-
-// The stripes between two edges, if the edges are those of whole stripes.
-fn extent_of(slots: &[u16], n: usize, low: u16, high: u16) -> Extent
-    requires { ⌜ (n ≤ length (now slots)) × (cutsTest (take n (now slots)) ≡ true) ⌝ }
-    ensures { λ r. ⌜ r ≡ extentOf (spanTest (take n (now (slots .entry))) (record { low = low; high = high })) (stripes (take n (now (slots .entry))) (record { low = low; high = high })) ⌝ }
-{
-    let Edge::Bounds(first) = low_edge(slots, n, low) else {
-        return Extent::Broken;
-    };
-    let Edge::Bounds(last) = high_edge(slots, n, high) else {
-        return Extent::Broken;
-    };
-    if high < low {
-        return Extent::Broken;
-    }
-    Extent::Whole(first, last)
-}
 
 // ---- tiling
 

@@ -1,4 +1,4 @@
-use Rattle.sound_grid.proofs.EdgeLaws.{cuts-tested, extent-room, edges-east, edges-north, edges-whole}
+use Rattle.sound_grid.proofs.ExtentLaws.{cuts-tested, extent-room, edges-east, edges-north, edges-whole}
 use Rattle.sound_grid.proofs.TileLaws.{raised-not, slot-held}
 use borrow.Author.Needs.{needs}
 use Rattle.sound_grid.proofs.mark_slot.Statement.{statement}

@@ -1,7 +1,7 @@
-use Rattle.sound_grid.proofs.EdgeLaws.{span-low, span-high, span-back, span-whole}
+use Rattle.edges.proofs.EdgeLaws.{span-low, span-high, span-back, span-whole}
 use borrow.Author.Needs.{needs}
-use Rattle.sound_grid.proofs.extent_of.Statement.{statement}
-use Rattle.sound_grid.proofs.extent_of.Tie as tie
+use Rattle.edges.proofs.extent_of.Statement.{statement}
+use Rattle.edges.proofs.extent_of.Tie as tie
 
 low-edge-requires : tie.Need-low-edge-requires
 low-edge-requires c κs = search needs

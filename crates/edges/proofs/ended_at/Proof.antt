@@ -1,10 +1,10 @@
 use mathlib.Core.Path.{refl}
 use Prim.Native.Nat.{_≤_, _-_}
-use Rattle.sound_grid.proofs.LoopLaws.{Sought, seek-turn}
-use Rattle.sound_grid.proofs.EdgeLaws.{ended-found, ended-not}
+use Rattle.edges.proofs.SeekLaws.{Sought, seek-turn}
+use Rattle.edges.proofs.EdgeLaws.{ended-found, ended-not}
 use borrow.Author.Needs.{needs}
-use Rattle.sound_grid.proofs.ended_at.Statement.{statement}
-use Rattle.sound_grid.proofs.ended_at.Tie as tie
+use Rattle.edges.proofs.ended_at.Statement.{statement}
+use Rattle.edges.proofs.ended_at.Tie as tie
 
 abbrev Inv-loop : tie.InvT-loop
 Inv-loop slots n x i₀ i = (i ≤ n) × Sought x slots n i

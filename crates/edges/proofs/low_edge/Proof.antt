@@ -1,9 +1,9 @@
 use native.Mathlib.Omega.{arith}
 use lib.ListN.{take}
-use Rattle.sound_grid.proofs.EdgeLaws.{low-first, low-loose, low-room, low-cut}
+use Rattle.edges.proofs.EdgeLaws.{low-first, low-loose, low-room, low-cut}
 use borrow.Author.Needs.{needs}
-use Rattle.sound_grid.proofs.low_edge.Statement.{statement}
-use Rattle.sound_grid.proofs.low_edge.Tie as tie
+use Rattle.edges.proofs.low_edge.Statement.{statement}
+use Rattle.edges.proofs.low_edge.Tie as tie
 
 returns : tie.Need-returns
 returns c = search low-first

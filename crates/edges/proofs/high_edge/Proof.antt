@@ -1,7 +1,7 @@
-use Rattle.sound_grid.proofs.EdgeLaws.{high-last, high-cut}
+use Rattle.edges.proofs.EdgeLaws.{high-last, high-cut}
 use borrow.Author.Needs.{needs}
-use Rattle.sound_grid.proofs.high_edge.Statement.{statement}
-use Rattle.sound_grid.proofs.high_edge.Tie as tie
+use Rattle.edges.proofs.high_edge.Statement.{statement}
+use Rattle.edges.proofs.high_edge.Tie as tie
 
 returns : tie.Need-returns
 returns c = search high-last

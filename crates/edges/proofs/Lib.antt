@@ -1,0 +1,2 @@
+pub mod SeekLaws
+pub mod EdgeLaws
