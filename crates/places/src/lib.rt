@@ -14,7 +14,7 @@ ghost use Rattle.rules.specs.Limits.{maxCells, fullMemory};
 ghost use Rattle.rules.specs.Plain.{putAt};
 ghost use Rattle.desk.specs.Layout.{lineSlots, lineFields};
 ghost use Rattle.desk.specs.Views.{slotsIn, edgesOf};
-ghost use Rattle.memo.specs.Memo.{linesOf};
+ghost use Rattle.memo.specs.Memo.{memoIn, linesOf};
 ghost use Rattle.waiting.specs.Waiting.{reportsOf};
 ghost use Rattle.places.specs.Places.{rectOf, noPlaces, placesIn, Columns, Holds, over, entriesOver, linesOver, reportsOver, meets, touches, entriesFrom, slotOver, placesOf, Readable};
 use desk::Desk;
@@ -168,8 +168,8 @@ fn hold_lines(
     norths: &mut [u16; RADIO_SLOTS],
     marks: &mut [bool; RADIO_SLOTS],
 )
-    requires { ⌜ Columns (now easts) (now norths) (now marks) × (length (now words) ≡ lineFields * lineSlots) × (lines ≤ lineSlots) × UpTo maxRadio (linesOf (record { n = lines; words = now words })) ⌝ }
-    ensures { λ _. ⌜ Holds (now (easts .exit)) (now (norths .exit)) (now (marks .exit)) (linesOver (linesOf (record { n = lines; words = now (words .entry) })) (placesIn (now (easts .entry)) (now (norths .entry)) (now (marks .entry)))) ⌝ }
+    requires { ⌜ Columns (now easts) (now norths) (now marks) × (length (now words) ≡ lineFields * lineSlots) × (lines ≤ lineSlots) × UpTo maxRadio (linesOf (memoIn lines (now words))) ⌝ }
+    ensures { λ _. ⌜ Holds (now (easts .exit)) (now (norths .exit)) (now (marks .exit)) (linesOver (linesOf (memoIn lines (now (words .entry)))) (placesIn (now (easts .entry)) (now (norths .entry)) (now (marks .entry)))) ⌝ }
 {
     let mut i: usize = 0;
     while i < lines {
@@ -218,8 +218,8 @@ pub fn hold_all(
     norths: &mut [u16; RADIO_SLOTS],
     marks: &mut [bool; RADIO_SLOTS],
 )
-    requires { ⌜ Holds (now easts) (now norths) (now marks) noPlaces × (length (now words) ≡ lineFields * lineSlots) × Readable (now pages) cells waiting (record { n = lines; words = now words }) ⌝ }
-    ensures { λ _. ⌜ Holds (now (easts .exit)) (now (norths .exit)) (now (marks .exit)) (placesOf (now (pages .entry)) (rectOf area) (slotsIn cells) (linesOf (record { n = lines; words = now (words .entry) })) (reportsOf waiting)) ⌝ }
+    requires { ⌜ Holds (now easts) (now norths) (now marks) noPlaces × (length (now words) ≡ lineFields * lineSlots) × Readable (now pages) cells waiting (memoIn lines (now words)) ⌝ }
+    ensures { λ _. ⌜ Holds (now (easts .exit)) (now (norths .exit)) (now (marks .exit)) (placesOf (now (pages .entry)) (rectOf area) (slotsIn cells) (linesOf (memoIn lines (now (words .entry)))) (reportsOf waiting)) ⌝ }
 {
     hold_cells(pages, area, cells, easts, norths, marks);
     hold_lines(words, lines, easts, norths, marks);

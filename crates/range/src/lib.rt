@@ -13,6 +13,7 @@ ghost use Rattle.rules.specs.Carry.{inRange, listBytes, bytesOf};
 ghost use Rattle.rules.specs.Told.{toldList};
 ghost use Rattle.desk.specs.Layout.{lineSlots, lineFields};
 ghost use Rattle.desk.specs.Views.{radiosOf};
+ghost use Rattle.memo.specs.Memo.{memoIn};
 ghost use Rattle.places.specs.Places.{rectOf, placesIn, radioSlots, Columns, Readable};
 ghost use Rattle.range.specs.Range.{isFound, rowAt, rowsAt, foundIn};
 use desk::Desk;
@@ -144,8 +145,8 @@ pub fn list(
     on: On,
     buffer: &mut [u8],
 ) -> Listed
-    requires { ⌜ (length (now words) ≡ lineFields * lineSlots) × Readable (now pages) cells waiting (record { n = lines; words = now words }) × (on .n ≤ maxOn) × UpTo maxRadio (radiosOf on) ⌝ }
-    ensures { λ r. ⌜ record { number = r .number; count = r .count; buffer = now (buffer .exit) } ≡ toldList (foundIn (now (pages .entry)) (rectOf area) cells waiting (record { n = lines; words = now (words .entry) }) on) (now (buffer .entry)) ⌝ }
+    requires { ⌜ (length (now words) ≡ lineFields * lineSlots) × Readable (now pages) cells waiting (memoIn lines (now words)) × (on .n ≤ maxOn) × UpTo maxRadio (radiosOf on) ⌝ }
+    ensures { λ r. ⌜ record { number = r .number; count = r .count; buffer = now (buffer .exit) } ≡ toldList (foundIn (now (pages .entry)) (rectOf area) cells waiting (memoIn lines (now (words .entry))) on) (now (buffer .entry)) ⌝ }
 {
     let mut easts = [0u16; RADIO_SLOTS];
     let mut norths = [0u16; RADIO_SLOTS];

@@ -5,6 +5,7 @@ ghost use Prim.Native.Nat.{_*_, _≤_};
 ghost use lib.ListN.{length};
 ghost use Rattle.rules.specs.Limits.{maxCuts, fullMemory};
 ghost use Rattle.desk.specs.Layout.{lineSlots, lineFields};
+ghost use Rattle.memo.specs.Memo.{memoIn};
 ghost use Rattle.sound_desk.specs.Sound.{fewSound, radiosSound, deskSound};
 use boxes::BOXES;
 use desk::CutList;
@@ -64,7 +65,7 @@ pub fn desk_sound<'a>(
     tally: u16,
 ) -> bool
     requires { ⌜ length (now words) ≡ lineFields * lineSlots ⌝ }
-    ensures { λ r. ⌜ r ≡ deskSound (record { grid = grid; waiting = waiting; memo = record { n = n; words = now (words .entry) }; on = on; tally = tally }) ⌝ }
+    ensures { λ r. ⌜ r ≡ deskSound (record { grid = grid; waiting = waiting; memo = memoIn n (now (words .entry)); on = on; tally = tally }) ⌝ }
 {
     let easts = grid.easts;
     let norths = grid.norths;

@@ -4,6 +4,7 @@ ghost use mathlib.Core.Path.{_≡_};
 ghost use Prim.Native.Nat.{_*_, _≤_};
 ghost use lib.ListN.{length};
 ghost use Rattle.desk.specs.Layout.{lineSlots, lineFields};
+ghost use Rattle.memo.specs.Memo.{memoIn};
 ghost use Rattle.sound_directory.specs.Sound.{mostField};
 ghost use Rattle.sound_rows.specs.Sound.{onSound, reportWeight, reportTest, waitingSound, lineTest, memoSound};
 use desk::Desk;
@@ -111,7 +112,7 @@ fn line_ok(x: Line) -> bool
 // Whether the memo is sound: its unused fields are zero, its lines' radios rise and each line is one.
 pub fn memo_sound<'a>(words: &'a [u16; Desk::MEMO_WORDS], n: usize) -> bool
     requires { ⌜ length (now words) ≡ lineFields * lineSlots ⌝ }
-    ensures { λ r. ⌜ r ≡ memoSound (record { n = n; words = now (words .entry) }) ⌝ }
+    ensures { λ r. ⌜ r ≡ memoSound (memoIn n (now (words .entry))) ⌝ }
 {
     if LINE_SLOTS < n {
         return false;
