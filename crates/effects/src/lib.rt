@@ -97,14 +97,11 @@ pub fn reported(
     requires { ⌜ AskedReport (deskWith parts (now words)) radio (record { east = east; north = north }) (now pages) ⌝ }
     ensures { λ r. ⌜ ((x : AskedReport (deskWith parts (now (words .entry))) radio (record { east = east; north = north }) (now (pages .entry))) → Carries (x .sound .store) (report radio (record { east = east; north = north })) (deskWith r (now (words .exit))) (now (pages .exit))) ⌝ }
 {
-    let grid = parts.grid;
-    let waiting = parts.waiting;
-    let on = parts.on;
     let tally = parts.tally;
-    let reports = own::reported(waiting, radio, east, north);
-    let easts = grid.easts;
-    let norths = grid.norths;
-    if flush::is_quiet(easts, norths, reports, tally, east, north) {
+    let reports = own::reported(parts.waiting, radio, east, north);
+    let grid = parts.grid;
+    let on = parts.on;
+    if flush::is_quiet(grid.easts, grid.norths, reports, tally, east, north) {
         return Parts {
             grid,
             waiting: reports,

@@ -15,20 +15,15 @@ pub fn parts_sound<'a>(parts: Parts, words: &'a [u16; Desk::MEMO_WORDS], pages: 
     requires { ⌜ length (now words) ≡ lineFields * lineSlots ⌝ }
     ensures { λ r. ⌜ (r ≡ true → Sound (deskWith parts (now (words .entry))) (now (pages .entry))) × (Sound (deskWith parts (now (words .entry))) (now (pages .entry)) → r ≡ true) ⌝ }
 {
-    let grid = parts.grid;
-    let waiting = parts.waiting;
-    let on = parts.on;
-    let tally = parts.tally;
     let n = parts.lines;
-    if !sound_desk::desk_sound(grid, waiting, words, n, on, tally) {
+    let tally = parts.tally;
+    if !sound_desk::desk_sound(parts.grid, parts.waiting, words, n, parts.on, tally) {
         return false;
     }
-    let cells = grid.cells;
-    let free = grid.free;
-    if !sound_pages::pages_sound(pages, cells, free) {
+    if !sound_pages::pages_sound(pages, parts.grid.cells, parts.grid.free) {
         return false;
     }
-    sound_radios::radios_sound(pages, grid, waiting, words, n, on, tally)
+    sound_radios::radios_sound(pages, parts.grid, parts.waiting, words, n, parts.on, tally)
 }
 
 // The same of a whole desk.

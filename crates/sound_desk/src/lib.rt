@@ -67,13 +67,10 @@ pub fn desk_sound<'a>(
     requires { ⌜ length (now words) ≡ lineFields * lineSlots ⌝ }
     ensures { λ r. ⌜ r ≡ deskSound (record { grid = grid; waiting = waiting; memo = memoIn n (now (words .entry)); on = on; tally = tally }) ⌝ }
 {
-    let easts = grid.easts;
-    let norths = grid.norths;
-    let cells = grid.cells;
-    if !grid_sound(easts, norths, cells) {
+    if !grid_sound(grid.easts, grid.norths, grid.cells) {
         return false;
     }
-    if !radios_sound(easts, norths, waiting, on) {
+    if !radios_sound(grid.easts, grid.norths, waiting, on) {
         return false;
     }
     if !sound_rows::memo_sound(words, n) {

@@ -73,10 +73,9 @@ pub fn radios_sound<'a>(
     if !tally_new(waiting, &mut balance) {
         return false;
     }
-    let cells = grid.cells;
-    let counts = tally_cells(pages, cells, words, &lines, &mut balance);
+    let counts = tally_cells(pages, grid.cells, words, &lines, &mut balance);
     if !all_settled(&balance) {
         return false;
     }
-    bound_ok(counts, cells.n, waiting.n, tally)
+    bound_ok(counts, grid.cells.n, waiting.n, tally)
 }

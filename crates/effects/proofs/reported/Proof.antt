@@ -9,19 +9,19 @@ use Rattle.effects.proofs.reported.Tie as tie
 
 reported-requires : tie.Need-reported-requires
 reported-requires c κs =
-    let start = c .before .before .before .before in
+    let start = c .before in
     let x = start .pre in
     report-asks (x .sound .store) (deskWith (start .args .parts) (start .args .words .now)) (x .sound .held) (x .sound .well)
 
 is-quiet-requires : tie.Need-is-quiet-requires
 is-quiet-requires c κs =
     let o = c .before .before in
-    quiet-asks (report-effect (o .before .before .before .before .before .pre) (o .reported .result) (o .reported .ensures))
+    quiet-asks (report-effect (o .before .before .pre) (o .reported .result) (o .reported .ensures))
 
-add-t16 : tie.Need-add-t16
-add-t16 c =
+add-t13 : tie.Need-add-t13
+add-t13 c =
     let o = c .before .before .before .before in
-    let k = quiet-asks (report-effect (o .before .before .before .before .before .pre) (o .reported .result) (o .reported .ensures)) in
+    let k = quiet-asks (report-effect (o .before .before .pre) (o .reported .result) (o .reported .ensures)) in
     omega (arith, k .3)
 
 returns : tie.Need-returns
@@ -32,7 +32,7 @@ returns c = λ x.
 followed-requires : tie.Need-followed-requires
 followed-requires c κs =
     let o = c .before .before .before .before .before .before in
-    report-effect (o .before .before .before .before .before .pre) (o .reported .result) (o .reported .ensures)
+    report-effect (o .before .before .pre) (o .reported .result) (o .reported .ensures)
 
 same-length : tie.Need-same-length
 same-length c = search needs
@@ -49,7 +49,7 @@ reported-spec =
     (tie.spec
     reported-requires
     is-quiet-requires
-    add-t16
+    add-t13
     returns
     followed-requires
     same-length

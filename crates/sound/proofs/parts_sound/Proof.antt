@@ -7,7 +7,7 @@ use Rattle.sound.proofs.parts_sound.Statement.{statement}
 use Rattle.sound.proofs.parts_sound.Tie as tie
 
 desk-sound-requires : tie.Need-desk-sound-requires
-desk-sound-requires c κs = c .before .before .before .before .pre
+desk-sound-requires c κs = c .before .pre
 
 returns : tie.Need-returns
 returns c = desk-unsound _ _ (c .before .desk-sound .ensures) (c .if1 .taken)
@@ -20,14 +20,14 @@ returns-2 c = pages-unsound _ _ (c .before .pages-sound .ensures) (c .if2 .taken
 
 radios-sound-requires : tie.Need-radios-sound-requires
 radios-sound-requires c κs =
-    let start = c .before .before .before .before .before .before .before .before .before in
+    let start = c .before .before .before .before .before in
     (start .pre, search desk-passed, pages-passed (deskWith (start .args .parts) (start .args .words .now)) _ (c .before .pages-sound .ensures) (c .if2 .left))
 
 -- the lengths of the desk's arrays are told field by field
 returns-3 : tie.Need-returns-3
 returns-3 c =
-    let k = c .before .before .before .before in
-    let start = k .before .before .before .before .before .before in
+    let k = c .before .before .before in
+    let start = k .before .before .before in
     let p = start .good .0 .1 .1 in
     let g = p .0 .1 .1 in
     let shape : Shaped (deskWith (start .args .parts) (start .args .words .now)) = record {

@@ -25,7 +25,7 @@ returns-3 c = search desk-memo
 
 returns-4 : tie.Need-returns-4
 returns-4 c =
-    let x = c .before .before .before .before .before .before .before .before .before .args in
+    let x = c .before .before .before .before .before .before .args in
     search (desk-tally (record { grid = x .grid; waiting = x .waiting; memo = record { n = x .n; words = now (x .words) }; on = x .on; tally = x .tally }))
 
 pub desk-sound-spec : {M : Type 1} → statement M

@@ -36,7 +36,7 @@ returns c =
     radios-off (shown (o .before .before .before .before .before)) blank-zeros (o .on-due .ensures) (l .lines-due .ensures .0) (n .tally-new .ensures .1) (c .if1 .taken)
 
 tally-cells-requires : tie.Need-tally-cells-requires
-tally-cells-requires c κs = let l = c .before .before .before .before .before .before in cells-asks (shown (l .before .before .before .before .before .before .before .before)) (l .lines-due .ensures .1)
+tally-cells-requires c κs = let l = c .before .before .before .before .before in cells-asks (shown (l .before .before .before .before .before .before .before .before)) (l .lines-due .ensures .1)
 
 all-settled-requires : tie.Need-all-settled-requires
 all-settled-requires c κs = search needs
@@ -44,19 +44,19 @@ all-settled-requires c κs = search needs
 returns-2 : tie.Need-returns-2
 returns-2 c =
     let t = c .before .before .before in
-    let i = t .before .before .before .before in
+    let i = t .before .before .before in
     let n = i .before in
     let l = n .before .before in
     let o = l .before .before .before in
     radios-fail (shown (o .before .before .before .before .before)) blank-zeros (o .on-due .ensures) (l .lines-due .ensures .0) (n .tally-new .ensures .1) (i .if1 .left) _ (l .lines-due .ensures .2) (n .tally-new .ensures .0) (t .tally-cells .ensures .0) (t .tally-cells .ensures .1) (c .before .all-settled .ensures) (c .if2 .taken)
 
 bound-ok-requires : tie.Need-bound-ok-requires
-bound-ok-requires c κs = bound-asks (shown (c .before .before .before .before .before .before .before .before .before .before .before .before .before .before .before .before .before .before))
+bound-ok-requires c κs = bound-asks (shown (c .before .before .before .before .before .before .before .before .before .before .before .before .before .before .before .before .before))
 
 returns-3 : tie.Need-returns-3
 returns-3 c =
     let t = c .before .before .before .before in
-    let i = t .before .before .before .before in
+    let i = t .before .before .before in
     let n = i .before in
     let l = n .before .before in
     let o = l .before .before .before in
