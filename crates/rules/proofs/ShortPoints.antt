@@ -1,4 +1,4 @@
--- The starred points without a long run, by themselves: soon computed, and enough to tell whether each check of a record is the one that was asked for. The whole table is computed in `worked`.
+-- The starred points without a long run: soon computed, and enough to tell whether each check of a record is the one that was asked for. The whole table is proved in `worked`.
 use mathlib.Core.Path.{refl}
 use Rattle.lists.specs.Chains.{walk, settledChain, settledFree}
 use Rattle.lists.specs.Parts.{part, put, tab, insertAt, removeAt}

@@ -1,5 +1,6 @@
--- The starred points hold of the definitions: the checker computes the whole table.
-use mathlib.Core.Path.{refl}
+-- The starred points hold of the definitions: the checker computes those with a long run here, the others in `rules`.
+use mathlib.Core.List.{List, _++_, map-append}
+use mathlib.Core.Path.{refl, sym, ap₂, _∙_}
 use Rattle.lists.specs.Chains.{walk, settledChain, settledFree}
 use Rattle.lists.specs.Parts.{part, put, tab, insertAt, removeAt}
 use Rattle.lists.specs.Rows.{find, rank, alter, merge}
@@ -14,8 +15,12 @@ use Rattle.rules.specs.Grid.{stripe, stripeLow, boxOf, cornerOf, boxes}
 use Rattle.rules.specs.Records.{lengthField, kindField, lengthOf, radioField, placeField, rectField, requestOf, notAtHand, unknownKind, wrongLength, noRadio, reversed, onAlready, notOn, noRoom, refusal}
 use Rattle.rules.specs.Store.{fresh, cellAt, others, pagesFor, settled, freeAfter}
 use Rattle.rules.specs.Sweep.{lowerEach, sweptEntries, sweptMemo, swept, sweepFront, tick}
-use Rattle.rules.specs.Worked.{after, seen, shortPoints, longPoints, Starred}
+use Rattle.rules.specs.Worked.{Seen, after, seen, shortPoints, longPoints, Sees, Starred}
+use Rattle.rules.proofs.ShortPoints.{short-points}
+
+long-points : Sees longPoints
+unfolding walk settledChain settledFree part put tab insertAt removeAt find rank alter merge sortIn sort firstAbove sumBy filter concat sumTo both either all firstAt best le word isOn onCount signedOn reported signedOff boxToFlush waitingIn flushDue afterReport liveIn storedIn latest listOf found bytesOf answered carriedOut carry allowedIn allowed lowCount cutsThrough fits difference existingCut median medianCut chosenCut enter enterEach inBox flushedInto grown addCut unusedNumber lowCell highCell splitAt beside joinable neighbours named joinedWith reshaped allowedAt cellOfBox flush allowedFlush stripe stripeLow boxOf cornerOf boxes lengthField kindField lengthOf radioField placeField rectField requestOf notAtHand unknownKind wrongLength noRadio reversed onAlready notOn noRoom refusal fresh cellAt others pagesFor settled freeAfter lowerEach sweptEntries sweptMemo swept sweepFront tick after seen longPoints
+long-points = refl
 
 pub starred : Starred
-unfolding walk settledChain settledFree part put tab insertAt removeAt find rank alter merge sortIn sort firstAbove sumBy filter concat sumTo both either all firstAt best le word isOn onCount signedOn reported signedOff boxToFlush waitingIn flushDue afterReport liveIn storedIn latest listOf found bytesOf answered carriedOut carry allowedIn allowed lowCount cutsThrough fits difference existingCut median medianCut chosenCut enter enterEach inBox flushedInto grown addCut unusedNumber lowCell highCell splitAt beside joinable neighbours named joinedWith reshaped allowedAt cellOfBox flush allowedFlush stripe stripeLow boxOf cornerOf boxes lengthField kindField lengthOf radioField placeField rectField requestOf notAtHand unknownKind wrongLength noRadio reversed onAlready notOn noRoom refusal fresh cellAt others pagesFor settled freeAfter lowerEach sweptEntries sweptMemo swept sweepFront tick after seen shortPoints longPoints
-starred = refl
+starred = map-append _ shortPoints longPoints ∙ ap₂ (λ (a b : List Seen). a ++ b) short-points long-points ∙ sym (map-append _ shortPoints longPoints)
