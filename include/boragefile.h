@@ -1,4 +1,4 @@
-/* The position desk: the three functions of libcalls.a, and the desk that they are lent. */
+/* The position desk: the three functions of libboragefile.a, and the desk that they are lent. */
 #ifndef BORAGEFILE_H
 #define BORAGEFILE_H
 

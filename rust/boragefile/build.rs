@@ -9,13 +9,13 @@ fn main() {
         None => PathBuf::from(env::var_os("CARGO_MANIFEST_DIR").expect("cargo names the crate's directory"))
             .join("../../target/staticlib"),
     };
-    let archive = directory.join("libcalls.a");
+    let archive = directory.join("libboragefile.a");
     println!("cargo:rerun-if-changed={}", archive.display());
     assert!(
         archive.is_file(),
-        "{} is missing: run `rt staticlib calls` in the repository's root",
+        "{} is missing: run `rt staticlib boragefile` in the repository's root",
         archive.display()
     );
     println!("cargo:rustc-link-search=native={}", directory.display());
-    println!("cargo:rustc-link-lib=static=calls");
+    println!("cargo:rustc-link-lib=static=boragefile");
 }

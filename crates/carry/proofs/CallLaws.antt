@@ -30,8 +30,8 @@ use Rattle.records.specs.declared.Asked.{Asked}
 use Rattle.records.specs.declared.Asked.the-variants.{SignOn, Report, SignOff, Range, Refused}
 use Rattle.records.specs.Asked.{onIn, caseOf, askedOf}
 use Rattle.records.proofs.AskedLaws.{on-few, on-rises, refused-carry, refused-allowed, taken-carry, taken-allowed, asks-on, asks-report, asks-off}
-use Rattle.places.specs.declared.Rectangle.{Rectangle}
-use Rattle.places.specs.Places.{rectOf}
+use Rattle.range_places.specs.declared.Rectangle.{Rectangle}
+use Rattle.range_places.specs.Places.{rectOf}
 use Rattle.range.specs.declared.Listed.{Listed}
 use Rattle.range.specs.Range.{foundIn}
 use Rattle.range.proofs.StoreLaws.{range-gives}

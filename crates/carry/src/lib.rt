@@ -6,13 +6,13 @@ ghost use Rattle.desk.specs.Call.{Answers, Carried as CarriedOut};
 ghost use Rattle.desk.specs.Layout.{lineSlots, lineFields};
 ghost use Rattle.desk.specs.Sound.{Sound};
 ghost use Rattle.desk.specs.Views.{deskWith};
-ghost use Rattle.places.specs.Places.{rectOf};
+ghost use Rattle.range_places.specs.Places.{rectOf};
 ghost use Rattle.carry.specs.Carry.{Lists};
 use desk::Desk;
 use desk::Parts;
 use fresh::Answer;
 use page::BUFFER_BYTES;
-use places::Rectangle;
+use range_places::Rectangle;
 use records::Asked;
 
 // 1: "The page buffer isn't 25,600 bytes."

@@ -25,8 +25,8 @@ use Rattle.desk.specs.Layout.{waitingOf, memoOf, onOf}
 use Rattle.desk.specs.Views.{radiosOf}
 use Rattle.memo.specs.Memo.{linesOf}
 use Rattle.waiting.specs.Waiting.{reportsOf}
-use Rattle.own.specs.declared.SignedOn.{SignedOn}
-use Rattle.own.proofs.StoreLaws.{on-gives, report-gives, off-gives, on-laid, report-laid, off-laid}
+use Rattle.own_effect.specs.declared.SignedOn.{SignedOn}
+use Rattle.own_effect.proofs.StoreLaws.{on-gives, report-gives, off-gives, on-laid, report-laid, off-laid}
 use Rattle.records.proofs.AskedLaws.{SignsOn, Reports}
 use Rattle.effects.specs.Effects.{Stands, Effected, Followed, Left, AskedOn, AskedReport, AskedOff, Carries}
 

@@ -71,7 +71,7 @@ pub fn sign_on(
     let grid = parts.grid;
     let waiting = parts.waiting;
     let on = parts.on;
-    let own = own::signed_on(waiting, on, radio, east, north);
+    let own = own_effect::signed_on(waiting, on, radio, east, north);
     let reports = own.waiting;
     let radios = own.on;
     let signed = Parts {
@@ -98,7 +98,7 @@ pub fn reported(
     ensures { λ r. ⌜ ((x : AskedReport (deskWith parts (now (words .entry))) radio (record { east = east; north = north }) (now (pages .entry))) → Carries (x .sound .store) (report radio (record { east = east; north = north })) (deskWith r (now (words .exit))) (now (pages .exit))) ⌝ }
 {
     let tally = parts.tally;
-    let reports = own::reported(parts.waiting, radio, east, north);
+    let reports = own_effect::reported(parts.waiting, radio, east, north);
     let grid = parts.grid;
     let on = parts.on;
     if flush::is_quiet(grid.easts, grid.norths, reports, tally, east, north) {
@@ -133,7 +133,7 @@ pub fn sign_off(
     let grid = parts.grid;
     let waiting = parts.waiting;
     let on = parts.on;
-    let own = own::signed_off(waiting, words, parts.lines, on, radio);
+    let own = own_effect::signed_off(waiting, words, parts.lines, on, radio);
     let reports = own.waiting;
     let radios = own.on;
     let left = Parts {

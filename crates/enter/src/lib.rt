@@ -111,7 +111,7 @@ pub fn enter_all<'a>(
     requires { ⌜ (easts .n ≤ maxCuts) × (norths .n ≤ maxCuts) × (waiting .n ≤ fullMemory) × Enterable (heldIn table lines (now words)) (filter (inBox (cutsBy easts norths) (boxIn m)) (reportsOf waiting)) ⌝ }
     ensures { λ r. ⌜ Entered (heldIn table lines (now (words .entry))) (filter (inBox (cutsBy easts norths) (boxIn m)) (reportsOf waiting)) (heldIn (r .table) (r .lines) (now (words .exit))) ⌝ }
 {
-    let reports = parting::gathered(easts, norths, waiting, m);
+    let reports = box_reports::gathered(easts, norths, waiting, m);
     let n = reports.n;
     let mut all = table;
     let mut notes = lines;

@@ -94,7 +94,7 @@ pub fn flush(
     let done = reshape::reshape(buffer, grid, at, chain, table, words, d.lines);
     let easts = grid.easts;
     let norths = grid.norths;
-    let left = parting::cleared(easts, norths, waiting, m);
+    let left = box_reports::cleared(easts, norths, waiting, m);
     let shape = done.grid;
     Emptied {
         grid: shape,

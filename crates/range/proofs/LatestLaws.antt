@@ -24,7 +24,7 @@ use Rattle.rules.specs.Plain.{putAt}
 use Rattle.rules.specs.WellFormed.{WellFormed, GoodCell, countIf, liveOf}
 use Rattle.rules.proofs.LiveLaws.{liveBy, stored-at}
 use Rattle.rules.proofs.PlaceLaws.{samePlace-refl, samePlace-true}
-use Rattle.places.specs.Places.{Places, noPlaces, over, rowOver, entriesOver, linesOver, reportsOver, meets, touches}
+use Rattle.range_places.specs.Places.{Places, noPlaces, over, rowOver, entriesOver, linesOver, reportsOver, meets, touches}
 
 -- ---- rows laid over places
 

@@ -27,8 +27,8 @@ use Rattle.desk.specs.declared.Memo.{Memo}
 use Rattle.desk.specs.Views.{radioRow, radiosOf, slotsIn}
 use Rattle.memo.specs.Memo.{linesOf}
 use Rattle.waiting.specs.Waiting.{reportsOf}
-use Rattle.places.specs.Places.{Places, noPlaces, placesIn, radioSlots, Holds, placesOf}
-use Rattle.places.proofs.TableLaws.{mapped-turn, mapped-end, each-mapped}
+use Rattle.range_places.specs.Places.{Places, noPlaces, placesIn, radioSlots, Holds, placesOf}
+use Rattle.range_places.proofs.TableLaws.{mapped-turn, mapped-end, each-mapped}
 use Rattle.range.specs.Range.{isFound, rowAt, rowsAt, foundIn}
 
 -- ---- nothing stands in an empty table

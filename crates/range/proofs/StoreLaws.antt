@@ -29,7 +29,7 @@ use Rattle.waiting.proofs.WaitingLaws.{reports-laid, count-laid}
 use Rattle.waiting.proofs.OnLaws.{radios-laid, count-on-laid}
 use Rattle.sweep.specs.Sweep.{entriesOn}
 use Rattle.sweep.proofs.CellLaws.{Sweepable, well-sweep, well-memo}
-use Rattle.places.specs.Places.{Places, noPlaces, over, linesOver, reportsOver, entriesFrom, slotOver, placesOf, Readable}
+use Rattle.range_places.specs.Places.{Places, noPlaces, over, linesOver, reportsOver, entriesFrom, slotOver, placesOf, Readable}
 use Rattle.range.specs.Range.{foundIn}
 use Rattle.range.proofs.LatestLaws.{cellOver, tableOf, found-table}
 

@@ -14,7 +14,7 @@ use Rattle.desk.specs.declared.On.{On}
 use Rattle.desk.specs.Views.{slotsIn, radiosOf}
 use Rattle.memo.specs.Memo.{linesOf}
 use Rattle.waiting.specs.Waiting.{reportsOf}
-use Rattle.places.specs.Places.{Places, placesOf}
+use Rattle.range_places.specs.Places.{Places, placesOf}
 
 -- a radio whose place lies in the rectangle
 abbrev pub isFound : Rect → Places → Row (Unit {0}) → Bool

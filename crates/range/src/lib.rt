@@ -14,14 +14,14 @@ ghost use Rattle.rules.specs.Told.{toldList};
 ghost use Rattle.desk.specs.Layout.{lineSlots, lineFields};
 ghost use Rattle.desk.specs.Views.{radiosOf};
 ghost use Rattle.memo.specs.Memo.{memoIn};
-ghost use Rattle.places.specs.Places.{rectOf, placesIn, radioSlots, Columns, Readable};
+ghost use Rattle.range_places.specs.Places.{rectOf, placesIn, radioSlots, Columns, Readable};
 ghost use Rattle.range.specs.Range.{isFound, rowAt, rowsAt, foundIn};
 use desk::Desk;
 use desk::Directory;
 use desk::On;
 use desk::Waiting;
-use places::RADIO_SLOTS;
-use places::Rectangle;
+use range_places::RADIO_SLOTS;
+use range_places::Rectangle;
 
 const LIST_BYTES: usize = 6;
 
@@ -151,7 +151,7 @@ pub fn list(
     let mut easts = [0u16; RADIO_SLOTS];
     let mut norths = [0u16; RADIO_SLOTS];
     let mut marks = [false; RADIO_SLOTS];
-    places::hold_all(
+    range_places::hold_all(
         pages,
         area,
         cells,

@@ -60,9 +60,9 @@ fn around(name: &[u8], desk: Desk, pages: &mut [u8], first: u16, last: u16, apar
     ensures { λ _. ⌜ length (now (pages .exit)) ≡ bufferBytes ⌝ }
 {
     let before = run(desk, pages, first, last, apart);
-    dump::print_store(b"before ", name, last - 1, before, pages);
+    show_dump::print_store(b"before ", name, last - 1, before, pages);
     let after = step(before, pages, last, apart);
-    dump::print_store(b"after ", name, last, after, pages);
+    show_dump::print_store(b"after ", name, last, after, pages);
     after
 }
 
@@ -162,6 +162,6 @@ fn told(desk: Desk, pages: &mut [u8], bytes: &[u8]) -> Desk
     let mut buffer = [0u8; 6];
     let done = carry::carry(desk, pages, bytes, &mut buffer);
     let answer = done.answer;
-    dump::print_refused(answer.number);
+    show_dump::print_refused(answer.number);
     done.desk
 }

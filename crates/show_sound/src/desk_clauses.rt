@@ -3,21 +3,21 @@ ghost use mathlib.Core.Path.{_≡_};
 ghost use lib.ListN.{length};
 ghost use Rattle.page.specs.Buffer.{bufferBytes};
 use desk::Desk;
-use made::damage::CELL_AT;
-use made::damage::try_cells;
-use made::damage::try_desk;
-use made::damage::try_easts;
-use made::damage::try_edges;
-use made::damage::try_field;
-use made::damage::try_marks;
-use made::damage::try_norths;
-use made::damage::try_report;
-use made::damage::try_waiting;
-use made::small;
-use made::small::CUT;
-use made::small::HIGH_FIRST;
-use made::small::LAST;
-use made::small::LOW_FIRST;
+use show_made::damage::CELL_AT;
+use show_made::damage::try_cells;
+use show_made::damage::try_desk;
+use show_made::damage::try_easts;
+use show_made::damage::try_edges;
+use show_made::damage::try_field;
+use show_made::damage::try_marks;
+use show_made::damage::try_norths;
+use show_made::damage::try_report;
+use show_made::damage::try_waiting;
+use show_made::small;
+use show_made::small::CUT;
+use show_made::small::HIGH_FIRST;
+use show_made::small::LAST;
+use show_made::small::LOW_FIRST;
 
 pub fn show_desk(desk: Desk, buffer: &mut [u8])
     requires { ⌜ length (now buffer) ≡ bufferBytes ⌝ }

@@ -3,8 +3,8 @@ mod desk_clauses;
 mod limits;
 mod radio_clauses;
 
-use made::damage;
-use made::small;
+use show_made::damage;
+use show_made::small;
 use page::BUFFER_BYTES;
 
 fn main() {

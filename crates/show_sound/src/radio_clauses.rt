@@ -1,13 +1,13 @@
 // The clauses on radios, memo and entries together.
 use desk::Desk;
-use made::damage::try_desk;
-use made::damage::try_line;
-use made::damage::try_line_7;
-use made::damage::try_line_10;
-use made::damage::try_marks;
-use made::damage::try_memo;
-use made::damage::try_waiting;
-use made::small;
+use show_made::damage::try_desk;
+use show_made::damage::try_line;
+use show_made::damage::try_line_7;
+use show_made::damage::try_line_10;
+use show_made::damage::try_marks;
+use show_made::damage::try_memo;
+use show_made::damage::try_waiting;
+use show_made::small;
 
 pub fn show_radios(desk: Desk, buffer: &[u8]) {
     show_on(desk, buffer);

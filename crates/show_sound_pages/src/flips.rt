@@ -5,8 +5,8 @@ ghost use lib.ListN.{length};
 ghost use Rattle.terms.specs.Terms.{pages};
 ghost use Rattle.page.specs.Buffer.{bufferBytes};
 use desk::Desk;
-use made::damage::say_count;
-use made::small;
+use show_made::damage::say_count;
+use show_made::small;
 use page::PAGE_BYTES;
 
 fn flip(buffer: &mut [u8], at: usize, bit: u8)

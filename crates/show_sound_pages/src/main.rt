@@ -2,8 +2,8 @@
 mod flips;
 mod page_clauses;
 
-use made::damage;
-use made::small;
+use show_made::damage;
+use show_made::small;
 use page::BUFFER_BYTES;
 
 fn main() {

@@ -14,7 +14,7 @@ use Rattle.sound_desk.specs.Sound.{deskSound, shown, Shaped}
 use Rattle.sound_pages.specs.PagesSound.{PagesSound}
 use Rattle.sound_pages.proofs.StoreLaws.{desk-pages}
 use Rattle.terms.specs.Terms.{Place}
-use Rattle.entry_walk.specs.Entries.{rowsRead}
+use Rattle.sound_entries.specs.Entries.{rowsRead}
 use Rattle.sound_radios.specs.Entries.{entriesTest}
 use Rattle.sound_radios.proofs.ReadLaws.{rows-read}
 use Rattle.sound.proofs.StoreLaws.{radios-sound, sound-radios, sound-desk}

@@ -17,10 +17,10 @@ use Rattle.desk.specs.Sound.{Sound}
 use Rattle.desk.proofs.PagesLaws.{PagesOnce}
 use Rattle.desk.proofs.ReadLaws.{Paged}
 use Rattle.desk.proofs.UniqueLaws.{take-slots, same-store}
-use Rattle.mirror.specs.Cells.{rowsOf, chainTest, radiosTest, insideTest}
-use Rattle.mirror.proofs.LoopsLaws.{each-to-map}
-use Rattle.mirror.proofs.CellsLaws.{true-pages, true-chain, true-radios, true-inside}
-use Rattle.mirror.proofs.WellLaws.{Passes, passes-well, well-passes}
+use Rattle.sound_clauses.specs.Cells.{rowsOf, chainTest, radiosTest, insideTest}
+use Rattle.sound_clauses.proofs.LoopsLaws.{each-to-map}
+use Rattle.sound_clauses.proofs.CellsLaws.{true-pages, true-chain, true-radios, true-inside}
+use Rattle.sound_clauses.proofs.WellLaws.{Passes, passes-well, well-passes}
 use Rattle.sweep.proofs.CellLaws.{well-memo}
 use Rattle.sound_desk.specs.Sound.{deskSound, shown, DeskTests, Shaped}
 use Rattle.sound_desk.proofs.DeskLaws.{desk-shown, desk-store, tested-desk, well-tests}

@@ -24,13 +24,13 @@ use Rattle.desk.specs.declared.Desk.{Desk}
 use Rattle.desk.specs.Layout.{lineSlots, slotted, cutListOf, slotOf, noSlot, directoryOf, gridOf, deskOf}
 use Rattle.desk.specs.Views.{cutsBy, slotsIn, directoryWith, edgesOf as rectOf}
 use Rattle.desk.proofs.UniqueLaws.{same-cuts, same-slots, same-waiting, same-memo, same-on, same-tally}
-use Rattle.mirror.specs.Grid.{edgesTest, tileTest}
-use Rattle.mirror.specs.Cells.{numbersOf, edgesOf, rowsOf, numbersTest, roundTest}
-use Rattle.mirror.specs.Radios.{staleAt, lineTest, linesTest}
-use Rattle.mirror.specs.Round.{tallyTest}
-use Rattle.mirror.specs.Waiting.{fewTest}
-use Rattle.mirror.proofs.LoopsLaws.{all-both}
-use Rattle.mirror.proofs.WellLaws.{Passes}
+use Rattle.sound_clauses.specs.Grid.{edgesTest, tileTest}
+use Rattle.sound_clauses.specs.Cells.{numbersOf, edgesOf, rowsOf, numbersTest, roundTest}
+use Rattle.sound_clauses.specs.Radios.{staleAt, lineTest, linesTest}
+use Rattle.sound_clauses.specs.Round.{tallyTest}
+use Rattle.sound_clauses.specs.Waiting.{fewTest}
+use Rattle.sound_clauses.proofs.LoopsLaws.{all-both}
+use Rattle.sound_clauses.proofs.WellLaws.{Passes}
 use Rattle.sound_grid.specs.Views.{rectsIn}
 use Rattle.sound_grid.specs.Sound.{edgesSound, tileSound, gridSound}
 use Rattle.sound_directory.specs.Sound.{slotsTest, cutsSound, directorySound}

@@ -19,8 +19,8 @@ use Rattle.desk.specs.declared.CutList.{CutList}
 use Rattle.desk.specs.declared.Waiting.{Waiting}
 use Rattle.desk.specs.Layout.{noReport}
 use Rattle.desk.specs.Views.{cutsBy}
-use Rattle.mirror.specs.Waiting.{fewTest}
-use Rattle.mirror.proofs.WaitingLaws.{few-true, true-few}
+use Rattle.sound_clauses.specs.Waiting.{fewTest}
+use Rattle.sound_clauses.proofs.WaitingLaws.{few-true, true-few}
 use Rattle.boxes.specs.Boxes.{tableSize, boxAt, Crowd}
 use Rattle.boxes.specs.declared.Stripes.{Stripes}
 use Rattle.boxes.proofs.CrowdLaws.{few-cuts, box-in, in-box, none-wait, wait-last, crowd-start, crowd-here, crowd-turn}

@@ -25,9 +25,9 @@ use Rattle.desk.proofs.LinesLaws.{lines-laid, words-laid, length-lines-in}
 use Rattle.desk.proofs.UniqueLaws.{take-waiting, take-memo}
 use Rattle.memo.specs.Memo.{rowOf, linesOf}
 use Rattle.memo.proofs.MemoLaws.{lines-memo, count-memo}
-use Rattle.mirror.specs.Loops.{risesTo, keys}
-use Rattle.mirror.specs.Radios.{onTest, memoTest, lastsTest}
-use Rattle.mirror.specs.Waiting.{waitingTest, placesTest}
+use Rattle.sound_clauses.specs.Loops.{risesTo, keys}
+use Rattle.sound_clauses.specs.Radios.{onTest, memoTest, lastsTest}
+use Rattle.sound_clauses.specs.Waiting.{waitingTest, placesTest}
 use Rattle.sound_directory.specs.Sound.{slotsTest, number}
 use Rattle.sound_directory.proofs.SlotLaws.{slots-used, slots-slotted, slotted-slots}
 use Rattle.waiting.specs.Waiting.{rowOf as reportRow, reportsOf}

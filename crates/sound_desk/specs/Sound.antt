@@ -19,11 +19,11 @@ use Rattle.desk.specs.declared.Desk.{Desk}
 use Rattle.desk.specs.Layout.{lineSlots, lineFields}
 use Rattle.desk.specs.Views.{cutsBy, radiosOf, slotsIn}
 use Rattle.memo.specs.Memo.{linesOf}
-use Rattle.mirror.specs.Grid.{cutsTest, edgesTest, tileTest}
-use Rattle.mirror.specs.Cells.{numbersOf, edgesOf, numbersTest, roundTest}
-use Rattle.mirror.specs.Radios.{onTest, memoTest, lastsTest}
-use Rattle.mirror.specs.Round.{tallyTest}
-use Rattle.mirror.specs.Waiting.{waitingTest, placesTest, fewTest}
+use Rattle.sound_clauses.specs.Grid.{cutsTest, edgesTest, tileTest}
+use Rattle.sound_clauses.specs.Cells.{numbersOf, edgesOf, numbersTest, roundTest}
+use Rattle.sound_clauses.specs.Radios.{onTest, memoTest, lastsTest}
+use Rattle.sound_clauses.specs.Round.{tallyTest}
+use Rattle.sound_clauses.specs.Waiting.{waitingTest, placesTest, fewTest}
 use Rattle.sound_grid.specs.Sound.{gridSound}
 use Rattle.waiting.specs.Waiting.{reportsOf}
 use Rattle.sound_rows.specs.Sound.{onSound, waitingSound, missedTest, memoSound}

@@ -13,8 +13,8 @@ use Rattle.desk.specs.declared.CutList.{CutList}
 use Rattle.desk.specs.Layout.{cutListOf}
 use Rattle.desk.specs.Views.{cutsIn}
 use Rattle.desk.proofs.UniqueLaws.{take-cuts}
-use Rattle.mirror.specs.Loops.{risesTo}
-use Rattle.mirror.specs.Grid.{cutsTest}
+use Rattle.sound_clauses.specs.Loops.{risesTo}
+use Rattle.sound_clauses.specs.Grid.{cutsTest}
 use Rattle.sound_directory.specs.Sound.{weighs, slotsTest, number, cutsSound}
 use Rattle.sound_directory.proofs.LoopLaws.{true-both, few-used}
 use Rattle.sound_directory.proofs.SlotLaws.{slots-long, slots-unclear, slots-clear, slots-used, slots-slotted, slotted-slots}

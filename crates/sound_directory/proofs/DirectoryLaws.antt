@@ -21,8 +21,8 @@ use Rattle.desk.specs.declared.Directory.{Directory}
 use Rattle.desk.specs.Layout.{noSlot}
 use Rattle.desk.specs.Views.{slotsIn, directoryWith}
 use Rattle.desk.proofs.UniqueLaws.{take-slotted}
-use Rattle.mirror.specs.Cells.{numbersTest, roundTest}
-use Rattle.mirror.proofs.LoopsLaws.{all-false, at-most-twice, marks-at-most}
+use Rattle.sound_clauses.specs.Cells.{numbersTest, roundTest}
+use Rattle.sound_clauses.proofs.LoopsLaws.{all-false, at-most-twice, marks-at-most}
 use Rattle.sound_directory.specs.Views.{numbersIn}
 use Rattle.sound_directory.specs.Sound.{weighs, slotsTest, slotWeight, namesSound, directorySound}
 use Rattle.sound_directory.proofs.LoopLaws.{true-both, same-at}

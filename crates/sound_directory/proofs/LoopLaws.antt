@@ -13,8 +13,8 @@ use Rattle.lists.specs.Sums.{sumBy}
 use Rattle.lists.specs.Tests.{both, all}
 use Rattle.lists.proofs.Cases.{by-cases}
 use Rattle.lists.proofs.TestsLaws.{both-left-false, both-true, not-true, not-false, and-both}
-use Rattle.mirror.specs.Loops.{risesTo}
-use Rattle.mirror.proofs.LoopsLaws.{rises-nil, rises-cons}
+use Rattle.sound_clauses.specs.Loops.{risesTo}
+use Rattle.sound_clauses.proofs.LoopsLaws.{rises-nil, rises-cons}
 use Rattle.sound_directory.specs.Sound.{weighs, number}
 
 -- ---- lists

@@ -12,8 +12,8 @@ use Rattle.desk.specs.declared.CutList.{CutList}
 use Rattle.desk.specs.declared.Slot.{Slot}
 use Rattle.desk.specs.declared.Directory.{Directory}
 use Rattle.desk.specs.Views.{cutsIn}
-use Rattle.mirror.specs.Grid.{cutsTest}
-use Rattle.mirror.specs.Cells.{numbersTest, roundTest}
+use Rattle.sound_clauses.specs.Grid.{cutsTest}
+use Rattle.sound_clauses.specs.Cells.{numbersTest, roundTest}
 use Rattle.sound_directory.specs.Views.{numbersIn}
 
 module _ {A : Type 0} where

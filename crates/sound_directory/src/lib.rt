@@ -7,7 +7,7 @@ ghost use lib.Dec.{eqb, leb, ltb};
 ghost use lib.ListN.{length, take};
 ghost use Rattle.lists.specs.Tests.{both};
 ghost use Rattle.rules.specs.Limits.{maxCells};
-ghost use Rattle.mirror.specs.Loops.{risesTo};
+ghost use Rattle.sound_clauses.specs.Loops.{risesTo};
 ghost use Rattle.sound_directory.specs.Sound.{weighs, mostField, number, cutsSound, slotWeight, namesSound, directorySound};
 use desk::CutList;
 use desk::Desk;

@@ -12,11 +12,11 @@ use Rattle.boxes.specs.Boxes.{maxStripes}
 use Rattle.desk.specs.declared.CutList.{CutList}
 use Rattle.desk.specs.declared.Slot.{Slot}
 use Rattle.desk.specs.Views.{cutsIn, cutsBy, edgesOf as rectOf}
-use Rattle.mirror.specs.Grid.{cutsTest, spanTest, edgesTest, stripes}
-use Rattle.mirror.proofs.GridLaws.{cuts-true}
-use Rattle.edges.specs.declared.Extent.{Extent}
-use Rattle.edges.specs.declared.Extent.the-variants.{Whole, Broken}
-use Rattle.edges.specs.Edges.{extentOf}
+use Rattle.sound_clauses.specs.Grid.{cutsTest, spanTest, edgesTest, stripes}
+use Rattle.sound_clauses.proofs.GridLaws.{cuts-true}
+use Rattle.sound_edges.specs.declared.Extent.{Extent}
+use Rattle.sound_edges.specs.declared.Extent.the-variants.{Whole, Broken}
+use Rattle.sound_edges.specs.Edges.{extentOf}
 use Rattle.sound_directory.specs.Sound.{slotsTest, number, cutsSound}
 
 extent-broken : (b : Bool) (s : Span) {o : Extent} → o ≡ extentOf b s → o ≡ Broken → b ≡ false

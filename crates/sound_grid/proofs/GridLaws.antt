@@ -9,7 +9,7 @@ use Rattle.desk.specs.declared.Slot.{Slot}
 use Rattle.desk.specs.declared.Directory.{Directory}
 use Rattle.desk.specs.Layout.{noSlot}
 use Rattle.desk.specs.Views.{cutsBy, slotsIn, edgesOf as rectOf}
-use Rattle.mirror.specs.Grid.{edgesTest}
+use Rattle.sound_clauses.specs.Grid.{edgesTest}
 use Rattle.sound_grid.specs.Sound.{edgesSound}
 use Rattle.sound_directory.proofs.LoopLaws.{all-map}
 use Rattle.sound_grid.proofs.LoopLaws.{Passes, pass-fails, pass-turn, pass-end}

@@ -25,12 +25,12 @@ use Rattle.desk.specs.declared.Slot.{Slot}
 use Rattle.desk.specs.declared.Directory.{Directory}
 use Rattle.desk.specs.Layout.{noSlot}
 use Rattle.desk.specs.Views.{cutsIn, cutsBy, slotsIn, edgesOf as rectOf}
-use Rattle.mirror.specs.Loops.{allTo}
-use Rattle.mirror.specs.Grid.{cutsTest, spanTest, edgesTest, stripes, holdsBox, holdingBox, tileBoxesTest}
-use Rattle.mirror.proofs.LoopsLaws.{allTo-zero, allTo-suc, allTo-false, allTo-ext, all-allTo}
-use Rattle.mirror.proofs.GridLaws.{WholeBoxes, by-axis, cuts-true, edges-true, tile-boxes}
-use Rattle.edges.specs.declared.Extent.{Extent}
-use Rattle.edges.specs.declared.Extent.the-variants.{Whole}
+use Rattle.sound_clauses.specs.Loops.{allTo}
+use Rattle.sound_clauses.specs.Grid.{cutsTest, spanTest, edgesTest, stripes, holdsBox, holdingBox, tileBoxesTest}
+use Rattle.sound_clauses.proofs.LoopsLaws.{allTo-zero, allTo-suc, allTo-false, allTo-ext, all-allTo}
+use Rattle.sound_clauses.proofs.GridLaws.{WholeBoxes, by-axis, cuts-true, edges-true, tile-boxes}
+use Rattle.sound_edges.specs.declared.Extent.{Extent}
+use Rattle.sound_edges.specs.declared.Extent.the-variants.{Whole}
 use Rattle.sound_grid.specs.Views.{rectsIn}
 use Rattle.boxes.specs.Boxes.{maxStripes, tableSize, boxAt}
 use Rattle.sound_grid.specs.Sound.{edgesSound, several, Raised, RaisedIf, inRow, inStripes, holders, rowOnce, rowsOnce, tileSound}

@@ -11,8 +11,8 @@ use Rattle.rules.specs.Grid.{within, Rect, Cuts, Box}
 use Rattle.desk.specs.declared.CutList.{CutList}
 use Rattle.desk.specs.declared.Directory.{Directory}
 use Rattle.desk.specs.Views.{cutsBy}
-use Rattle.mirror.specs.Loops.{allTo}
-use Rattle.mirror.specs.Grid.{edgesTest, holdingBox, tileTest}
+use Rattle.sound_clauses.specs.Loops.{allTo}
+use Rattle.sound_clauses.specs.Grid.{edgesTest, holdingBox, tileTest}
 use Rattle.boxes.specs.Boxes.{maxStripes, tableSize, boxAt}
 use Rattle.sound_directory.specs.Sound.{cutsSound, directorySound}
 use Rattle.sound_grid.specs.Views.{rectsIn}

@@ -7,7 +7,7 @@ ghost use lib.ListN.{length};
 ghost use Rattle.lists.specs.Tests.{both};
 ghost use Rattle.rules.specs.Limits.{maxCells, maxCuts};
 ghost use Rattle.desk.specs.Views.{cutsBy, edgesOf as rectOf};
-ghost use Rattle.mirror.specs.Grid.{edgesTest};
+ghost use Rattle.sound_clauses.specs.Grid.{edgesTest};
 ghost use Rattle.boxes.specs.Boxes.{maxStripes, tableSize};
 ghost use Rattle.sound_directory.specs.Sound.{cutsSound};
 ghost use Rattle.sound_grid.specs.Sound.{edgesSound, several, Raised, RaisedIf, inRow, inStripes, holders, rowOnce, rowsOnce, tileSound, gridSound};
@@ -17,8 +17,8 @@ use boxes::STRIPES;
 use desk::CutList;
 use desk::Directory;
 use desk::Slot;
-use edges::Extent;
-use edges::extent_of;
+use sound_edges::Extent;
+use sound_edges::extent_of;
 
 const ONCE: u8 = 1;
 

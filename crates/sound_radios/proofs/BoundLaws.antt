@@ -11,10 +11,10 @@ use borrow.Author.Tests.{le-leb, lt-leb}
 use Rattle.lists.specs.Tests.{both}
 use Rattle.lists.proofs.TestsLaws.{both-true, both-right-false}
 use Rattle.rules.specs.Limits.{maxCells, fullMemory, sweepEvery}
-use Rattle.mirror.specs.Loops.{allTo}
-use Rattle.mirror.specs.Round.{fromPlace, boundTest}
-use Rattle.mirror.proofs.LoopsLaws.{allTo-zero, allTo-suc}
-use Rattle.mirror.proofs.RoundLaws.{from-end, from-step}
+use Rattle.sound_clauses.specs.Loops.{allTo}
+use Rattle.sound_clauses.specs.Round.{fromPlace, boundTest}
+use Rattle.sound_clauses.proofs.LoopsLaws.{allTo-zero, allTo-suc}
+use Rattle.sound_clauses.proofs.RoundLaws.{from-end, from-step}
 
 -- places from i on pass, and the stale entries there, with all waiting, are sum: what is left to test is the test
 pub record Bounding (counts : List ℕ) (n w c sum i : ℕ) : Type 0 where

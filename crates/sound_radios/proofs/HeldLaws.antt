@@ -15,8 +15,8 @@ use Rattle.lists.specs.Tests.{Each}
 use Rattle.lists.proofs.Cases.{by-cases}
 use Rattle.lists.proofs.RowsLaws.{find-below}
 use Rattle.lists.proofs.SumsLaws.{sum-nil, sum-cons}
-use Rattle.balance.specs.Tables.{fieldEnd, added, written}
-use Rattle.balance.proofs.TableLaws.{addedOne, added-nil, added-cons}
+use Rattle.sound_balance.specs.Tables.{fieldEnd, added, written}
+use Rattle.sound_balance.proofs.TableLaws.{addedOne, added-nil, added-cons}
 
 -- ---- sums that go round
 

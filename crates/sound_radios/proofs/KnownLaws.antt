@@ -18,15 +18,15 @@ use Rattle.desk.specs.Layout.{lineSlots, directoryOf, gridOf, waitingOf, memoOf
 use Rattle.desk.specs.Views.{linesIn, radiosOf, slotsIn}
 use Rattle.desk.proofs.LinesLaws.{length-lines-in}
 use Rattle.memo.specs.Memo.{linesOf}
-use Rattle.mirror.proofs.RadiosLaws.{on-true, memo-true}
-use Rattle.mirror.proofs.WaitingLaws.{waiting-true}
+use Rattle.sound_clauses.proofs.RadiosLaws.{on-true, memo-true}
+use Rattle.sound_clauses.proofs.WaitingLaws.{waiting-true}
 use Rattle.sound_pages.specs.PagesSound.{PagesSound}
 use Rattle.waiting.specs.Waiting.{reportsOf}
 use Rattle.sound_rows.specs.Sound.{missedTest}
 use Rattle.sound_desk.specs.Views.{cellOf}
 use Rattle.sound_desk.specs.Sound.{deskSound, Shaped}
 use Rattle.sound_desk.proofs.DeskLaws.{desk-shown, desk-tested}
-use Rattle.entry_walk.specs.Entries.{rowsRead}
+use Rattle.sound_entries.specs.Entries.{rowsRead}
 use Rattle.sound_radios.specs.Entries.{keyed}
 use Rattle.sound_radios.proofs.ReadLaws.{one-row, radios-read, once-read}
 

@@ -18,14 +18,14 @@ use Rattle.desk.specs.declared.Directory.{Directory}
 use Rattle.desk.specs.Layout.{slotOf}
 use Rattle.desk.specs.Views.{slotsIn}
 use Rattle.desk.proofs.ReadLaws.{CellRead, Paged, cells-read, pages-enough}
-use Rattle.mirror.specs.Loops.{passing}
-use Rattle.mirror.specs.Cells.{rowsOf}
-use Rattle.mirror.proofs.LoopsLaws.{passing-found, passing-concat}
+use Rattle.sound_clauses.specs.Loops.{passing}
+use Rattle.sound_clauses.specs.Cells.{rowsOf}
+use Rattle.sound_clauses.proofs.LoopsLaws.{passing-found, passing-concat}
 use Rattle.sweep.specs.Sweep.{entriesOn}
 use Rattle.sound_pages.specs.PagesSound.{CellSound, PagesSound}
 use Rattle.sound_pages.proofs.StoreLaws.{store-once, store-laid}
 use Rattle.sound_rows.proofs.CodeLaws.{map-map}
-use Rattle.entry_walk.specs.Entries.{entriesFrom, rowsRead}
+use Rattle.sound_entries.specs.Entries.{entriesFrom, rowsRead}
 use Rattle.sound_radios.specs.Entries.{keyed}
 
 map-each : {A B : Type 0} (f g : A → B) (l : List A) → Each (λ x. f x ≡ g x) l → map f l ≡ map g l

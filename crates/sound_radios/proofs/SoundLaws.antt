@@ -17,12 +17,12 @@ use Rattle.desk.specs.declared.Desk.{Desk}
 use Rattle.desk.specs.Layout.{lineSlots}
 use Rattle.desk.specs.Views.{radiosOf}
 use Rattle.memo.specs.Memo.{linesOf}
-use Rattle.mirror.specs.Radios.{onAt, presentTest, unmarkedTest, linesTest}
-use Rattle.mirror.specs.Round.{staleCount, staleCounts, boundTest}
+use Rattle.sound_clauses.specs.Radios.{onAt, presentTest, unmarkedTest, linesTest}
+use Rattle.sound_clauses.specs.Round.{staleCount, staleCounts, boundTest}
 use Rattle.sound_directory.proofs.LoopLaws.{stops, goes}
 use Rattle.waiting.specs.Waiting.{reportsOf}
-use Rattle.balance.specs.Tables.{Blank, added, written, Named, markNew, belongsBy, missedOff, oneOff, allSettled}
-use Rattle.entry_walk.specs.Entries.{rowsRead, weigh, staleSum}
+use Rattle.sound_balance.specs.Tables.{Blank, added, written, Named, markNew, belongsBy, missedOff, oneOff, allSettled}
+use Rattle.sound_entries.specs.Entries.{rowsRead, weigh, staleSum}
 use Rattle.sound_radios.specs.Entries.{entriesTest}
 use Rattle.sound_radios.proofs.KnownLaws.{Known}
 use Rattle.sound_radios.proofs.TestLaws.{belong-unmarked, balance-counts, settled-tests}

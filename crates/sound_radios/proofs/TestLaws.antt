@@ -20,12 +20,12 @@ use Rattle.lists.proofs.TestsLaws.{both-left, both-right, both-intro, one-if-le
 use Rattle.rules.specs.Limits.{maxCells, fullMemory}
 use Rattle.rules.specs.Store.{Report, Line}
 use Rattle.rules.specs.Sweep.{stale}
-use Rattle.mirror.specs.Loops.{passing}
-use Rattle.mirror.specs.Radios.{liveAt, staleAt, newAt, onAt, entriesAt, presentTest, unmarkedTest, lineTest, linesTest, missedAt}
-use Rattle.mirror.proofs.LoopsLaws.{bool-same, allTo-true, true-allTo, passing-found}
-use Rattle.mirror.proofs.RadiosLaws.{stale-live, stale-missed}
-use Rattle.balance.specs.Tables.{tableSize, fieldEnd, half, Blank, added, written, markNew, belongsBy, missedOff, oneOff, allSettled}
-use Rattle.entry_walk.specs.Entries.{weigh}
+use Rattle.sound_clauses.specs.Loops.{passing}
+use Rattle.sound_clauses.specs.Radios.{liveAt, staleAt, newAt, onAt, entriesAt, presentTest, unmarkedTest, lineTest, linesTest, missedAt}
+use Rattle.sound_clauses.proofs.LoopsLaws.{bool-same, allTo-true, true-allTo, passing-found}
+use Rattle.sound_clauses.proofs.RadiosLaws.{stale-live, stale-missed}
+use Rattle.sound_balance.specs.Tables.{tableSize, fieldEnd, half, Blank, added, written, markNew, belongsBy, missedOff, oneOff, allSettled}
+use Rattle.sound_entries.specs.Entries.{weigh}
 use Rattle.sound_radios.specs.Entries.{keyed}
 use Rattle.sound_radios.proofs.HeldLaws.{Comes, share, added-comes, foundOr, written-found, length-added, length-written}
 

@@ -8,9 +8,9 @@ use Rattle.lists.specs.Rows.{Rows}
 use Rattle.lists.specs.Sums.{concat}
 use Rattle.lists.specs.Tests.{both}
 use Rattle.rules.specs.Store.{Report, Line}
-use Rattle.mirror.specs.Loops.{passing}
-use Rattle.mirror.specs.Radios.{presentTest, unmarkedTest, linesTest}
-use Rattle.mirror.specs.Round.{staleCounts, boundTest}
+use Rattle.sound_clauses.specs.Loops.{passing}
+use Rattle.sound_clauses.specs.Radios.{presentTest, unmarkedTest, linesTest}
+use Rattle.sound_clauses.specs.Round.{staleCounts, boundTest}
 
 -- how many rows have the key
 abbrev pub keyed : {Val : Type 0} → ℕ → Rows Val → ℕ

@@ -7,26 +7,26 @@ ghost use Rattle.rules.specs.Limits.{maxCells, fullMemory, sweepEvery};
 ghost use Rattle.desk.specs.Layout.{lineSlots, lineFields};
 ghost use Rattle.desk.specs.Views.{radiosOf};
 ghost use Rattle.memo.specs.Memo.{memoIn, linesOf};
-ghost use Rattle.mirror.specs.Round.{boundTest};
+ghost use Rattle.sound_clauses.specs.Round.{boundTest};
 ghost use Rattle.sound_pages.specs.PagesSound.{PagesSound};
 ghost use Rattle.waiting.specs.Waiting.{reportsOf};
 ghost use Rattle.sound_desk.specs.Sound.{deskSound};
-ghost use Rattle.entry_walk.specs.Entries.{rowsRead};
+ghost use Rattle.sound_entries.specs.Entries.{rowsRead};
 ghost use Rattle.sound_radios.specs.Entries.{entriesTest};
-use balance::RADIOS;
-use balance::SETTLED;
-use balance::all_settled;
-use balance::lines_due;
-use balance::on_due;
-use balance::tally_new;
+use sound_balance::RADIOS;
+use sound_balance::SETTLED;
+use sound_balance::all_settled;
+use sound_balance::lines_due;
+use sound_balance::on_due;
+use sound_balance::tally_new;
 use desk::Desk;
 use desk::Grid;
 use desk::On;
 use desk::Waiting;
-use entry_walk::CELLS;
-use entry_walk::NO_LINE;
-use entry_walk::long;
-use entry_walk::tally_cells;
+use sound_entries::CELLS;
+use sound_entries::NO_LINE;
+use sound_entries::long;
+use sound_entries::tally_cells;
 
 // "16 × (63 − k) + c + 127"
 fn bound_at(k: usize, c: u16) -> usize

@@ -10,8 +10,8 @@ use Rattle.terms.specs.Terms.{maxRadio}
 use Rattle.lists.specs.Tests.{both, all}
 use Rattle.lists.proofs.Cases.{by-cases}
 use Rattle.lists.proofs.TestsLaws.{both-intro, both-left-false, both-right-false, all-cons, not-true, not-false}
-use Rattle.mirror.specs.Loops.{risesTo}
-use Rattle.mirror.proofs.LoopsLaws.{rises-nil, rises-cons}
+use Rattle.sound_clauses.specs.Loops.{risesTo}
+use Rattle.sound_clauses.proofs.LoopsLaws.{rises-nil, rises-cons}
 use Rattle.sound_directory.proofs.LoopLaws.{true-both, all-nil, used-cons, used-none}
 
 -- radios that rise, from above b, and every element passes

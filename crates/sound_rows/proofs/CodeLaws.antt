@@ -23,11 +23,11 @@ use Rattle.desk.specs.declared.On.{On}
 use Rattle.desk.specs.Layout.{lineSlots, lineFields}
 use Rattle.desk.specs.Views.{linesIn, radioRow, radiosOf}
 use Rattle.memo.specs.Memo.{lastOf, rowOf, linesOf}
-use Rattle.mirror.specs.Loops.{risesTo, keys}
-use Rattle.mirror.specs.Grid.{placeTest}
-use Rattle.mirror.specs.Radios.{onTest, memoTest, lastTest, lastsTest}
-use Rattle.mirror.specs.Waiting.{waitingTest, placesTest}
-use Rattle.mirror.proofs.LoopsLaws.{all-both}
+use Rattle.sound_clauses.specs.Loops.{risesTo, keys}
+use Rattle.sound_clauses.specs.Grid.{placeTest}
+use Rattle.sound_clauses.specs.Radios.{onTest, memoTest, lastTest, lastsTest}
+use Rattle.sound_clauses.specs.Waiting.{waitingTest, placesTest}
+use Rattle.sound_clauses.proofs.LoopsLaws.{all-both}
 use Rattle.sound_directory.specs.Sound.{weighs, number}
 use Rattle.sound_directory.proofs.LoopLaws.{true-both, all-map, few-used, Weighed, weighed-end}
 use Rattle.sound_directory.proofs.SlotLaws.{slots-long, slots-heavy, slots-fit, slots-unclear, slots-clear}

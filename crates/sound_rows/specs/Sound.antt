@@ -17,9 +17,9 @@ use Rattle.desk.specs.declared.On.{On}
 use Rattle.desk.specs.Layout.{lineSlots}
 use Rattle.desk.specs.Views.{linesIn, radiosOf}
 use Rattle.memo.specs.Memo.{lastOf, linesOf}
-use Rattle.mirror.specs.Grid.{placeTest}
-use Rattle.mirror.specs.Radios.{onTest, memoTest, lastTest, lastsTest}
-use Rattle.mirror.specs.Waiting.{waitingTest, placesTest}
+use Rattle.sound_clauses.specs.Grid.{placeTest}
+use Rattle.sound_clauses.specs.Radios.{onTest, memoTest, lastTest, lastsTest}
+use Rattle.sound_clauses.specs.Waiting.{waitingTest, placesTest}
 use Rattle.sound_directory.specs.Sound.{slotsTest, number}
 use Rattle.waiting.specs.Waiting.{reportsOf}
 use Rattle.sound_rows.specs.Views.{placeOf}

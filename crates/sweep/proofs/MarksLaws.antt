@@ -25,8 +25,8 @@ use Rattle.rules.proofs.BooksLaws.{loweredIf, find-sweptMemo}
 use Rattle.desk.specs.declared.Memo.{Memo}
 use Rattle.desk.specs.Layout.{lineSlots, memoOf}
 use Rattle.memo.specs.Memo.{linesOf, Whole}
-use Rattle.lowering.specs.Lowering.{lowerIf, lowerWhere, markOf}
-use Rattle.lowering.proofs.LowerLaws.{isSome-kept, in-slots}
+use Rattle.memo_sweep.specs.Lowering.{lowerIf, lowerWhere, markOf}
+use Rattle.memo_sweep.proofs.LowerLaws.{isSome-kept, in-slots}
 use Rattle.sweep.specs.Sweep.{linePlaces, lastsOf, elsewhere, isStale, stay, marked, SweepsAll}
 use Rattle.sweep.proofs.TableLaws.{rank-map}
 use Rattle.sweep.proofs.SweepLaws.{rising-sweptMemo}

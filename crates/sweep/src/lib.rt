@@ -17,8 +17,8 @@ ghost use Rattle.sweep.specs.Sweep.{entriesOn, linePlaces, radiosIn, las
 use desk::Desk;
 use entries::Entries;
 use entries::Entry;
-use lowering::PLACES;
-use lowering::UNPLACED;
+use memo_sweep::PLACES;
+use memo_sweep::UNPLACED;
 use page::Chain;
 
 // What stays of the entries read, and how many lines the memo then has.
@@ -154,7 +154,7 @@ fn sweep_page<'a>(
         let slot = slot_after(k);
         let old = all[slot];
         all[slot] = entry_or(stale, old, e);
-        k = k + lowering::one_if(!stale);
+        k = k + memo_sweep::one_if(!stale);
         i += 1;
     }
     Entries { n: k, all }
@@ -214,6 +214,6 @@ pub fn sweep_chain<'a>(
     );
     Swept {
         table,
-        lines: lowering::lowered(words, n, &marks),
+        lines: memo_sweep::lowered(words, n, &marks),
     }
 }

@@ -7,7 +7,7 @@
 #![forbid(unsafe_code)]
 mod made;
 
-use beside::{Plain, Xorshift};
+use conformance::{Plain, Xorshift};
 use boragefile::{Record, Store, LIST_BYTES, PAGE_BYTES};
 use made::made_store;
 use std::f64::consts::TAU;

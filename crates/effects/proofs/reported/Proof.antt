@@ -1,7 +1,7 @@
 use native.Mathlib.Omega.{arith}
 use borrow.Author.Needs.{needs}
 use Rattle.desk.specs.Views.{deskWith}
-use Rattle.own.proofs.StoreLaws.{report-asks}
+use Rattle.own_effect.proofs.StoreLaws.{report-asks}
 use Rattle.effects.proofs.EffectLaws.{quiet-asks, effect-quiet}
 use Rattle.effects.proofs.OwnLaws.{report-effect, report-carries}
 use Rattle.effects.proofs.reported.Statement.{statement}

@@ -1,6 +1,6 @@
 use borrow.Author.Needs.{needs}
 use Rattle.desk.specs.Views.{deskWith}
-use Rattle.own.proofs.StoreLaws.{off-asks}
+use Rattle.own_effect.proofs.StoreLaws.{off-asks}
 use Rattle.effects.proofs.OwnLaws.{off-left, off-carries}
 use Rattle.effects.proofs.sign_off.Statement.{statement}
 use Rattle.effects.proofs.sign_off.Tie as tie

@@ -1,6 +1,6 @@
 use borrow.Author.Needs.{needs}
 use Rattle.desk.specs.Views.{deskWith}
-use Rattle.own.proofs.StoreLaws.{on-asks}
+use Rattle.own_effect.proofs.StoreLaws.{on-asks}
 use Rattle.effects.proofs.OwnLaws.{on-effect, on-carries}
 use Rattle.effects.proofs.sign_on.Statement.{statement}
 use Rattle.effects.proofs.sign_on.Tie as tie

@@ -1,5 +1,5 @@
 use borrow.Author.Needs.{needs}
-use Rattle.printer.proofs.PrinterLaws.{printed-none}
+use Rattle.journal_printer.proofs.PrinterLaws.{printed-none}
 use Rattle.journal.proofs.main.Statement.{statement}
 use Rattle.journal.proofs.main.Tie as tie
 

@@ -1,6 +1,6 @@
 -- Of the radios passed those found are kept.
 use Prim.Native.Nat.{_-_, _≤_}
-use Rattle.places.specs.Places.{rectOf, placesIn}
+use Rattle.range_places.specs.Places.{rectOf, placesIn}
 use Rattle.range.proofs.ListLaws.{on-radios, Kept, keep-start, keep-turn, keep-end}
 use borrow.Author.Needs.{needs}
 use Rattle.range.proofs.found_on.Statement.{statement}

@@ -3,7 +3,7 @@ use mathlib.Core.Path.{_≡_}
 use Prim.Native.Nat.{_+_, _-_, _*_, _≤_}
 use lib.ListN.{length}
 use Rattle.rules.specs.Limits.{maxCells, fullMemory}
-use Rattle.balance.specs.Tables.{fieldEnd}
+use Rattle.sound_balance.specs.Tables.{fieldEnd}
 use Rattle.sound_radios.proofs.BoundLaws.{Bounding, bounding-start, bounding-over, bounding-turn, bounding-end}
 use borrow.Author.Needs.{needs}
 use Rattle.sound_radios.proofs.bound_ok.Statement.{statement}

@@ -8,12 +8,12 @@ use Rattle.sound_radios.proofs.radios_sound.Statement.{statement}
 use Rattle.sound_radios.proofs.radios_sound.Tie as tie
 use Rattle.sound_radios.proofs.radios_sound.Reads as reads
 use Rattle.sound_radios.proofs.radios_sound.Lts as lts
-use Rattle.balance.proofs.all_settled.Reads as all-settled-reads
+use Rattle.sound_balance.proofs.all_settled.Reads as all-settled-reads
 use Rattle.sound_radios.proofs.bound_ok.Reads as bound-ok-reads
-use Rattle.balance.proofs.lines_due.Reads as lines-due-reads
-use Rattle.balance.proofs.on_due.Reads as on-due-reads
-use Rattle.entry_walk.proofs.tally_cells.Reads as tally-cells-reads
-use Rattle.balance.proofs.tally_new.Reads as tally-new-reads
+use Rattle.sound_balance.proofs.lines_due.Reads as lines-due-reads
+use Rattle.sound_balance.proofs.on_due.Reads as on-due-reads
+use Rattle.sound_entries.proofs.tally_cells.Reads as tally-cells-reads
+use Rattle.sound_balance.proofs.tally_new.Reads as tally-new-reads
 
 shown : (s : lts.Start (on-due-reads.Asked, on-due-reads.Learnt, lines-due-reads.Asked, lines-due-reads.Learnt, tally-new-reads.Asked, tally-new-reads.Learnt, tally-cells-reads.Asked, tally-cells-reads.Learnt, all-settled-reads.Asked, all-settled-reads.Learnt, bound-ok-reads.Asked, bound-ok-reads.Learnt) reads.Pre reads.Post)
     → Known (s .args .pages .now) (record { grid = s .args .grid; waiting = s .args .waiting; memo = record { n = s .args .n; words = s .args .words .now }; on = s .args .t6; tally = s .args .tally })

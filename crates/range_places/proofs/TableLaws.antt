@@ -1,0 +1,310 @@
+-- The table by radio: tests of edges, what a store in it does, and what the loops that lay rows over it keep.
+use mathlib.Core.Path.{_≡_, refl, sym, ap, _∙_, fun-ext, subst}
+use mathlib.Core.Bool.{Bool, true, false, not, cond}
+use mathlib.Core.List.{List, [], _∷_, _++_, map, map-append}
+use mathlib.Core.Logic.{_≢_}
+use mathlib.Core.Option.{Option, none, some}
+use Prim.Native.Nat.{ℕ, suc, _+_, _-_, _*_, _≤_, _<_}
+use native.Mathlib.Omega.{arith}
+use native.Mathlib.Numerals.{add-one}
+use lib.Dec.{eqb}
+use lib.ListN.{length, getD, set, take, length-set, length-take, length-map, List·getD-map}
+use lib.Seq.{getD-set-same, getD-set-other, take-suc, getD-take, take-all}
+use borrow.Author.Tests.{eqb-true, eqb-false, not-true}
+use Rattle.terms.specs.Terms.{Place, maxRadio, pages, noPage}
+use Rattle.lists.specs.Parts.{tab}
+use Rattle.lists.specs.Rows.{Row, Rows, UpTo}
+use Rattle.lists.specs.Sums.{concat}
+use Rattle.lists.specs.Tests.{Each}
+use Rattle.lists.proofs.Cases.{by-cases}
+use Rattle.lists.proofs.MapLaws.{map-take}
+use Rattle.lists.proofs.PartsLaws.{tab-suc}
+use Rattle.lists.proofs.TestsLaws.{each-tab, each-split, each-getD}
+use Rattle.entries.specs.declared.Entry.{Entry}
+use Rattle.entries.specs.Entries.{rowOf}
+use Rattle.page.specs.Page.{count, next, entryAt, entries}
+use Rattle.page.specs.Buffer.{pageAt, there, chainFrom}
+use Rattle.page.proofs.ChainLaws.{chain-ended, chain-not-there, chain-there, chain-out, was-there}
+use Rattle.rules.specs.Limits.{maxCells, fullMemory}
+use Rattle.rules.specs.Grid.{Rect}
+use Rattle.rules.specs.Plain.{putAt}
+use Rattle.desk.specs.declared.Slot.{Slot}
+use Rattle.desk.specs.declared.Directory.{Directory}
+use Rattle.desk.specs.declared.Line.{Line}
+use Rattle.desk.specs.declared.Memo.{Memo}
+use Rattle.desk.specs.declared.Report.{Report}
+use Rattle.desk.specs.declared.Waiting.{Waiting}
+use Rattle.desk.specs.Layout.{lineSlots, lineFields, noSlot, noLine, noReport}
+use Rattle.desk.specs.Views.{slotsIn, edgesOf, linesIn}
+use Rattle.desk.proofs.LinesLaws.{length-lines-in}
+use Rattle.memo.specs.Memo.{linesOf, rowOf as lineRow}
+use Rattle.waiting.specs.Waiting.{reportsOf, rowOf as reportRow}
+use Rattle.sweep.specs.Sweep.{entriesOn}
+use Rattle.range_places.specs.Places.{Places, noPlaces, placesIn, Columns, Holds, over, rowOver, entriesOver, linesOver, reportsOver, touches, entriesFrom, slotOver, placesOf}
+
+-- ---- the front of a table of structs
+
+module _ {A : Type 0} (xs : List A) (n i : ℕ) (d : A) (fits : n ≤ length xs) (more : i < n) where
+  pub taken-turn : take (i + 1) (take n xs) ≡ take i (take n xs) ++ (getD xs i d ∷ [])
+  taken-turn = rw add-one (take-suc (take n xs) i d (rw length-take (omega arith)) ∙ ap (λ (x : A). take i (take n xs) ++ (x ∷ [])) (getD-take n xs i d more))
+
+  pub mapped-turn : {B : Type 0} (g : A → B) → take (i + 1) (map g (take n xs)) ≡ take i (map g (take n xs)) ++ (g (getD xs i d) ∷ [])
+  mapped-turn {B} g =
+      sym (map-take g (i + 1) (take n xs)) ∙ ap (map g) taken-turn ∙ map-append g (take i (take n xs)) (getD xs i d ∷ [])
+      ∙ ap (λ (l : List B). l ++ (g (getD xs i d) ∷ [])) (map-take g i (take n xs))
+
+  pub each-mapped : {B : Type 0} (P : B → Type 0) (g : A → B) → Each P (map g (take n xs)) → P (g (getD xs i d))
+  each-mapped P g e =
+      let l : length (take n xs) ≡ n = rw length-take (omega arith) in
+      subst P (List·getD-map g (take n xs) i d ∙ ap g (getD-take n xs i d more)) (each-getD P (map g (take n xs)) i (g d) e (omega (arith, length-map (take n xs) g)))
+
+module _ {A : Type 0} (xs : List A) (n i : ℕ) (past : n ≤ i) where
+  pub taken-end : take i (take n xs) ≡ take n xs
+  taken-end = take-all i (take n xs) (rw length-take (omega arith))
+
+  pub mapped-end : {B : Type 0} (g : A → B) → take i (map g (take n xs)) ≡ map g (take n xs)
+  mapped-end g = take-all i (map g (take n xs)) (rw (length-map, length-take) (omega arith))
+
+-- ---- a store in the table
+
+module _ (easts norths : List ℕ) (marks : List Bool) (r east north : ℕ) (placed : Bool) (size : Columns easts norths marks) (radio : r ≤ maxRadio) where
+  abbrev held : Option Place
+  held = cond placed (some (record { east = east; north = north })) none
+
+  held-at : (q : ℕ) → placesIn (set easts r east) (set norths r north) (set marks r placed) q ≡ putAt r held (placesIn easts norths marks) q
+  unfolding placesIn
+  held-at q =
+      by-cases (eqb q r)
+      (λ t. rw (t, eqb-true q r t, getD-set-same easts r east 0 (omega (arith, size .east)), getD-set-same norths r north 0 (omega (arith, size .north)), getD-set-same marks r placed false (omega (arith, size .mark))))
+      (λ t. let n = eqb-false q r t in rw (t, getD-set-other easts r q east 0 n, getD-set-other norths r q north 0 n, getD-set-other marks r q placed false n))
+
+  pub held-place : Holds (set easts r east) (set norths r north) (set marks r placed) (putAt r held (placesIn easts norths marks))
+  held-place = record {
+    columns = record { east = length-set easts r east ∙ size .east; north = length-set norths r north ∙ size .north; mark = length-set marks r placed ∙ size .mark };
+    places = fun-ext held-at;
+  }
+
+-- ---- one over the other
+
+module _ {A : Type 0} (step : A → Places → Places) where
+  pub over-append : (a b : List A) (f : Places) → over step (a ++ b) f ≡ over step b (over step a f)
+  unfolding over
+  over-append [] b f = refl
+  over-append (x ∷ a) b f = over-append a b (step x f)
+
+  over-last : (l : List A) (x : A) (f : Places) → over step (l ++ (x ∷ [])) f ≡ step x (over step l f)
+  over-last l x f = over-append l (x ∷ []) f ∙ unfold over in refl
+
+  over-none : (f : Places) → f ≡ over step [] f
+  unfolding over
+  over-none f = refl
+
+  -- a loop that lays one more over the table
+  pub over-start : {easts norths : List ℕ} {marks : List Bool} → Columns easts norths marks → Holds easts norths marks (over step [] (placesIn easts norths marks))
+  over-start {easts} {norths} {marks} c = record { columns = c; places = over-none (placesIn easts norths marks) }
+
+  pub over-turn : {easts norths easts′ norths′ : List ℕ} {marks marks′ : List Bool} (f : Places) (l l′ : List A) (x : A) → l′ ≡ l ++ (x ∷ []) → Holds easts norths marks (over step l f)
+      → Holds easts′ norths′ marks′ (step x (placesIn easts norths marks)) → Holds easts′ norths′ marks′ (over step l′ f)
+  over-turn f l l′ x e h k =
+      record { columns = k .columns; places = k .places ∙ ap (step x) (h .places) ∙ sym (over-last l x f) ∙ ap (λ (m : List A). over step m f) (sym e) }
+
+  pub over-end : {easts norths : List ℕ} {marks : List Bool} (f : Places) (l l′ : List A) → l ≡ l′ → Holds easts norths marks (over step l f) → Holds easts norths marks (over step l′ f)
+  over-end {easts} {norths} {marks} f l l′ e h = subst (λ (m : List A). Holds easts norths marks (over step m f)) e h
+
+-- ---- the entries of a page
+
+pub page-start : (v : List ℕ) {easts norths : List ℕ} {marks : List Bool} → Columns easts norths marks → Holds easts norths marks (entriesOver (tab 0 (entryAt v)) (placesIn easts norths marks))
+unfolding entriesOver tab
+page-start v c = over-start (rowOver some) c
+
+module _ (v b : List ℕ) (p : ℕ) {n i : ℕ} (here : v ≡ pageAt b p) (many : n ≡ count v) where
+  pub page-end : (f : Places) {easts norths : List ℕ} {marks : List Bool} → i ≤ n → n ≤ i → Holds easts norths marks (entriesOver (tab i (entryAt v)) f) → Holds easts norths marks (entriesOver (entries (pageAt b p)) f)
+  unfolding entries
+  page-end f {easts} {norths} {marks} h k d =
+      let z : i ≡ count v = omega arith in
+      subst (λ (w : List ℕ). Holds easts norths marks (entriesOver (entries w) f)) here (subst (λ (j : ℕ). Holds easts norths marks (entriesOver (tab j (entryAt v)) f)) z d)
+
+  module _ (more : i < n) {e : Entry} (read : rowOf e ≡ entryAt v i) where
+    pub page-radio : UpTo maxRadio (entries (pageAt b p)) → e .radio ≤ maxRadio
+    unfolding entries
+    page-radio u =
+        let w : UpTo maxRadio (tab (count v) (entryAt v)) = subst (λ (x : List ℕ). UpTo maxRadio (tab (count x) (entryAt x))) (sym here) u in
+        let k : entryAt v i .key ≤ maxRadio = each-tab (λ x. x .key ≤ maxRadio) (count v) (entryAt v) i w (omega arith) in
+        omega (arith, ap (λ (x : Row Place). x .key) read)
+
+pub page-turn : (v : List ℕ) (f : Places) (i : ℕ) (e : Entry) {easts norths easts′ norths′ : List ℕ} {marks marks′ : List Bool} → rowOf e ≡ entryAt v i → Holds easts norths marks (entriesOver (tab i (entryAt v)) f)
+    → Holds easts′ norths′ marks′ (putAt (e .radio) (some (record { east = e .east; north = e .north })) (placesIn easts norths marks))
+    → Holds easts′ norths′ marks′ (entriesOver (tab (i + 1) (entryAt v)) f)
+unfolding entriesOver
+page-turn v f i e read d t =
+    over-turn (rowOver some) f (tab i (entryAt v)) (tab (i + 1) (entryAt v)) (rowOf e) (tab-suc i (entryAt v) ∙ ap (λ (x : Row Place). tab i (entryAt v) ++ (x ∷ [])) (sym read)) d t
+
+-- ---- the pages of a chain: what is laid over the table, with what the rest of the chain still has, is the whole
+
+entries-cons : (b : List ℕ) (p : ℕ) (ps : List ℕ) → entriesOn b (p ∷ ps) ≡ entries (pageAt b p) ++ entriesOn b ps
+unfolding entriesOn concat
+entries-cons b p ps = refl
+
+entries-none : (b : List ℕ) → entriesOn b [] ≡ []
+unfolding entriesOn concat
+entries-none b = refl
+
+entriesOver-none : (f : Places) → f ≡ entriesOver [] f
+unfolding entriesOver
+entriesOver-none = over-none (rowOver some)
+
+entriesOver-append : (l m : Rows Place) (f : Places) → entriesOver (l ++ m) f ≡ entriesOver m (entriesOver l f)
+unfolding entriesOver
+entriesOver-append = over-append (rowOver some)
+
+pub record Walking (b : List ℕ) (first : ℕ) (f : Places) (p fuel : ℕ) (easts norths : List ℕ) (marks : List Bool) : Type 0 where
+  pub columns : Columns easts norths marks
+  pub radios : UpTo maxRadio (entriesOn b (chainFrom fuel b p))
+  pub places : entriesOver (entriesOn b (chainFrom fuel b p)) (placesIn easts norths marks) ≡ entriesOver (entriesFrom b first) f
+
+pub walking-start : (b : List ℕ) (first : ℕ) {easts norths : List ℕ} {marks : List Bool} → Columns easts norths marks → UpTo maxRadio (entriesFrom b first)
+    → Walking b first (placesIn easts norths marks) first pages easts norths marks
+unfolding entriesFrom
+walking-start b first c u = record { columns = c; radios = u; places = refl }
+
+module _ {b : List ℕ} {first p fuel : ℕ} {f : Places} {easts norths : List ℕ} {marks : List Bool} (w : Walking b first f p fuel easts norths marks) where
+  walking-stop : chainFrom fuel b p ≡ [] → Holds easts norths marks (entriesOver (entriesFrom b first) f)
+  walking-stop e =
+      let n : entriesOn b (chainFrom fuel b p) ≡ [] = ap (entriesOn b) e ∙ entries-none b in
+      record { columns = w .columns; places = entriesOver-none (placesIn easts norths marks) ∙ ap (λ (l : Rows Place). entriesOver l (placesIn easts norths marks)) (sym n) ∙ w .places }
+
+  pub walking-ended : p ≡ noPage → Holds easts norths marks (entriesOver (entriesFrom b first) f)
+  walking-ended e = walking-stop (chain-ended b p fuel e .0)
+
+  pub walking-out : fuel ≤ 0 → Holds easts norths marks (entriesOver (entriesFrom b first) f)
+  walking-out h = let z : fuel ≡ 0 = omega arith in walking-stop (rw z (chain-out b p .0))
+
+  module _ (more : 0 < fuel) {r : Bool} (told : r ≡ there b p) where
+    abbrev rest : ℕ
+    rest = fuel - 1
+
+    one-more : fuel ≡ suc rest
+    one-more = omega arith
+
+    pub walking-lost : p ≢ noPage → not r ≡ true → Holds easts norths marks (entriesOver (entriesFrom b first) f)
+    walking-lost n t = walking-stop (rw one-more (chain-not-there b p rest n (sym told ∙ not-true r t) .0))
+
+    module _ (found : not r ≡ false) where
+      step : entriesOn b (chainFrom fuel b p) ≡ entries (pageAt b p) ++ entriesOn b (chainFrom rest b (next (pageAt b p)))
+      step = ap (λ (n : ℕ). entriesOn b (chainFrom n b p)) one-more ∙ ap (entriesOn b) (chain-there b p rest (was-there b p told found) .0) ∙ entries-cons b p (chainFrom rest b (next (pageAt b p)))
+
+      radios-split : UpTo maxRadio (entries (pageAt b p)) × UpTo maxRadio (entriesOn b (chainFrom rest b (next (pageAt b p))))
+      radios-split = each-split (λ x. x .key ≤ maxRadio) (entries (pageAt b p)) (entriesOn b (chainFrom rest b (next (pageAt b p)))) (subst (λ (l : Rows Place). UpTo maxRadio l) step (w .radios))
+
+      pub walking-radios : UpTo maxRadio (entries (pageAt b p))
+      walking-radios = radios-split .0
+
+      pub walking-turn : {easts′ norths′ : List ℕ} {marks′ : List Bool} {q : ℕ} → Holds easts′ norths′ marks′ (entriesOver (entries (pageAt b p)) (placesIn easts norths marks)) → q ≡ next (pageAt b p)
+          → Walking b first f q rest easts′ norths′ marks′
+      walking-turn h e =
+          let l : Rows Place = entries (pageAt b p) in
+          let m : Rows Place = entriesOn b (chainFrom rest b (next (pageAt b p))) in
+          rw e (record {
+            columns = h .columns;
+            radios = radios-split .1;
+            places = ap (entriesOver m) (h .places) ∙ sym (entriesOver-append l m (placesIn easts norths marks)) ∙ ap (λ (x : Rows Place). entriesOver x (placesIn easts norths marks)) (sym step) ∙ w .places;
+          })
+
+-- ---- the cells of the directory
+
+module _ (b : List ℕ) (rect : Rect) (s : Slot) {r : Bool} (told : r ≡ touches rect (edgesOf s)) {easts norths : List ℕ} {marks : List Bool} where
+  pub slot-touched : (f : Places) → r ≡ true → Holds easts norths marks (entriesOver (entriesFrom b (s .first)) f) → Holds easts norths marks (slotOver b rect s f)
+  unfolding slotOver
+  slot-touched f t h = rw (← told, t) h
+
+  pub slot-skipped : r ≡ false → Columns easts norths marks → Holds easts norths marks (slotOver b rect s (placesIn easts norths marks))
+  unfolding slotOver
+  slot-skipped t c = record { columns = c; places = rw (← told, t) }
+
+module _ (b : List ℕ) (rect : Rect) (d : Directory) where
+  pub cells-start : {easts norths : List ℕ} {marks : List Bool} → Columns easts norths marks → Holds easts norths marks (over (slotOver b rect) (take 0 (slotsIn d)) (placesIn easts norths marks))
+  cells-start c = over-start (slotOver b rect) c
+
+  module _ (size : length (d .slots) ≡ maxCells) (few : d .n ≤ maxCells) (i : ℕ) (more : i < d .n) where
+    pub cells-radios : Each (λ s. UpTo maxRadio (entriesFrom b (s .first))) (slotsIn d) → UpTo maxRadio (entriesFrom b (getD (d .slots) i noSlot .first))
+    unfolding slotsIn
+    cells-radios e =
+        subst (λ (s : Slot). UpTo maxRadio (entriesFrom b (s .first))) (getD-take (d .n) (d .slots) i noSlot more)
+        (each-getD (λ s. UpTo maxRadio (entriesFrom b (s .first))) (take (d .n) (d .slots)) i noSlot e (rw length-take (omega arith)))
+
+    pub cells-turn : (f : Places) {easts norths easts′ norths′ : List ℕ} {marks marks′ : List Bool} → Holds easts norths marks (over (slotOver b rect) (take i (slotsIn d)) f)
+        → Holds easts′ norths′ marks′ (slotOver b rect (getD (d .slots) i noSlot) (placesIn easts norths marks)) → Holds easts′ norths′ marks′ (over (slotOver b rect) (take (i + 1) (slotsIn d)) f)
+    unfolding slotsIn
+    cells-turn f h k = over-turn (slotOver b rect) f _ _ (getD (d .slots) i noSlot) (taken-turn (d .slots) (d .n) i noSlot (omega arith) more) h k
+
+  pub cells-end : (i : ℕ) (f : Places) {easts norths : List ℕ} {marks : List Bool} → d .n ≤ i → Holds easts norths marks (over (slotOver b rect) (take i (slotsIn d)) f)
+      → Holds easts norths marks (over (slotOver b rect) (slotsIn d) f)
+  unfolding slotsIn
+  cells-end i f k h = over-end (slotOver b rect) f _ _ (taken-end (d .slots) (d .n) i k) h
+
+-- ---- the memo's lines
+
+cond-not : {A : Type 0} (b : Bool) (x y : A) → cond (not b) x y ≡ cond b y x
+cond-not true x y = refl
+cond-not false x y = refl
+
+module _ (m : Memo) where
+  pub lines-start : {easts norths : List ℕ} {marks : List Bool} → Columns easts norths marks → Holds easts norths marks (linesOver (take 0 (linesOf m)) (placesIn easts norths marks))
+  unfolding linesOver
+  lines-start c = over-start _ c
+
+  module _ (size : length (m .words) ≡ lineFields * lineSlots) (few : m .n ≤ lineSlots) (i : ℕ) (more : i < m .n) {line : Line} (read : line ≡ getD (linesIn (m .words)) i noLine) where
+    inside : m .n ≤ length (linesIn (m .words))
+    inside = let l = length-lines-in lineSlots (m .words) size in omega arith
+
+    pub lines-radios : UpTo maxRadio (linesOf m) → line .radio ≤ maxRadio
+    unfolding linesOf
+    lines-radios e = rw read (each-mapped (linesIn (m .words)) (m .n) i noLine inside more (λ x. x .key ≤ maxRadio) lineRow e)
+
+    pub lines-turn : (f : Places) {easts norths easts′ norths′ : List ℕ} {marks marks′ : List Bool} → Holds easts norths marks (linesOver (take i (linesOf m)) f)
+        → Holds easts′ norths′ marks′ (putAt (line .radio) (cond (not (eqb (line .placed) 0)) (some (record { east = line .east; north = line .north })) none) (placesIn easts norths marks))
+        → Holds easts′ norths′ marks′ (linesOver (take (i + 1) (linesOf m)) f)
+    unfolding linesOf linesOver
+    lines-turn f {easts} {norths} {easts′} {norths′} {marks} {marks′} h k =
+        over-turn _ f _ _ (lineRow line) (rw read (mapped-turn (linesIn (m .words)) (m .n) i noLine inside more lineRow)) h
+        (subst (λ (o : Option Place). Holds easts′ norths′ marks′ (putAt (line .radio) o (placesIn easts norths marks))) (cond-not (eqb (line .placed) 0) _ none) k)
+
+  pub lines-end : (i : ℕ) (f : Places) {easts norths : List ℕ} {marks : List Bool} → m .n ≤ i → Holds easts norths marks (linesOver (take i (linesOf m)) f) → Holds easts norths marks (linesOver (linesOf m) f)
+  unfolding linesOf linesOver
+  lines-end i f k h = over-end _ f _ _ (mapped-end (linesIn (m .words)) (m .n) i k lineRow) h
+
+-- ---- the waiting reports
+
+module _ (w : Waiting) where
+  pub reports-start : {easts norths : List ℕ} {marks : List Bool} → Columns easts norths marks → Holds easts norths marks (reportsOver (take 0 (reportsOf w)) (placesIn easts norths marks))
+  unfolding reportsOver
+  reports-start c = over-start _ c
+
+  module _ (size : length (w .rows) ≡ fullMemory) (few : w .n ≤ fullMemory) (i : ℕ) (more : i < w .n) where
+    abbrev report : Report
+    report = getD (w .rows) i noReport
+
+    pub reports-radios : UpTo maxRadio (reportsOf w) → report .radio ≤ maxRadio
+    unfolding reportsOf
+    reports-radios e = each-mapped (w .rows) (w .n) i noReport (omega arith) more (λ x. x .key ≤ maxRadio) reportRow e
+
+    pub reports-turn : (f : Places) {easts norths easts′ norths′ : List ℕ} {marks marks′ : List Bool} → Holds easts norths marks (reportsOver (take i (reportsOf w)) f)
+        → Holds easts′ norths′ marks′ (putAt (report .radio) (some (record { east = report .east; north = report .north })) (placesIn easts norths marks))
+        → Holds easts′ norths′ marks′ (reportsOver (take (i + 1) (reportsOf w)) f)
+    unfolding reportsOf reportsOver
+    reports-turn f h k = over-turn _ f _ _ (reportRow report) (mapped-turn (w .rows) (w .n) i noReport (omega arith) more reportRow) h k
+
+  pub reports-end : (i : ℕ) (f : Places) {easts norths : List ℕ} {marks : List Bool} → w .n ≤ i → Holds easts norths marks (reportsOver (take i (reportsOf w)) f) → Holds easts norths marks (reportsOver (reportsOf w) f)
+  unfolding reportsOf reportsOver
+  reports-end i f k h = over-end _ f _ _ (mapped-end (w .rows) (w .n) i k reportRow) h
+
+-- ---- all of them
+
+pub all-held : (b : List ℕ) (rect : Rect) (d : Directory) (m : Memo) (w : Waiting) {e₀ n₀ e₁ n₁ e₂ n₂ e₃ n₃ : List ℕ} {k₀ k₁ k₂ k₃ : List Bool} → Holds e₀ n₀ k₀ noPlaces
+    → Holds e₁ n₁ k₁ (over (slotOver b rect) (slotsIn d) (placesIn e₀ n₀ k₀)) → Holds e₂ n₂ k₂ (linesOver (linesOf m) (placesIn e₁ n₁ k₁)) → Holds e₃ n₃ k₃ (reportsOver (reportsOf w) (placesIn e₂ n₂ k₂))
+    → Holds e₃ n₃ k₃ (placesOf b rect (slotsIn d) (linesOf m) (reportsOf w))
+unfolding placesOf
+all-held b rect d m w h₀ h₁ h₂ h₃ = record {
+  columns = h₃ .columns;
+  places = h₃ .places ∙ ap (reportsOver (reportsOf w)) (h₂ .places ∙ ap (linesOver (linesOf m)) (h₁ .places ∙ ap (over (slotOver b rect) (slotsIn d)) (h₀ .places)));
+}

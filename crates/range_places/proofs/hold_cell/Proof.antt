@@ -1,0 +1,60 @@
+-- What the chain still has from p on, over the table, is what the whole chain has over the table at the start.
+use Rattle.page.proofs.ChainLaws.{was-there}
+use Rattle.range_places.specs.Places.{placesIn}
+use Rattle.range_places.proofs.TableLaws.{Walking, walking-start, walking-ended, walking-out, walking-lost, walking-radios, walking-turn}
+use borrow.Author.Needs.{needs}
+use Rattle.range_places.proofs.hold_cell.Statement.{statement}
+use Rattle.range_places.proofs.hold_cell.Tie as tie
+
+abbrev Inv-loop : tie.InvT-loop
+Inv-loop pages first easts₀ norths₀ marks₀ p₀ fuel₀ easts norths marks p fuel = Walking pages first (placesIn easts₀ norths₀ marks₀) p fuel easts norths marks
+
+abbrev μ-loop : tie.MeasureT-loop
+μ-loop pages first easts₀ norths₀ marks₀ p₀ fuel₀ easts norths marks p fuel = fuel
+
+loop-holds : tie.Need-loop-holds Inv-loop μ-loop
+loop-holds c = search walking-start
+
+returns : tie.Need-returns Inv-loop μ-loop
+returns c = search walking-ended
+
+is-there-requires : tie.Need-is-there-requires Inv-loop μ-loop
+is-there-requires c κs = search needs
+
+returns-2 : tie.Need-returns-2 Inv-loop μ-loop
+returns-2 c = search walking-lost
+
+hold-page-requires : tie.Need-hold-page-requires Inv-loop μ-loop
+hold-page-requires c κs = (search needs, search was-there, search walking-radios)
+
+next-page-requires : tie.Need-next-page-requires Inv-loop μ-loop
+next-page-requires c κs = was-there _ _ (c .before .before .before .before .before .is-there .ensures) (c .before .before .before .before .if2 .left)
+
+sub-fuel : tie.Need-sub-fuel Inv-loop μ-loop
+sub-fuel c = search needs
+
+loop-less : tie.Need-loop-less Inv-loop μ-loop
+loop-less c = search needs
+
+loop-again : tie.Need-loop-again Inv-loop μ-loop
+loop-again c = search walking-turn
+
+returns-3 : tie.Need-returns-3 Inv-loop μ-loop
+returns-3 c = search walking-out
+
+pub hold-cell-spec : {M : Type 1} → statement M
+hold-cell-spec =
+    tie.close
+    (tie.spec
+    Inv-loop
+    μ-loop
+    loop-holds
+    returns
+    is-there-requires
+    returns-2
+    hold-page-requires
+    next-page-requires
+    sub-fuel
+    loop-less
+    loop-again
+    returns-3)

@@ -1,0 +1,106 @@
+-- A place for each radio (01, "How a record is carried out"): an entry's, over it a memo line's, over both a waiting report's, and the table by radio that holds them.
+use mathlib.Core.Bool.{Bool, false, cond}
+use mathlib.Core.List.{List, [], _∷_}
+use mathlib.Core.Option.{Option, none, some}
+use mathlib.Core.Path.{_≡_}
+use Prim.Native.Nat.{ℕ, _+_, _≤_}
+use lib.Dec.{leb}
+use lib.ListN.{length, getD}
+use Rattle.terms.specs.Terms.{Place, maxRadio, pages}
+use Rattle.lists.specs.Rows.{Row, Rows, UpTo}
+use Rattle.lists.specs.Tests.{both, Each}
+use Rattle.page.specs.Buffer.{chainFrom}
+use Rattle.rules.specs.Limits.{maxCells, fullMemory}
+use Rattle.rules.specs.Grid.{Span, Rect}
+use Rattle.rules.specs.Store.{Report, Line}
+use Rattle.rules.specs.Plain.{putAt}
+use Rattle.desk.specs.declared.Slot.{Slot}
+use Rattle.desk.specs.declared.Directory.{Directory}
+use Rattle.desk.specs.declared.Waiting.{Waiting}
+use Rattle.desk.specs.declared.Memo.{Memo}
+use Rattle.desk.specs.Layout.{lineSlots}
+use Rattle.desk.specs.Views.{slotsIn, edgesOf}
+use Rattle.memo.specs.Memo.{linesOf}
+use Rattle.waiting.specs.Waiting.{reportsOf}
+use Rattle.sweep.specs.Sweep.{entriesOn}
+use Rattle.range_places.specs.declared.Rectangle.{Rectangle}
+
+abbrev pub rectOf : Rectangle → Rect
+rectOf a = record { easts = record { low = a .west; high = a .east }; norths = record { low = a .south; high = a .north } }
+
+-- ---- a place for each radio
+
+-- a place for each radio, or none
+abbrev pub Places : Type 0
+Places = ℕ → Option Place
+
+unfoldable pub noPlaces : Places
+noPlaces r = none
+
+-- the places in a table by radio: two columns of coordinates, and one that marks the radios which have a place
+unfoldable pub placesIn : List ℕ → List ℕ → List Bool → Places
+placesIn easts norths marks r = cond (getD marks r false) (some (record { east = getD easts r 0; north = getD norths r 0 })) none
+
+-- a slot for every radio, and one for 0
+abbrev pub radioSlots : ℕ
+radioSlots = maxRadio + 1
+
+pub record Columns (easts norths : List ℕ) (marks : List Bool) : Type 0 where
+  pub east : length easts ≡ radioSlots
+  pub north : length norths ≡ radioSlots
+  pub mark : length marks ≡ radioSlots
+
+-- the table holds these places
+pub record Holds (easts norths : List ℕ) (marks : List Bool) (f : Places) : Type 0 where
+  pub columns : Columns easts norths marks
+  pub places : placesIn easts norths marks ≡ f
+
+-- ---- one over the other
+
+-- one after the other, each over those before it
+unfoldable pub over : {A : Type 0} → (A → Places → Places) → List A → Places → Places
+over step [] f = f
+over step (x ∷ l) f = over step l (step x f)
+
+-- the radio of a row has the row's place, whatever it had
+abbrev pub rowOver : {Val : Type 0} → (Val → Option Place) → Row Val → Places → Places
+rowOver place x f = putAt (x .key) (place (x .val)) f
+
+unfoldable pub entriesOver : Rows Place → Places → Places
+entriesOver = over (rowOver some)
+
+unfoldable pub linesOver : Rows Line → Places → Places
+linesOver = over (rowOver (λ l. l .last))
+
+unfoldable pub reportsOver : Rows Report → Places → Places
+reportsOver = over (rowOver (λ w. some (w .place)))
+
+-- some place lies in both; "All four edges count as inside."
+abbrev pub meets : Span → Span → Bool
+meets s t = both (leb (s .low) (t .high)) (leb (t .low) (s .high))
+
+unfoldable pub touches : Rect → Rect → Bool
+touches a b = both (meets (a .easts) (b .easts)) (meets (a .norths) (b .norths))
+
+-- the entries of a cell of the directory
+unfoldable pub entriesFrom : List ℕ → ℕ → Rows Place
+entriesFrom b first = entriesOn b (chainFrom pages b first)
+
+-- "only the pages of cells that the rectangle touches"
+unfoldable pub slotOver : List ℕ → Rect → Slot → Places → Places
+slotOver b rect s f = cond (touches rect (edgesOf s)) (entriesOver (entriesFrom b (s .first)) f) f
+
+-- an entry's place; over it a memo line's, which is that of the entry of its radio that isn't stale; over both a waiting report's
+unfoldable pub placesOf : List ℕ → Rect → List Slot → Rows Line → Rows Report → Places
+placesOf b rect slots memo waiting = reportsOver waiting (linesOver memo (over (slotOver b rect) slots noPlaces))
+
+-- ---- what is asked of desk and pages
+
+-- counts within their slots, and no radio above the greatest
+pub record Readable (b : List ℕ) (cells : Directory) (waiting : Waiting) (memo : Memo) : Type 0 where
+  pub few-cells : cells .n ≤ maxCells
+  pub few-waiting : waiting .n ≤ fullMemory
+  pub few-lines : memo .n ≤ lineSlots
+  pub entry-radios : Each (λ s. UpTo maxRadio (entriesFrom b (s .first))) (slotsIn cells)
+  pub report-radios : UpTo maxRadio (reportsOf waiting)
+  pub line-radios : UpTo maxRadio (linesOf memo)

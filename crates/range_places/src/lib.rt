@@ -1,0 +1,227 @@
+// A place for each radio in a table by radio: the entries of the cells that a rectangle touches, over them the memo's lines, over these the waiting reports.
+// Neither desk nor pages are altered.
+ghost use mathlib.Core.Bool.{true, cond};
+ghost use mathlib.Core.Option.{none, some};
+ghost use mathlib.Core.Path.{_≡_};
+ghost use Prim.Native.Nat.{_*_, _≤_};
+ghost use lib.ListN.{length};
+ghost use Rattle.terms.specs.Terms.{maxRadio};
+ghost use Rattle.lists.specs.Rows.{UpTo};
+ghost use Rattle.lists.specs.Tests.{Each};
+ghost use Rattle.page.specs.Page.{entries};
+ghost use Rattle.page.specs.Buffer.{pageAt, there};
+ghost use Rattle.rules.specs.Limits.{maxCells, fullMemory};
+ghost use Rattle.rules.specs.Plain.{putAt};
+ghost use Rattle.desk.specs.Layout.{lineSlots, lineFields};
+ghost use Rattle.desk.specs.Views.{slotsIn, edgesOf};
+ghost use Rattle.memo.specs.Memo.{memoIn, linesOf};
+ghost use Rattle.waiting.specs.Waiting.{reportsOf};
+ghost use Rattle.range_places.specs.Places.{rectOf, noPlaces, placesIn, Columns, Holds, over, entriesOver, linesOver, reportsOver, meets, touches, entriesFrom, slotOver, placesOf, Readable};
+use desk::Desk;
+use desk::Directory;
+use desk::Slot;
+use desk::Waiting;
+use terms::MAX_RADIO;
+use terms::NO_PAGE;
+use terms::PAGES;
+
+// A slot for every radio, and one for 0.
+pub const RADIO_SLOTS: usize = MAX_RADIO as usize + 1;
+
+// West and east edge, south and north edge.
+#[repr(C)]
+pub struct Rectangle {
+    pub west: u16,
+    pub east: u16,
+    pub south: u16,
+    pub north: u16,
+}
+
+// ---- rectangles
+
+// Whether two spans have a coordinate in common.
+fn is_meeting(low: u16, high: u16, other_low: u16, other_high: u16) -> bool
+    ensures { λ r. ⌜ r ≡ meets (record { low = low; high = high }) (record { low = «other_low»; high = «other_high» }) ⌝ }
+{
+    (low <= other_high) & (other_low <= high)
+}
+
+// Whether the rectangle touches the cell.
+fn is_touched(area: Rectangle, cell: Slot) -> bool
+    ensures { λ r. ⌜ r ≡ touches (rectOf area) (edgesOf cell) ⌝ }
+{
+    is_meeting(area.west, area.east, cell.west, cell.east)
+        & is_meeting(area.south, area.north, cell.south, cell.north)
+}
+
+// ---- a table by radio
+
+// The radio has this place, or none; every other keeps what it has.
+fn hold(
+    easts: &mut [u16; RADIO_SLOTS],
+    norths: &mut [u16; RADIO_SLOTS],
+    marks: &mut [bool; RADIO_SLOTS],
+    radio: u16,
+    east: u16,
+    north: u16,
+    placed: bool,
+)
+    requires { ⌜ Columns (now easts) (now norths) (now marks) × (radio ≤ maxRadio) ⌝ }
+    ensures { λ _. ⌜ Holds (now (easts .exit)) (now (norths .exit)) (now (marks .exit)) (putAt radio (cond placed (some (record { east = east; north = north })) none) (placesIn (now (easts .entry)) (now (norths .entry)) (now (marks .entry)))) ⌝ }
+{
+    let at = radio as usize;
+    easts[at] = east;
+    norths[at] = north;
+    marks[at] = placed;
+}
+
+// The entries of page p.
+fn hold_page(
+    pages: &[u8],
+    p: u16,
+    easts: &mut [u16; RADIO_SLOTS],
+    norths: &mut [u16; RADIO_SLOTS],
+    marks: &mut [bool; RADIO_SLOTS],
+)
+    requires { ⌜ Columns (now easts) (now norths) (now marks) × (there (now pages) p ≡ true) × UpTo maxRadio (entries (pageAt (now pages) p)) ⌝ }
+    ensures { λ _. ⌜ Holds (now (easts .exit)) (now (norths .exit)) (now (marks .exit)) (entriesOver (entries (pageAt (now (pages .entry)) p)) (placesIn (now (easts .entry)) (now (norths .entry)) (now (marks .entry)))) ⌝ }
+{
+    let page = page::page_at(pages, p as usize);
+    let n = page::entry_count(page);
+    let mut i: usize = 0;
+    while i < n {
+        let e = page::read_entry(page, i);
+        hold(easts, norths, marks, e.radio, e.east, e.north, true);
+        i += 1;
+    }
+}
+
+// The entries of a cell, by its chain.
+fn hold_cell(
+    pages: &[u8],
+    first: u16,
+    easts: &mut [u16; RADIO_SLOTS],
+    norths: &mut [u16; RADIO_SLOTS],
+    marks: &mut [bool; RADIO_SLOTS],
+)
+    requires { ⌜ Columns (now easts) (now norths) (now marks) × UpTo maxRadio (entriesFrom (now pages) first) ⌝ }
+    ensures { λ _. ⌜ Holds (now (easts .exit)) (now (norths .exit)) (now (marks .exit)) (entriesOver (entriesFrom (now (pages .entry)) first) (placesIn (now (easts .entry)) (now (norths .entry)) (now (marks .entry)))) ⌝ }
+{
+    let mut p = first;
+    let mut fuel: usize = PAGES;
+    while 0 < fuel {
+        if p == NO_PAGE {
+            return;
+        }
+        if !page::is_there(pages, p) {
+            return;
+        }
+        hold_page(pages, p, easts, norths, marks);
+        p = page::next_page(pages, p);
+        fuel -= 1;
+    }
+}
+
+// A cell's entries, if the rectangle touches it.
+fn hold_touched(
+    pages: &[u8],
+    area: Rectangle,
+    cell: Slot,
+    easts: &mut [u16; RADIO_SLOTS],
+    norths: &mut [u16; RADIO_SLOTS],
+    marks: &mut [bool; RADIO_SLOTS],
+)
+    requires { ⌜ Columns (now easts) (now norths) (now marks) × UpTo maxRadio (entriesFrom (now pages) (cell .first)) ⌝ }
+    ensures { λ _. ⌜ Holds (now (easts .exit)) (now (norths .exit)) (now (marks .exit)) (slotOver (now (pages .entry)) (rectOf area) cell (placesIn (now (easts .entry)) (now (norths .entry)) (now (marks .entry)))) ⌝ }
+{
+    if is_touched(area, cell) {
+        hold_cell(pages, cell.first, easts, norths, marks);
+    }
+}
+
+// "only the pages of cells that the rectangle touches"
+fn hold_cells(
+    pages: &[u8],
+    area: Rectangle,
+    cells: Directory,
+    easts: &mut [u16; RADIO_SLOTS],
+    norths: &mut [u16; RADIO_SLOTS],
+    marks: &mut [bool; RADIO_SLOTS],
+)
+    requires { ⌜ Columns (now easts) (now norths) (now marks) × (cells .n ≤ maxCells) × Each (λ s. UpTo maxRadio (entriesFrom (now pages) (s .first))) (slotsIn cells) ⌝ }
+    ensures { λ _. ⌜ Holds (now (easts .exit)) (now (norths .exit)) (now (marks .exit)) (over (slotOver (now (pages .entry)) (rectOf area)) (slotsIn cells) (placesIn (now (easts .entry)) (now (norths .entry)) (now (marks .entry)))) ⌝ }
+{
+    let n = cells.n;
+    let mut i: usize = 0;
+    while i < n {
+        let cell = cells.slots[i];
+        hold_touched(pages, area, cell, easts, norths, marks);
+        i += 1;
+    }
+}
+
+// A line's place is that of the one entry of its radio that isn't stale.
+fn hold_lines(
+    words: &[u16; Desk::MEMO_WORDS],
+    lines: usize,
+    easts: &mut [u16; RADIO_SLOTS],
+    norths: &mut [u16; RADIO_SLOTS],
+    marks: &mut [bool; RADIO_SLOTS],
+)
+    requires { ⌜ Columns (now easts) (now norths) (now marks) × (length (now words) ≡ lineFields * lineSlots) × (lines ≤ lineSlots) × UpTo maxRadio (linesOf (memoIn lines (now words))) ⌝ }
+    ensures { λ _. ⌜ Holds (now (easts .exit)) (now (norths .exit)) (now (marks .exit)) (linesOver (linesOf (memoIn lines (now (words .entry)))) (placesIn (now (easts .entry)) (now (norths .entry)) (now (marks .entry)))) ⌝ }
+{
+    let mut i: usize = 0;
+    while i < lines {
+        let x = desk::line_at(words, i);
+        hold(
+            easts,
+            norths,
+            marks,
+            x.radio,
+            x.east,
+            x.north,
+            x.placed != 0,
+        );
+        i += 1;
+    }
+}
+
+// "a waiting report's before a stored one's"
+fn hold_reports(
+    waiting: Waiting,
+    easts: &mut [u16; RADIO_SLOTS],
+    norths: &mut [u16; RADIO_SLOTS],
+    marks: &mut [bool; RADIO_SLOTS],
+)
+    requires { ⌜ Columns (now easts) (now norths) (now marks) × (waiting .n ≤ fullMemory) × UpTo maxRadio (reportsOf waiting) ⌝ }
+    ensures { λ _. ⌜ Holds (now (easts .exit)) (now (norths .exit)) (now (marks .exit)) (reportsOver (reportsOf waiting) (placesIn (now (easts .entry)) (now (norths .entry)) (now (marks .entry)))) ⌝ }
+{
+    let n = waiting.n;
+    let mut i: usize = 0;
+    while i < n {
+        let x = waiting.rows[i];
+        hold(easts, norths, marks, x.radio, x.east, x.north, true);
+        i += 1;
+    }
+}
+
+// Entries, over them the memo's lines, over these the waiting reports.
+pub fn hold_all(
+    pages: &[u8],
+    area: Rectangle,
+    cells: Directory,
+    waiting: Waiting,
+    words: &[u16; Desk::MEMO_WORDS],
+    lines: usize,
+    easts: &mut [u16; RADIO_SLOTS],
+    norths: &mut [u16; RADIO_SLOTS],
+    marks: &mut [bool; RADIO_SLOTS],
+)
+    requires { ⌜ Holds (now easts) (now norths) (now marks) noPlaces × (length (now words) ≡ lineFields * lineSlots) × Readable (now pages) cells waiting (memoIn lines (now words)) ⌝ }
+    ensures { λ _. ⌜ Holds (now (easts .exit)) (now (norths .exit)) (now (marks .exit)) (placesOf (now (pages .entry)) (rectOf area) (slotsIn cells) (linesOf (memoIn lines (now (words .entry)))) (reportsOf waiting)) ⌝ }
+{
+    hold_cells(pages, area, cells, easts, norths, marks);
+    hold_lines(words, lines, easts, norths, marks);
+    hold_reports(waiting, easts, norths, marks);
+}

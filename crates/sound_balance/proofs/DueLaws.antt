@@ -1,0 +1,203 @@
+-- Loops over radios on, waiting reports and memo lines: each row is added or written at its radio.
+use mathlib.Core.Path.{_≡_, refl, sym, ap, ap₂, _∙_, subst}
+use mathlib.Core.Bool.{Bool, true, false, not, _&&_}
+use mathlib.Core.List.{List, [], _∷_}
+use mathlib.Core.Option.{Option, none, some}
+use Prim.Native.Nat.{ℕ, zero, suc, _+_, _-_, _*_, _%_, _≤_, _<_, min}
+use native.Mathlib.Omega.{arith}
+use native.Mathlib.Numerals.{add-one}
+use lib.Dec.{eqb}
+use lib.ListN.{length, getD, set, drop, length-set}
+use lib.Seq.{getD-set-same, getD-set-other}
+use borrow.Author.Tests.{eqb-true, eqb-false}
+use Rattle.terms.specs.Terms.{maxRadio, maxOn}
+use Rattle.lists.specs.Rows.{Rows, Rising, UpTo, find}
+use Rattle.lists.specs.Tests.{one-if, both, either, all, orElse}
+use Rattle.lists.proofs.Cases.{by-cases}
+use Rattle.lists.proofs.RowsLaws.{rising-less, find-below}
+use Rattle.lists.proofs.TestsLaws.{both-true, all-cons}
+use Rattle.rules.specs.Limits.{fullMemory}
+use Rattle.rules.specs.Store.{Report as StoreReport, Line as StoreLine}
+use Rattle.rules.specs.Sweep.{staleBy, stale}
+use Rattle.desk.specs.declared.Waiting.{Waiting}
+use Rattle.desk.specs.declared.Line.{Line}
+use Rattle.desk.specs.declared.Memo.{Memo}
+use Rattle.desk.specs.declared.On.{On}
+use Rattle.desk.specs.Layout.{noReport, lineSlots, lineFields, noLine}
+use Rattle.desk.specs.Views.{linesIn, radioRow, radiosOf}
+use Rattle.desk.proofs.LinesLaws.{length-lines-in}
+use Rattle.memo.specs.Memo.{rowOf, linesOf}
+use Rattle.sound_directory.proofs.LoopLaws.{all-nil}
+use Rattle.waiting.specs.Waiting.{rowOf as reportRow, reportsOf}
+use Rattle.sound_balance.specs.Tables.{tableSize, fieldEnd, half, Blank, added, written, Named, lineNamed, judged, markNew, belongsBy, missedOff, oneOff}
+use Rattle.sound_balance.proofs.TableLaws.{row-next, row-none, Adding, adding-start, adding-end, adding-key, adding-turn}
+
+-- ---- radios on
+
+-- the radios before i are written: with the rest it is the whole
+pub record OnDue (o : On) (t₀ : List ℕ) (i : ℕ) (t : List ℕ) : Type 0 where
+  pub radios : UpTo maxRadio (drop i (radiosOf o))
+  pub same : written oneOff t (drop i (radiosOf o)) ≡ written oneOff t₀ (radiosOf o)
+
+pub on-start : (o : On) {t : List ℕ} → UpTo maxRadio (radiosOf o) → OnDue o t 0 t
+on-start o u = record { radios = u; same = refl }
+
+module _ (o : On) {t₀ : List ℕ} {i : ℕ} {t : List ℕ} (d : OnDue o t₀ i t) where
+  pub on-end : o .n ≤ i → t ≡ written oneOff t₀ (radiosOf o)
+  unfolding radiosOf written
+  on-end h = ap (written oneOff t) (sym (row-none radioRow (o .radios) (o .n) i h)) ∙ d .same
+
+  module _ (size : length (o .radios) ≡ maxOn) (few : o .n ≤ maxOn) (more : i < o .n) where
+    on-next : drop i (radiosOf o) ≡ radioRow (getD (o .radios) i 0) ∷ drop (i + 1) (radiosOf o)
+    unfolding radiosOf
+    on-next = row-next radioRow (o .radios) (o .n) i 0 (omega arith) more
+
+    on-here : UpTo maxRadio (radioRow (getD (o .radios) i 0) ∷ drop (i + 1) (radiosOf o))
+    on-here = subst (λ (l : Rows (Unit {0})). UpTo maxRadio l) on-next (d .radios)
+
+    pub on-radio : getD (o .radios) i 0 ≤ maxRadio
+    on-radio = on-here .0
+
+    pub on-turn : {k : ℕ} → k ≡ getD (o .radios) i 0 → OnDue o t₀ (i + 1) (set t k (fieldEnd - 1))
+    unfolding written
+    on-turn e = rw e (record { radios = on-here .1; same = ap (written oneOff t) (sym on-next) ∙ d .same })
+
+-- ---- waiting reports
+
+-- those before i belong if so: with what is left to test it is the test
+pub record Belonging (t₀ : List ℕ) (l : Rows StoreReport) (i : ℕ) (so : Bool) (t : List ℕ) : Type 0 where
+  pub rise : Rising 0 (drop i l)
+  pub same : both so (all (belongsBy t) (drop i l)) ≡ all (belongsBy t₀) l
+
+and-then : (a b c : Bool) → both (a && b) c ≡ both a (both b c)
+unfolding both
+and-then true b c = refl
+and-then false b c = refl
+
+-- what a radio's number is says nothing of reports of later radios
+belongs-above : (t : List ℕ) (k v b : ℕ) (l : Rows StoreReport) → k ≤ b → Rising b l → all (belongsBy (set t k v)) l ≡ all (belongsBy t) l
+unfolding all
+belongs-above t k v b [] h r = refl
+belongs-above t k v b (x ∷ l) h r =
+    ap₂ both
+    (ap (λ (n : ℕ). either (x .val .new) (not (eqb (n % half) 0))) (getD-set-other t k (x .key) v 0 (λ z. absurd (omega (arith, r .0)))))
+    (belongs-above t k v (x .key) l (omega (arith, r .0)) (r .1))
+
+pub belonging-start : {t : List ℕ} {l : Rows StoreReport} → Rising 0 l → Belonging t l 0 true t
+unfolding both
+belonging-start r = record { rise = r; same = refl }
+
+module _ (w : Waiting) {t₀ : List ℕ} {i : ℕ} {t : List ℕ} (a : Adding markNew t₀ (reportsOf w) i t) where
+  pub new-end : w .n ≤ i → t ≡ added markNew t₀ (reportsOf w)
+  unfolding reportsOf
+  new-end h = adding-end a (row-none reportRow (w .rows) (w .n) i h)
+
+  pub belonging-end : {so : Bool} → Belonging t₀ (reportsOf w) i so t → w .n ≤ i → so ≡ all (belongsBy t₀) (reportsOf w)
+  unfolding reportsOf
+  belonging-end {so} s h =
+      sym (both-true so) ∙ ap (both so) (sym (ap (all (belongsBy t)) (row-none reportRow (w .rows) (w .n) i h) ∙ all-nil (belongsBy t))) ∙ s .same
+
+  module _ (size : length (w .rows) ≡ fullMemory) (few : w .n ≤ fullMemory) (more : i < w .n) where
+    new-next : drop i (reportsOf w) ≡ reportRow (getD (w .rows) i noReport) ∷ drop (i + 1) (reportsOf w)
+    unfolding reportsOf
+    new-next = row-next reportRow (w .rows) (w .n) i noReport (omega arith) more
+
+    pub new-radio : getD (w .rows) i noReport .radio ≤ maxRadio
+    new-radio = adding-key a new-next
+
+    pub new-turn : {k m v : ℕ} → k ≡ getD (w .rows) i noReport .radio → m ≡ one-if (not (eqb (getD (w .rows) i noReport .new) 0)) → v ≡ (getD t k 0 + m) % fieldEnd
+        → Adding markNew t₀ (reportsOf w) (i + 1) (set t k v)
+    new-turn {k} e q r = adding-turn a new-next e (r ∙ ap (λ (n : ℕ). (getD t k 0 + n) % fieldEnd) q)
+
+    -- a radio waits once, so its number is that of the start
+    pub belonging-turn : {so b : Bool} {k : ℕ} (v : ℕ) → Belonging t₀ (reportsOf w) i so t → k ≡ getD (w .rows) i noReport .radio
+        → b ≡ either (not (eqb (getD (w .rows) i noReport .new) 0)) (not (eqb (getD t k 0 % half) 0))
+        → Belonging t₀ (reportsOf w) (i + 1) (so && b) (set t k v)
+    belonging-turn {so} {b} {k} v s e q =
+        let x = reportRow (getD (w .rows) i noReport) in
+        let l = drop (i + 1) (reportsOf w) in
+        let r : Rising 0 (x ∷ l) = subst (λ (y : Rows StoreReport). Rising 0 y) new-next (s .rise) in
+        let here : b ≡ belongsBy t x = q ∙ ap (λ (j : ℕ). either (x .val .new) (not (eqb (getD t j 0 % half) 0))) e in
+        record {
+          rise = rising-less 0 (x .key) l (omega (arith, r .0)) (r .1);
+          same =
+              ap (both (so && b)) (belongs-above t k v (x .key) l (omega (arith, e)) (r .1))
+              ∙ and-then so b (all (belongsBy t) l)
+              ∙ ap (both so) (ap (λ (y : Bool). both y (all (belongsBy t) l)) here ∙ sym (all-cons (belongsBy t) x l) ∙ ap (all (belongsBy t)) (sym new-next))
+              ∙ s .same;
+        }
+
+-- ---- memo lines
+
+-- the lines before i are added and named: with the rest it is the whole
+pub record LinesDue (m : Memo) (t₀ : List ℕ) (i : ℕ) (t lines : List ℕ) : Type 0 where
+  pub rise : Rising 0 (drop i (linesOf m))
+  pub missed : Adding missedOff t₀ (linesOf m) i t
+  pub size : length lines ≡ tableSize
+  pub named : Named (m .words) lines
+  pub found : (q : ℕ) → orElse (find (drop i (linesOf m)) q) (lineNamed (m .words) (getD lines q 0)) ≡ find (linesOf m) q
+
+getD-set-le : (t : List ℕ) (k v q b : ℕ) → getD t q 0 ≤ b → v ≤ b → getD (set t k v) q 0 ≤ b
+getD-set-le [] k v q b h g = h
+getD-set-le (x ∷ t) zero v zero b h g = g
+getD-set-le (x ∷ t) zero v (suc q) b h g = h
+getD-set-le (x ∷ t) (suc k) v zero b h g = h
+getD-set-le (x ∷ t) (suc k) v (suc q) b h g = getD-set-le t k v q b h g
+
+or-none : {A : Type 0} (o : Option A) → orElse o none ≡ o
+or-none none = refl
+or-none (some a) = refl
+
+pub lines-start : (m : Memo) {t lines : List ℕ} → length (m .words) ≡ lineFields * lineSlots → Rising 0 (linesOf m) → UpTo maxRadio (linesOf m) → Blank lines → LinesDue m t 0 t lines
+lines-start m l r u z = record {
+  rise = r;
+  missed = adding-start missedOff u;
+  size = z .size;
+  named = record { size = l; place = λ q. omega (arith, z .zeros q) };
+  found = λ q. ap (λ (k : ℕ). orElse (find (linesOf m) q) (lineNamed (m .words) k)) (z .zeros q) ∙ or-none (find (linesOf m) q);
+}
+
+module _ (m : Memo) {t₀ : List ℕ} {i : ℕ} {t lines : List ℕ} (l : LinesDue m t₀ i t lines) where
+  pub lines-end : m .n ≤ i → (t ≡ added missedOff t₀ (linesOf m)) × Named (m .words) lines × (judged (m .words) lines ≡ stale (linesOf m))
+  unfolding linesOf find judged
+  lines-end h =
+      let z = row-none rowOf (linesIn (m .words)) (m .n) i h in
+      let named : (q : ℕ) → lineNamed (m .words) (getD lines q 0) ≡ find (linesOf m) q = λ q.
+      ap (λ (y : Rows StoreLine). orElse (find y q) (lineNamed (m .words) (getD lines q 0))) (sym z) ∙ l .found q in
+      (adding-end (l .missed) z, l .named, λ j e. staleBy (named (e .key) j) (e .val))
+
+module _ (m : Memo) {i : ℕ} (size : length (m .words) ≡ lineFields * lineSlots) (few : m .n ≤ lineSlots) (more : i < m .n) {line : Line} (read : line ≡ getD (linesIn (m .words)) i noLine) where
+  line-next : drop i (linesOf m) ≡ rowOf line ∷ drop (i + 1) (linesOf m)
+  unfolding linesOf
+  line-next = rw read (row-next rowOf (linesIn (m .words)) (m .n) i noLine (let l = length-lines-in lineSlots (m .words) size in omega arith) more)
+
+  pub line-radio : {t₀ t lines : List ℕ} → LinesDue m t₀ i t lines → line .radio ≤ maxRadio
+  line-radio l = adding-key (l .missed) line-next
+
+  module _ {t₀ t lines : List ℕ} (l : LinesDue m t₀ i t lines) {k : ℕ} (at : k ≡ line .radio) (inside : k < tableSize) where
+    rise-next : Rising (line .radio) (drop (i + 1) (linesOf m))
+    rise-next = subst (λ (y : Rows StoreLine). Rising 0 y) line-next (l .rise) .1
+
+    named-next : (q : ℕ) → orElse (find (drop (i + 1) (linesOf m)) q) (lineNamed (m .words) (getD (set lines k (i + 1)) q 0)) ≡ find (linesOf m) q
+    unfolding find
+    named-next q =
+        let rest = drop (i + 1) (linesOf m) in
+        let before : orElse (find (rowOf line ∷ rest) q) (lineNamed (m .words) (getD lines q 0)) ≡ find (linesOf m) q =
+        ap (λ (y : Rows StoreLine). orElse (find y q) (lineNamed (m .words) (getD lines q 0))) (sym line-next) ∙ l .found q in
+        by-cases (eqb q (line .radio))
+        (λ e.
+        let z : q ≡ k = eqb-true q (line .radio) e ∙ sym at in
+        let n : getD (set lines k (i + 1)) q 0 ≡ suc i = ap (λ (j : ℕ). getD (set lines k (i + 1)) j 0) z ∙ getD-set-same lines k (i + 1) 0 (omega (arith, l .size)) ∙ add-one i in
+        rw (find-below q (line .radio) rest (omega arith) rise-next, n, ← read) (rw e at before))
+        (λ e. rw (getD-set-other lines k q (i + 1) 0 (λ z. eqb-false q (line .radio) e (z ∙ at))) (rw e at before))
+
+    pub lines-turn : {a v p : ℕ} → a ≡ (fieldEnd - half * min (line .missed) (half - 1)) % fieldEnd → v ≡ (getD t k 0 + a) % fieldEnd → p ≡ i + 1 → LinesDue m t₀ (i + 1) (set t k v) (set lines k p)
+    lines-turn q w e =
+        rw e
+        (record {
+          rise = rising-less 0 (line .radio) (drop (i + 1) (linesOf m)) (omega arith) rise-next;
+          missed = adding-turn (l .missed) line-next at (w ∙ ap (λ (n : ℕ). (getD t k 0 + n) % fieldEnd) q);
+          size = length-set lines k (i + 1) ∙ l .size;
+          named = record { size = size; place = λ j. getD-set-le lines k (i + 1) j lineSlots (l .named .place j) (omega arith) };
+          found = named-next;
+        })

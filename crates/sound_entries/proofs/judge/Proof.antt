@@ -1,0 +1,19 @@
+use borrow.Author.Needs.{needs}
+use Rattle.sound_entries.proofs.JudgeLaws.{judge-none, judge-east, judge-north}
+use Rattle.sound_entries.proofs.judge.Statement.{statement}
+use Rattle.sound_entries.proofs.judge.Tie as tie
+
+returns : tie.Need-returns
+returns c = (search judge-none, search needs)
+
+returns-2 : tie.Need-returns-2
+returns-2 c = (search judge-east, search needs)
+
+apart-requires : tie.Need-apart-requires
+apart-requires c κs = search needs
+
+returns-3 : tie.Need-returns-3
+returns-3 c = (search judge-north, search needs)
+
+pub judge-spec : {M : Type 1} → statement M
+judge-spec = tie.close (tie.spec returns returns-2 apart-requires returns-3)
