@@ -1,0 +1,394 @@
+#!/usr/bin/env python3
+"""A plain model of the position desk: the contract with the user, sentence by sentence, on lists and dicts.
+
+    from model import Model             Model().call(record, buffer) answers number, count and the bytes written
+    tools/model.py FILE...              holds journals (see tools/replay-vectors) against the model
+
+It is written from the contract's text and from the readings in docs/DECISIONS.md, not from the crates, so that one can be held
+against the other. Quick it is not: every step looks at everything. It takes its own store for sound, so it never answers 1 or 2.
+"""
+import hashlib
+import json
+import struct
+import sys
+
+# ---- the numbers of the contract
+
+LAST_RADIO = 4095           # "A radio number is 1 to 4,095."
+LAST_METRE = 65535          # "A place is east and north, each 0 to 65,535 metres."
+PAGES = 128                 # "One store has 128 pages,"
+MOST_CELLS = 64             # "at most 64 cells,"
+MOST_CUTS = 15              # "at most 15 east cuts and 15 north cuts,"
+MOST_ON = 512               # "and at most 512 radios signed on."
+PAGE_BYTES = 200            # "A page has 200 bytes"
+PAGE_HEAD = 8               # "used bytes (8 + 6 × entries)"
+ENTRY_BYTES = 6             # "radio, east, north", in an entry and in an answer
+PAGE_ENTRIES = 32           # "then up to 32 entries"
+NONE = 65535                # "65,535 for none", "65,535 if free"
+FREE, FIRST, FURTHER = 1, 2, 3  # "kind (1 free, 2 first of a cell, 3 further)"
+BOX_FULL = 8                # "if the memory cell of that place has 8 waiting, flush it"
+ALL_FULL = 128              # "If 128 still wait in all"
+SPLIT_ABOVE = 32            # "when d has more than 32 entries"
+SIDE_MOST = 32              # "existing cuts through d that leave at most 32 on each side"
+JOIN_MOST = 24              # "the two have at most 24 entries together"
+SWEEP_EVERY = 16            # "At 16, sweep the cell at the front of the round"
+
+RECORD_HEAD = 4             # "its length in bytes, its kind"
+SIGN_ON, REPORT, SIGN_OFF, RANGE = 1, 2, 3, 4
+LENGTHS = {SIGN_ON: 10, REPORT: 10, SIGN_OFF: 6, RANGE: 12}
+
+EAST, NORTH = 0, 1          # the two directions; a place is (east, north)
+ORDER = ("west", "east", "south", "north")  # where several neighbours may be joined, the first of these (left free by the contract)
+
+
+def fields(*numbers):
+    """Little-endian fields of 16 bits."""
+    return struct.pack(f"<{len(numbers)}H", *numbers)
+
+
+def record(kind, *body):
+    """A record: its length in bytes, its kind, its body."""
+    return fields(LENGTHS[kind], kind, *body)
+
+
+def parsed(given):
+    """Kind and body of a record that has the length for its kind."""
+    length, kind = struct.unpack("<2H", given[:RECORD_HEAD])
+    return kind, struct.unpack(f"<{(length - RECORD_HEAD) // 2}H", given[RECORD_HEAD:length])
+
+
+def entry_bytes(radio, place):
+    """An entry of a page; in an answer it looks the same."""
+    return fields(radio, *place)
+
+
+def in_range(place, west, east, south, north):
+    # "All four edges count as inside."
+    return west <= place[EAST] <= east and south <= place[NORTH] <= north
+
+
+def in_cell(place, west, east, south, north):
+    # "a cell's edges are its least and greatest coordinates, both inside it"
+    return west <= place[EAST] <= east and south <= place[NORTH] <= north
+
+
+class Cell:
+    def __init__(self, number, edges, chain):
+        self.number = number
+        self.edges = edges      # west, east, south, north: the least and greatest coordinates, all inside
+        self.chain = chain      # page numbers, the first page first
+        self.entries = {}       # radio: place
+
+    def low(self, way):
+        return self.edges[2 * way]
+
+    def high(self, way):
+        return self.edges[2 * way + 1]
+
+    def coordinates(self, way):
+        return sorted(place[way] for place in self.entries.values())
+
+
+class Model:
+    def __init__(self):
+        # "A fresh store has no cut, one cell (0) on page 0, and pages 1 to 127 free in that order."
+        self.cuts = ([], [])    # of each direction, rising
+        self.round = [Cell(0, (0, LAST_METRE, 0, LAST_METRE), [0])]  # the cells, the front of the round first
+        self.free = list(range(1, PAGES))
+        self.waiting = {}       # radio: (place, marked new)
+        self.memo = {}          # radio: [missed count, place or None for "none"]
+        self.on = set()
+        self.tally = 0
+        self.seen = []          # what the last call went through, in words, for those who write journals
+
+    # ---- one call
+
+    def call(self, given, buffer):
+        self.seen = []
+        number = self.refusal(given)
+        if number:
+            return number, 0, b""
+        kind, body = parsed(given)
+        if kind == RANGE:
+            found = [(radio, place) for radio in sorted(self.on) for place in [self.latest(radio)] if in_range(place, *body)]
+            if buffer < ENTRY_BYTES * len(found):
+                return 11, len(found), b""
+            return 0, len(found), b"".join(entry_bytes(radio, place) for radio, place in found)
+        radio, place = body[0], tuple(body[1:3])
+        if kind == SIGN_OFF:
+            self.sign_off(radio)
+        else:
+            self.on.add(radio)
+            marked = kind == SIGN_ON or self.waiting.get(radio, (place, False))[1]
+            self.waiting[radio] = (place, marked)
+            self.flush_if_due(place)
+        self.tick()
+        return 0, 0, b""
+
+    def refusal(self, given):
+        # "Turned down, in checking order": 3 to 10, or 0
+        if len(given) < RECORD_HEAD:
+            return 3
+        length, kind = struct.unpack("<2H", given[:RECORD_HEAD])
+        if length < RECORD_HEAD or length > len(given):
+            return 3
+        if kind not in LENGTHS:
+            return 4
+        if length != LENGTHS[kind]:
+            return 5
+        kind, body = parsed(given)
+        if kind == RANGE:
+            west, east, south, north = body
+            return 7 if west > east or south > north else 0
+        radio = body[0]
+        if radio == 0 or radio > LAST_RADIO:
+            return 6
+        if kind == SIGN_ON and radio in self.on:
+            return 8
+        if kind in (REPORT, SIGN_OFF) and radio not in self.on:
+            return 9
+        if kind == SIGN_ON and len(self.on) >= MOST_ON:
+            return 10
+        return 0
+
+    def latest(self, radio):
+        # "a waiting report's before a stored one's"
+        if radio in self.waiting:
+            return self.waiting[radio][0]
+        [place] = [cell.entries[radio] for cell in self.round if radio in cell.entries and not self.stale(radio, cell.entries[radio])]
+        return place
+
+    def stale(self, radio, place):
+        # "whose radio has a memo line with another place or none"
+        return radio in self.memo and self.memo[radio][1] != place
+
+    def miss(self, radio):
+        # "the missed count grows by 1 (made as 1 if absent)"
+        self.memo.setdefault(radio, [0, None])[0] += 1
+
+    def sign_off(self, radio):
+        self.on.remove(radio)
+        _, marked = self.waiting.pop(radio, (None, False))
+        if not marked:
+            self.miss(radio)
+            self.memo[radio][1] = None
+
+    def tick(self):
+        # "Each accepted sign-on, report or sign-off adds 1 to c. At 16, sweep the cell at the front of the round"
+        self.tally += 1
+        if self.tally == SWEEP_EVERY:
+            cell = self.round[0]
+            self.sweep(cell)
+            self.settle(cell)
+            self.goes_last(cell)
+            self.tally = 0
+            self.seen.append(f"sweep of {cell.number}, {len(cell.entries)} entries")
+
+    # ---- flush
+
+    def box(self, place):
+        """The memory cell of a place, south first: "a cut at c puts coordinates below c on the low side"."""
+        return tuple(sum(cut <= place[way] for cut in self.cuts[way]) for way in (NORTH, EAST))
+
+    def flush_if_due(self, place):
+        boxes = {}
+        for radio in sorted(self.waiting):
+            boxes.setdefault(self.box(self.waiting[radio][0]), []).append(radio)
+        if len(boxes[self.box(place)]) == BOX_FULL:
+            self.flush(boxes[self.box(place)])
+        elif len(self.waiting) == ALL_FULL:
+            # "flush the memory cell with most waiting; ties go to the southern, then the western"
+            self.flush(boxes[min(boxes, key=lambda box: (-len(boxes[box]), box))])
+
+    def flush(self, radios):
+        """Flushes a memory cell, given the radios that wait in it, rising."""
+        first = self.waiting[radios[0]][0]
+        [d] = [cell for cell in self.round if in_cell(first, *cell.edges)]
+        self.sweep(d)
+        for radio in radios:
+            place, marked = self.waiting.pop(radio)
+            if radio not in d.entries and not marked:
+                self.miss(radio)
+            d.entries[radio] = place
+            if radio in self.memo:
+                self.memo[radio][1] = place
+        self.goes_last(d)
+        self.seen.append(f"flush of {len(radios)} into {d.number}, {len(d.entries)} entries")
+        if len(d.entries) > SPLIT_ABOVE:
+            if len(self.round) < MOST_CELLS:
+                self.split(d)
+            self.settle(d)
+        else:
+            self.settle(d)
+            self.join(d)
+
+    def sweep(self, cell):
+        for radio in sorted(cell.entries):
+            if self.stale(radio, cell.entries[radio]):
+                del cell.entries[radio]
+                self.memo[radio][0] -= 1
+                if self.memo[radio][0] == 0:
+                    del self.memo[radio]
+
+    def goes_last(self, cell):
+        self.round = [other for other in self.round if other is not cell] + [cell]
+
+    def settle(self, cell):
+        # "max(1, ⌈e/32⌉) pages"; "A chain gives up its last pages first"; "pages are taken from the front"
+        needed = max(1, -(-len(cell.entries) // PAGE_ENTRIES))
+        while len(cell.chain) > needed:
+            self.free.insert(0, cell.chain.pop())
+        while len(cell.chain) < needed:
+            cell.chain.append(self.free.pop(0))
+
+    # ---- split
+
+    def split(self, d):
+        chosen = self.existing_cut(d) or self.new_cut(d)
+        if chosen is None:
+            self.seen.append("no cut")
+            return
+        way, cut = chosen
+        if cut not in self.cuts[way]:
+            self.cuts[way].append(cut)
+            self.cuts[way].sort()
+        number = min(set(range(MOST_CELLS)) - {cell.number for cell in self.round})
+        low, high = list(d.edges), list(d.edges)
+        low[2 * way + 1] = cut - 1
+        high[2 * way] = cut
+        new = Cell(number, tuple(high), [])
+        new.entries = {radio: place for radio, place in d.entries.items() if place[way] >= cut}
+        d.entries = {radio: place for radio, place in d.entries.items() if place[way] < cut}
+        d.edges = tuple(low)
+        self.settle(d)
+        self.settle(new)
+        self.goes_last(new)
+        self.seen.append(f"split of {d.number} at {'north' if way else 'east'} {cut}: {len(d.entries)} and {len(new.entries)} in {number}")
+
+    def existing_cut(self, d):
+        # "among existing cuts through d that leave at most 32 on each side, take the least difference; ties go to east cuts, then the lower"
+        found = []
+        for way in (EAST, NORTH):
+            for cut in self.cuts[way]:
+                if d.low(way) < cut <= d.high(way):
+                    low = sum(coordinate < cut for coordinate in d.coordinates(way))
+                    high = len(d.entries) - low
+                    if low <= SIDE_MOST and high <= SIDE_MOST:
+                        found.append((abs(low - high), way, cut))
+        return min(found)[1:] if found else None
+
+    def new_cut(self, d):
+        # "try the longer side of d (east if equal), then the other"; "Take the first valid cut and look no further."
+        longer_north = d.high(NORTH) - d.low(NORTH) > d.high(EAST) - d.low(EAST)
+        for way in (NORTH, EAST) if longer_north else (EAST, NORTH):
+            sorted_coordinates = d.coordinates(way)
+            least = sorted_coordinates[0]
+            cut = sorted_coordinates[len(sorted_coordinates) // 2]
+            if cut == least:
+                greater = [coordinate for coordinate in sorted_coordinates if coordinate > least]
+                if not greater:
+                    continue
+                cut = greater[0]
+            if cut in self.cuts[way] or len(self.cuts[way]) < MOST_CUTS:
+                return way, cut
+        return None
+
+    # ---- join
+
+    def join(self, d):
+        for side in ORDER:
+            for other in self.round:
+                if self.beside(d, other) == side and len(d.entries) + len(other.entries) <= JOIN_MOST:
+                    self.sweep(other)
+                    self.settle(other)
+                    self.join_with(d, other, side)
+                    return
+
+    def beside(self, d, other):
+        """On which side of d the other cell makes a rectangle with it, or None."""
+        (west, east, south, north), (other_west, other_east, other_south, other_north) = d.edges, other.edges
+        if (south, north) == (other_south, other_north):
+            return "west" if other_east + 1 == west else "east" if east + 1 == other_west else None
+        if (west, east) == (other_west, other_east):
+            return "south" if other_north + 1 == south else "north" if north + 1 == other_south else None
+        return None
+
+    def join_with(self, d, other, side):
+        # "The smaller number survives and goes last in the round; pages of the other are freed."
+        survivor, gone = (d, other) if d.number < other.number else (other, d)
+        pairs = list(zip(d.edges, other.edges))
+        survivor.edges = tuple(choose(pair) for choose, pair in zip((min, max, min, max), pairs))
+        survivor.entries = {**d.entries, **other.entries}
+        self.round.remove(gone)
+        while gone.chain:
+            self.free.insert(0, gone.chain.pop())
+        self.settle(survivor)
+        self.goes_last(survivor)
+        self.seen.append(f"join of {d.number} with {other.number} to its {side}, {len(survivor.entries)} entries")
+
+    # ---- what stands on the pages, and the whole state
+
+    def pages(self):
+        pages = [b""] * PAGES
+        for page, following in zip(self.free, self.free[1:] + [NONE]):
+            pages[page] = self.page_bytes(FREE, following, NONE, [])
+        for cell in self.round:
+            entries = sorted(cell.entries.items())
+            for i, (page, following) in enumerate(zip(cell.chain, cell.chain[1:] + [NONE])):
+                part = entries[PAGE_ENTRIES * i:PAGE_ENTRIES * (i + 1)]
+                pages[page] = self.page_bytes(FURTHER if i else FIRST, following, cell.number, part)
+        return b"".join(pages)
+
+    def page_bytes(self, kind, following, cell, entries):
+        head = fields(PAGE_HEAD + ENTRY_BYTES * len(entries), kind, following, cell)
+        return (head + b"".join(entry_bytes(radio, place) for radio, place in entries)).ljust(PAGE_BYTES, b"\0")
+
+    def store(self):
+        """The whole state as the journals write it."""
+        return {
+            "east_cuts": list(self.cuts[EAST]),
+            "north_cuts": list(self.cuts[NORTH]),
+            "cells": [{
+                "number": cell.number,
+                "edges": list(cell.edges),
+                "chain": list(cell.chain),
+                "entries": [[radio, *place] for radio, place in sorted(cell.entries.items())],
+            } for cell in self.round],
+            "free": list(self.free),
+            "waiting": [[radio, *place, marked] for radio, (place, marked) in sorted(self.waiting.items())],
+            "memo": [[radio, missed, place and list(place)] for radio, (missed, place) in sorted(self.memo.items())],
+            "on": sorted(self.on),
+            "tally": self.tally,
+        }
+
+    def line(self, given, buffer, with_store):
+        """Makes a call. Answers its line of a journal."""
+        number, count, answer = self.call(given, buffer)
+        line = {"record": given.hex(), "buffer": buffer, "number": number, "count": count, "answer": answer.hex(),
+                "pages": hashlib.sha256(self.pages()).hexdigest()}
+        return {**line, "store": self.store()} if with_store else line
+
+
+def main(files):
+    if not files:
+        print("usage: tools/model.py FILE...", file=sys.stderr)
+        return 2
+    agreed = True
+    for name in files:
+        model = Model()
+        with open(name, encoding="ascii") as lines:
+            for number, line in enumerate(lines, 1):
+                wanted = json.loads(line)
+                made = model.line(bytes.fromhex(wanted["record"]), wanted["buffer"], "store" in wanted)
+                if made != wanted:
+                    differing = [key for key in wanted if made[key] != wanted[key]]
+                    print(f"{name}: line {number}: {', '.join(differing)}")
+                    agreed = False
+                    break
+            else:
+                print(f"{name}: the model agrees")
+    return 0 if agreed else 1
+
+
+if __name__ == "__main__":
+    sys.exit(main(sys.argv[1:]))
