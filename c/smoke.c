@@ -1,18 +1,9 @@
-/* The desk through its C interface: the layout of the desk, a fresh store, the contract's own journal, and the test of soundness. */
+/* The desk through its C interface: a fresh store, the contract's own journal, the test of soundness, and a desk that is saved and restored as bytes. */
 #undef NDEBUG
 #include "boragefile.h"
 #include <assert.h>
 #include <stdio.h>
 #include <string.h>
-
-_Static_assert(sizeof(boragefile_cut_list) == 40, "cut list");
-_Static_assert(sizeof(boragefile_directory) == 776, "directory");
-_Static_assert(sizeof(boragefile_grid) == 864, "grid");
-_Static_assert(sizeof(boragefile_waiting) == 1032, "waiting");
-_Static_assert(sizeof(boragefile_memo) == 11520, "memo");
-_Static_assert(sizeof(boragefile_on) == 1032, "on");
-_Static_assert(sizeof(boragefile_desk) == 14456, "desk");
-_Static_assert(sizeof(boragefile_answer) == 4, "answer");
 
 /* All that is lent, between guards that no call may touch. */
 static struct lent {
@@ -115,10 +106,25 @@ int main(void)
     expect(on, 0, 3, 0);
     expect(range, 11, 3, 0);
 
-    /* sound after all these; a damaged store: number 2 */
+    /* sound after all these */
     assert(is_sound(sizeof lent.pages));
+
+    /* a desk is its bytes: whatever it is copied over, the copy is the same desk, and a fresh one is the same wherever it is made */
+    boragefile_desk copy;
+    memset(&copy, 0x5A, sizeof copy);
+    memcpy(&copy, &lent.desk, sizeof copy);
+    assert(boragefile_sound(&copy, lent.pages, sizeof lent.pages));
+    static uint8_t pages[2][BORAGEFILE_PAGES_BYTES];
+    boragefile_desk fresh[2];
+    memset(&fresh[0], 0x00, sizeof fresh[0]);
+    memset(&fresh[1], 0xFF, sizeof fresh[1]);
+    for (int i = 0; i < 2; i++)
+        assert(boragefile_begin(&fresh[i], pages[i], sizeof pages[i]).number == BORAGEFILE_ACCEPTED);
+    assert(memcmp(&fresh[0], &fresh[1], sizeof fresh[0]) == 0 && memcmp(pages[0], pages[1], sizeof pages[0]) == 0);
+
+    /* a damaged store: number 2 */
     lent.desk.tally = 16;
-    expect(range, sizeof range, 2, 0);
+    expect(range, sizeof range, BORAGEFILE_UNSOUND, 0);
     assert(!is_sound(sizeof lent.pages));
 
     printf("ok\n");

@@ -1,4 +1,4 @@
-/* The position desk: the three functions of libboragefile.a, and the desk that they are lent. */
+/* The position desk: the three functions of libboragefile.a, the desk that they are lent, and what they answer. docs/USING.md says how to use them. */
 #ifndef BORAGEFILE_H
 #define BORAGEFILE_H
 
@@ -6,18 +6,67 @@
 #include <stddef.h>
 #include <stdint.h>
 
-#ifdef __cplusplus
-extern "C" {
-#endif
+/* The layout of the desk is part of the version: a desk that another version saved is not for this one. */
+#define BORAGEFILE_VERSION_MAJOR 0
+#define BORAGEFILE_VERSION_MINOR 1
+#define BORAGEFILE_VERSION_PATCH 0
+#define BORAGEFILE_VERSION "0.1.0"
 
 #define BORAGEFILE_PAGES_BYTES 25600 /* 128 pages of 200 bytes */
-#define BORAGEFILE_LIST_BYTES 3072   /* an answer buffer that takes 512 radios */
+#define BORAGEFILE_DESK_BYTES 14402
+#define BORAGEFILE_ENTRY_BYTES 6   /* radio, east, north */
+#define BORAGEFILE_LIST_BYTES 3072 /* an answer buffer that takes 512 radios, all that may be on */
 
-/* The desk, field by field as the proved code has it. Counts come first in each part; slots past the count are zero. */
+/* the kinds of records */
+enum {
+    BORAGEFILE_KIND_SIGN_ON = 1,
+    BORAGEFILE_KIND_REPORT = 2,
+    BORAGEFILE_KIND_SIGN_OFF = 3,
+    BORAGEFILE_KIND_RANGE = 4
+};
+
+/* an answer's number: 0, or the first check that turned the call down, in checking order */
+enum {
+    BORAGEFILE_ACCEPTED = 0,
+    BORAGEFILE_PAGE_BUFFER = 1,
+    BORAGEFILE_UNSOUND = 2,
+    BORAGEFILE_LENGTH = 3,
+    BORAGEFILE_KIND = 4,
+    BORAGEFILE_LENGTH_OF_KIND = 5,
+    BORAGEFILE_RADIO = 6,
+    BORAGEFILE_RECTANGLE = 7,
+    BORAGEFILE_ALREADY_ON = 8,
+    BORAGEFILE_NOT_ON = 9,
+    BORAGEFILE_FULL = 10,
+    BORAGEFILE_ANSWER_BUFFER = 11
+};
+
+/* An answer's number in words. The text is constant; it is never null. */
+static inline const char *boragefile_words(uint16_t number)
+{
+    switch (number) {
+    case BORAGEFILE_ACCEPTED: return "accepted";
+    case BORAGEFILE_PAGE_BUFFER: return "the page buffer isn't 25,600 bytes";
+    case BORAGEFILE_UNSOUND: return "the store isn't sound";
+    case BORAGEFILE_LENGTH: return "fewer than 4 bytes are at hand, or the length is below 4 or above what is at hand";
+    case BORAGEFILE_KIND: return "the kind isn't 1 to 4";
+    case BORAGEFILE_LENGTH_OF_KIND: return "the length isn't the one for its kind";
+    case BORAGEFILE_RADIO: return "a radio is 0 or above 4,095";
+    case BORAGEFILE_RECTANGLE: return "a range has west above east or south above north";
+    case BORAGEFILE_ALREADY_ON: return "a sign-on names a radio that is on";
+    case BORAGEFILE_NOT_ON: return "a report or sign-off names a radio that isn't on";
+    case BORAGEFILE_FULL: return "a sign-on comes while 512 are on";
+    case BORAGEFILE_ANSWER_BUFFER: return "the answer buffer is too small for the radios found";
+    default: return "no number of this version";
+    }
+}
+
+/* The desk, field by field as the proved code has it. Every field is a 16-bit number, with nothing between the fields and nothing after the last: two desks
+ * with equal fields are equal byte by byte, and a desk may be saved and compared as bytes. Counts come first in each part; slots past the count are zero. */
 
 /* the cuts of one direction, rising */
 typedef struct {
-    size_t n;
+    uint16_t n;
     uint16_t at[15];
 } boragefile_cut_list;
 
@@ -28,7 +77,7 @@ typedef struct {
 
 /* the cells in the order of the round, its front first */
 typedef struct {
-    size_t n;
+    uint16_t n;
     boragefile_slot slots[64];
 } boragefile_directory;
 
@@ -43,8 +92,9 @@ typedef struct {
     uint16_t radio, east, north, is_new;
 } boragefile_report;
 
+/* by rising radio: room for one more than may wait between two calls */
 typedef struct {
-    size_t n;
+    uint16_t n;
     boragefile_report rows[128];
 } boragefile_waiting;
 
@@ -53,14 +103,15 @@ typedef struct {
     uint16_t radio, missed, placed, east, north;
 } boragefile_line;
 
+/* by rising radio: room for one line more than there may be between two calls */
 typedef struct {
-    size_t n;
+    uint16_t n;
     boragefile_line rows[1151];
 } boragefile_memo;
 
 /* the radios on, rising */
 typedef struct {
-    size_t n;
+    uint16_t n;
     uint16_t radios[512];
 } boragefile_on;
 
@@ -69,7 +120,7 @@ typedef struct {
     boragefile_waiting waiting;
     boragefile_memo memo;
     boragefile_on on;
-    uint16_t tally;
+    uint16_t tally; /* accepted sign-ons, reports and sign-offs since the last sweep of the round */
 } boragefile_desk;
 
 /* 0, or the number of the check that turned the call down; and what it counted */
@@ -77,13 +128,45 @@ typedef struct {
     uint16_t number, count;
 } boragefile_answer;
 
+#ifdef __cplusplus
+#define BORAGEFILE_STATIC_ASSERT static_assert
+#else
+#define BORAGEFILE_STATIC_ASSERT _Static_assert
+#endif
+
+BORAGEFILE_STATIC_ASSERT(sizeof(boragefile_cut_list) == 32, "cut list");
+BORAGEFILE_STATIC_ASSERT(sizeof(boragefile_slot) == 12, "slot");
+BORAGEFILE_STATIC_ASSERT(sizeof(boragefile_directory) == 770, "directory");
+BORAGEFILE_STATIC_ASSERT(sizeof(boragefile_grid) == 836, "grid");
+BORAGEFILE_STATIC_ASSERT(offsetof(boragefile_grid, norths) == 32, "north cuts");
+BORAGEFILE_STATIC_ASSERT(offsetof(boragefile_grid, cells) == 64, "cells");
+BORAGEFILE_STATIC_ASSERT(offsetof(boragefile_grid, free) == 834, "front of the free chain");
+BORAGEFILE_STATIC_ASSERT(sizeof(boragefile_report) == 8, "report");
+BORAGEFILE_STATIC_ASSERT(sizeof(boragefile_waiting) == 1026, "waiting");
+BORAGEFILE_STATIC_ASSERT(sizeof(boragefile_line) == 10, "line");
+BORAGEFILE_STATIC_ASSERT(sizeof(boragefile_memo) == 11512, "memo");
+BORAGEFILE_STATIC_ASSERT(sizeof(boragefile_on) == 1026, "on");
+BORAGEFILE_STATIC_ASSERT(sizeof(boragefile_desk) == BORAGEFILE_DESK_BYTES, "desk");
+BORAGEFILE_STATIC_ASSERT(offsetof(boragefile_desk, waiting) == 836, "waiting in the desk");
+BORAGEFILE_STATIC_ASSERT(offsetof(boragefile_desk, memo) == 1862, "memo in the desk");
+BORAGEFILE_STATIC_ASSERT(offsetof(boragefile_desk, on) == 13374, "on in the desk");
+BORAGEFILE_STATIC_ASSERT(offsetof(boragefile_desk, tally) == 14400, "tally in the desk");
+BORAGEFILE_STATIC_ASSERT(sizeof(boragefile_answer) == 4, "answer");
+
+#undef BORAGEFILE_STATIC_ASSERT
+
+#ifdef __cplusplus
+extern "C" {
+#endif
+
 /* A slice is a pointer and a length. The caller owes this much: no pointer is null, even with length 0; the desk is aligned; no two of desk,
  * pages, bytes and buffer overlap. What stands in them is free. */
 
 /* Makes desk and pages a fresh store. Only number 1 can turn it down. */
 boragefile_answer boragefile_begin(boragefile_desk *desk, uint8_t *pages, size_t pages_length);
 
-/* Hands in one record. A turned-down call keeps every byte; an accepted range lists its radios at the buffer's start. */
+/* Hands in one record. A turned-down call keeps every byte. An accepted range lists its radios at the buffer's start, count of them; after any
+ * other answer, number 11 among them, what stands in the buffer is no list. */
 boragefile_answer boragefile_call(boragefile_desk *desk, uint8_t *pages, size_t pages_length,
                                   const uint8_t *bytes, size_t bytes_length,
                                   uint8_t *buffer, size_t buffer_length);

@@ -13,7 +13,7 @@ fn main() {
     println!("cargo:rerun-if-changed={}", archive.display());
     assert!(
         archive.is_file(),
-        "{} is missing: run `rt staticlib boragefile` in the repository's root",
+        "{} is missing: run `tools/prove library boragefile` in the repository's root",
         archive.display()
     );
     println!("cargo:rustc-link-search=native={}", directory.display());

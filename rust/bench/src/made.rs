@@ -31,12 +31,12 @@ pub fn made_store() -> Store {
 /// Cell n is number n of the round, on page n alone; the pages after these are free.
 fn fill_grid(desk: &mut Desk) {
     for cuts in [&mut desk.grid.easts, &mut desk.grid.norths] {
-        cuts.n = ROW - 1;
+        cuts.n = ROW as u16 - 1;
         for (at, low) in cuts.at[..ROW - 1].iter_mut().zip(1..) {
             *at = SIDE * low;
         }
     }
-    desk.grid.cells.n = CELLS;
+    desk.grid.cells.n = CELLS as u16;
     for (cell, slot) in desk.grid.cells.slots.iter_mut().enumerate() {
         let (west, south) = corner(cell);
         *slot = Slot {
@@ -52,11 +52,11 @@ fn fill_grid(desk: &mut Desk) {
 }
 
 fn fill_radios(desk: &mut Desk) {
-    desk.on.n = ON;
+    desk.on.n = ON as u16;
     for (line, on) in desk.on.radios.iter_mut().enumerate() {
         *on = radio(line);
     }
-    desk.memo.n = LINES;
+    desk.memo.n = LINES as u16;
     for (line, row) in desk.memo.rows[..LINES].iter_mut().enumerate() {
         let (placed, (east, north)) = if line < ON {
             (1, place(radio(line), live_cell(line)))

@@ -7,8 +7,8 @@
 #![forbid(unsafe_code)]
 mod made;
 
-use conformance::{Plain, Xorshift};
 use boragefile::{Record, Store, LIST_BYTES, PAGE_BYTES};
+use conformance::{Plain, Xorshift};
 use made::made_store;
 use std::f64::consts::TAU;
 use std::hint::black_box;
@@ -149,7 +149,7 @@ fn time_desk(walk: &Walk) -> (Times, Store) {
     let times = time_groups(walk, |bytes| {
         let answer = store.call(bytes, &mut buffer);
         assert_eq!(answer.number(), 0);
-        answer.count().into()
+        answer.count()
     });
     (times, store)
 }
@@ -159,7 +159,7 @@ fn time_plain(walk: &Walk) -> Times {
     time_groups(walk, |bytes| {
         let told = plain.call(bytes, LIST_BYTES);
         assert_eq!(told.number, 0);
-        told.count.into()
+        told.count
     })
 }
 
@@ -180,11 +180,11 @@ fn time_test(store: &Store, times: usize) -> u128 {
 fn pages_changed(walk: &Walk) -> f64 {
     let mut store = Store::fresh();
     for sign_on in &walk.sign_ons {
-        store.call(sign_on, &mut []);
+        assert_eq!(store.call(sign_on, &mut []).number(), 0);
     }
     let (mut before, mut changed, mut reports) = (store.pages().to_vec(), 0, 0);
     for report in walk.groups.iter().flat_map(|(reports, _)| reports) {
-        store.call(report, &mut []);
+        assert_eq!(store.call(report, &mut []).number(), 0);
         let pairs = store
             .pages()
             .chunks_exact(PAGE_BYTES)

@@ -1,43 +1,62 @@
 //! What a call answers.
+use crate::list::List;
 use std::fmt;
 
-/// The answer to one call.
+/// The answer to one call. It borrows the answer buffer, so that its list is read before the buffer is lent again.
+///
+/// Further fields may come to an accepted or refused call: match these with `..`.
+///
+/// An answer that nobody looks at is a warning, and here an error:
+///
+/// ```compile_fail
+/// #![deny(unused_must_use)]
+/// # use boragefile::{Record, Store};
+/// # let mut store = Store::fresh();
+/// store.call(&Record::SignOff { radio: 7 }.to_bytes(), &mut []);
+/// ```
+#[must_use = "the call may be turned down"]
 #[derive(Clone, Copy, PartialEq, Eq, Debug)]
-pub enum Answer {
+pub enum Answer<'b> {
     /// A sign-on, report or sign-off was carried out, or a fresh store was made.
-    Accepted,
-    /// A range was carried out and found this many radios.
-    Found(u16),
-    /// The call was turned down and kept every byte. The count is 0, but for [`Refusal::AnswerBuffer`]: there it is the
-    /// number of radios found.
-    Refused(Refusal, u16),
+    #[non_exhaustive]
+    Accepted {},
+    /// A range was carried out and found these radios.
+    Found(List<'b>),
+    /// The call was turned down and kept every byte: there is no list.
+    #[non_exhaustive]
+    Refused {
+        /// Why.
+        refusal: Refusal,
+        /// 0, but for [`Refusal::AnswerBuffer`]: there it is the number of radios found.
+        count: usize,
+    },
 }
 
 /// Why a call was turned down: the eleven checks, in checking order.
 #[derive(Clone, Copy, PartialEq, Eq, PartialOrd, Ord, Debug)]
 #[repr(u16)]
 pub enum Refusal {
-    /// Number 1.
+    /// Number 1: the page buffer isn't 25,600 bytes.
     PageBuffer = 1,
-    /// Number 2.
+    /// Number 2: the store isn't sound.
     Unsound,
-    /// Number 3.
+    /// Number 3: fewer than 4 bytes are at hand, or the length is below 4 or above what is at hand.
     Length,
-    /// Number 4.
+    /// Number 4: the kind isn't 1 to 4.
     Kind,
-    /// Number 5.
+    /// Number 5: the length isn't the one for its kind.
     LengthOfKind,
-    /// Number 6.
+    /// Number 6: a radio is 0 or above 4,095.
     Radio,
-    /// Number 7.
+    /// Number 7: a range has west above east or south above north.
     Rectangle,
-    /// Number 8.
+    /// Number 8: a sign-on names a radio that is on.
     AlreadyOn,
-    /// Number 9.
+    /// Number 9: a report or sign-off names a radio that isn't on.
     NotOn,
-    /// Number 10.
+    /// Number 10: a sign-on comes while 512 are on.
     Full,
-    /// Number 11.
+    /// Number 11: the answer buffer is too small for the radios found.
     AnswerBuffer,
 }
 
@@ -93,35 +112,69 @@ impl fmt::Display for Refusal {
 
 impl std::error::Error for Refusal {}
 
-impl Answer {
+/// What the archive answers: the number of the check that turned the call down, or 0, and a count.
+#[repr(C)]
+#[derive(Clone, Copy)]
+pub(crate) struct Numbers {
+    pub number: u16,
+    pub count: u16,
+}
+
+impl<'b> Answer<'b> {
     /// The number of the check that turned the call down, or 0.
-    pub fn number(self) -> u16 {
+    pub fn number(&self) -> u16 {
+        self.refusal().map_or(0, Refusal::number)
+    }
+
+    /// The count that the answer carries: the radios found, also where their list did not fit, else 0.
+    pub fn count(&self) -> usize {
         match self {
-            Answer::Refused(refusal, _) => refusal.number(),
-            _ => 0,
+            Answer::Accepted {} => 0,
+            Answer::Found(list) => list.len(),
+            Answer::Refused { count, .. } => *count,
         }
     }
 
-    /// The count that the answer carries.
-    pub fn count(self) -> u16 {
+    /// Why the call was turned down, if it was.
+    pub fn refusal(&self) -> Option<Refusal> {
         match self {
-            Answer::Accepted => 0,
-            Answer::Found(count) | Answer::Refused(_, count) => count,
+            Answer::Refused { refusal, .. } => Some(*refusal),
+            Answer::Accepted {} | Answer::Found(_) => None,
         }
     }
 
-    /// The answer with these numbers, to a range or to another call.
-    pub(crate) fn from_numbers(number: u16, count: u16, to_range: bool) -> Answer {
-        match Refusal::from_number(number) {
-            Some(refusal) => Answer::Refused(refusal, count),
+    /// Whether a sign-on, report or sign-off was carried out, or a fresh store made.
+    pub fn is_accepted(&self) -> bool {
+        matches!(self, Answer::Accepted {})
+    }
+
+    /// The radios found, if this is an accepted range.
+    pub fn list(&self) -> Option<List<'b>> {
+        match self {
+            Answer::Found(list) => Some(*list),
+            Answer::Accepted {} | Answer::Refused { .. } => None,
+        }
+    }
+
+    /// The answer with these numbers to a call that lists nothing.
+    pub(crate) fn without_list(numbers: Numbers) -> Answer<'b> {
+        match Refusal::from_number(numbers.number) {
+            Some(refusal) => Answer::Refused {
+                refusal,
+                count: numbers.count.into(),
+            },
             None => {
-                assert_eq!(number, 0, "an answer's number is 0 to 11");
-                if to_range {
-                    Answer::Found(count)
-                } else {
-                    Answer::Accepted
-                }
+                assert_eq!(numbers.number, 0, "an answer's number is 0 to 11");
+                Answer::Accepted {}
             }
+        }
+    }
+
+    /// The answer with these numbers to a range. Only an accepted one has written its list to the buffer.
+    pub(crate) fn to_range(numbers: Numbers, buffer: &'b [u8]) -> Answer<'b> {
+        match Answer::without_list(numbers) {
+            Answer::Accepted {} => Answer::Found(List::at_start(buffer, numbers.count.into())),
+            refused => refused,
         }
     }
 }
@@ -139,5 +192,18 @@ mod tests {
         }
         assert_eq!(Refusal::from_number(0), None);
         assert_eq!(Refusal::from_number(12), None);
+    }
+
+    #[test]
+    fn a_refused_range_has_no_list() {
+        let buffer = [7, 0, 100, 0, 200, 0];
+        for refusal in Refusal::ALL {
+            let number = refusal.number();
+            let answer = Answer::to_range(Numbers { number, count: 1 }, &buffer);
+            assert_eq!((answer.refusal(), answer.count()), (Some(refusal), 1));
+            assert_eq!(answer.list(), None);
+        }
+        let found = Answer::to_range(Numbers { number: 0, count: 1 }, &buffer);
+        assert_eq!(found.list().map(|list| list.len()), Some(1));
     }
 }

@@ -4,26 +4,42 @@
 //! The code behind is proved; this crate only lends it memory. It is the one crate here with `unsafe` in it.
 //!
 //! ```
-//! use boragefile::{Answer, Record, Store};
+//! use boragefile::{Answer, Record, Store, LIST_BYTES};
 //!
 //! let mut store = Store::fresh();
-//! let mut buffer = [0; 3072];
+//! let mut buffer = [0; LIST_BYTES];
 //! let on = Record::SignOn { radio: 7, east: 100, north: 200 };
-//! assert_eq!(store.call(&on.to_bytes(), &mut buffer), Answer::Accepted);
 //! let range = Record::Range { west: 0, east: 300, south: 0, north: 200 };
-//! assert_eq!(store.call(&range.to_bytes(), &mut buffer), Answer::Found(1));
-//! assert_eq!(boragefile::listed(&buffer, 1).next(), Some((7, 100, 200)));
+//! for record in [on, range] {
+//!     match store.call(&record.to_bytes(), &mut buffer) {
+//!         Answer::Accepted { .. } => println!("ok"),
+//!         Answer::Found(list) => {
+//!             println!("found {}", list.len());
+//!             for located in list {
+//!                 println!("{} {} {}", located.radio, located.east, located.north);
+//!             }
+//!         }
+//!         Answer::Refused { refusal, .. } => println!("refused {}: {refusal}", refusal.number()),
+//!     }
+//! }
 //! ```
+//!
+//! `examples/` keeps a store in a file across restarts; `docs/USING.md` says what a serving program does on each refusal.
 #![warn(missing_docs)]
 
 mod answer;
 mod desk;
+mod list;
 mod record;
 
+use answer::Numbers;
 pub use answer::{Answer, Refusal};
-pub use desk::{CutList, Desk, Directory, Grid, Line, Memo, On, Report, Slot, Waiting};
+pub use desk::{CutList, Desk, Directory, Grid, Line, Memo, On, Report, Slot, Waiting, DESK_BYTES};
+pub use list::{List, ListIter, Located};
 pub use record::{Record, KIND_RANGE, KIND_REPORT, KIND_SIGN_OFF, KIND_SIGN_ON};
 
+/// The version of desk and wrapper. The layout of the desk is part of it: a desk that another version saved is not for this one.
+pub const VERSION: &str = env!("CARGO_PKG_VERSION");
 /// The bytes of one page.
 pub const PAGE_BYTES: usize = 200;
 /// The pages of a store.
@@ -36,13 +52,6 @@ pub const ENTRY_BYTES: usize = 6;
 pub const LIST_BYTES: usize = 512 * ENTRY_BYTES;
 /// No page, or no cell.
 pub const NONE: u16 = 65535;
-
-/// What the archive answers: the number of the check that turned the call down, or 0, and a count.
-#[repr(C)]
-struct Numbers {
-    number: u16,
-    count: u16,
-}
 
 extern "C" {
     fn boragefile_begin(desk: *mut Desk, pages: *mut u8, pages_length: usize) -> Numbers;
@@ -59,17 +68,17 @@ extern "C" {
 }
 
 /// Makes desk and pages a fresh store. Only number 1 can turn it down.
-pub fn begin(desk: &mut Desk, pages: &mut [u8]) -> Answer {
+pub fn begin(desk: &mut Desk, pages: &mut [u8]) -> Answer<'static> {
     // SAFETY: the desk has the archive's layout, and any value in it is allowed. The slice gives its own length.
     // Both are lent to us alone, so they do not overlap.
-    let answer = unsafe { boragefile_begin(desk, pages.as_mut_ptr(), pages.len()) };
-    Answer::from_numbers(answer.number, answer.count, false)
+    let numbers = unsafe { boragefile_begin(desk, pages.as_mut_ptr(), pages.len()) };
+    Answer::without_list(numbers)
 }
 
 /// Hands one record to a desk and its pages, in whatever condition these are. A turned-down call keeps every byte.
-pub fn call(desk: &mut Desk, pages: &mut [u8], bytes: &[u8], buffer: &mut [u8]) -> Answer {
+pub fn call<'b>(desk: &mut Desk, pages: &mut [u8], bytes: &[u8], buffer: &'b mut [u8]) -> Answer<'b> {
     // SAFETY: as in `begin`. The record's bytes are only read.
-    let answer = unsafe {
+    let numbers = unsafe {
         boragefile_call(
             desk,
             pages.as_mut_ptr(),
@@ -80,7 +89,10 @@ pub fn call(desk: &mut Desk, pages: &mut [u8], bytes: &[u8], buffer: &mut [u8]) 
             buffer.len(),
         )
     };
-    Answer::from_numbers(answer.number, answer.count, record::field(bytes, 1) == Some(KIND_RANGE))
+    match record::field(bytes, 1) {
+        Some(KIND_RANGE) => Answer::to_range(numbers, buffer),
+        _ => Answer::without_list(numbers),
+    }
 }
 
 /// Whether desk and pages, in whatever condition these are, are those of a sound store: the test that each call makes
@@ -88,15 +100,6 @@ pub fn call(desk: &mut Desk, pages: &mut [u8], bytes: &[u8], buffer: &mut [u8]) 
 pub fn is_sound(desk: &Desk, pages: &[u8]) -> bool {
     // SAFETY: as in `begin`, and both are only read. The archive answers a bool, that is 0 or 1.
     unsafe { boragefile_sound(desk, pages.as_ptr(), pages.len()) }
-}
-
-/// The first `count` radios of an answer buffer, each with its east and its north.
-pub fn listed(buffer: &[u8], count: u16) -> impl Iterator<Item = (u16, u16, u16)> + '_ {
-    let part = |entry: &[u8], at: usize| u16::from_le_bytes([entry[at], entry[at + 1]]);
-    buffer
-        .chunks_exact(ENTRY_BYTES)
-        .take(count.into())
-        .map(move |entry| (part(entry, 0), part(entry, 2), part(entry, 4)))
 }
 
 /// One desk and its pages.
@@ -114,16 +117,33 @@ impl Store {
             pages: vec![0; PAGES_BYTES].into_boxed_slice(),
         };
         let answer = begin(&mut store.desk, &mut store.pages);
-        assert_eq!(
-            answer,
-            Answer::Accepted,
+        assert!(
+            answer.is_accepted(),
             "a page buffer of the right size makes a fresh store"
         );
         store
     }
 
-    /// Hands in one record. An accepted range lists its radios at the buffer's start; [`listed`] reads them.
-    pub fn call(&mut self, bytes: &[u8], buffer: &mut [u8]) -> Answer {
+    /// The store of a desk and pages that were saved: [`Desk::as_bytes`] and [`Store::pages`]. What is no sound store is turned
+    /// down as a call would turn it down.
+    pub fn restored(desk: &[u8], pages: &[u8]) -> Result<Store, Refusal> {
+        if pages.len() != PAGES_BYTES {
+            return Err(Refusal::PageBuffer);
+        }
+        let desk = Desk::from_bytes(desk).ok_or(Refusal::Unsound)?;
+        let store = Store {
+            desk: Box::new(desk),
+            pages: pages.into(),
+        };
+        if store.is_sound() {
+            Ok(store)
+        } else {
+            Err(Refusal::Unsound)
+        }
+    }
+
+    /// Hands in one record. The radios of an accepted range are listed in the buffer, and read from the answer.
+    pub fn call<'b>(&mut self, bytes: &[u8], buffer: &'b mut [u8]) -> Answer<'b> {
         call(&mut self.desk, &mut self.pages, bytes, buffer)
     }
 

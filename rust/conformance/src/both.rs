@@ -1,7 +1,7 @@
 //! Desk and plain list side by side.
 use crate::rule::Rule;
-use crate::Plain;
-use boragefile::{Answer, Record, Store, LIST_BYTES};
+use crate::{Plain, Told};
+use boragefile::{Located, Record, Store, LIST_BYTES};
 
 /// What stands in every byte of the answer buffer before a call.
 const UNTOUCHED: u8 = 0xa5;
@@ -45,49 +45,56 @@ impl Both {
     }
 
     /// Hands a record to both, with an answer buffer that takes every radio.
-    pub fn record(&mut self, record: Record) -> Answer {
+    pub fn record(&mut self, record: Record) -> Told {
         self.call(&record.to_bytes(), LIST_BYTES)
     }
 
     /// Hands any bytes to both, with an answer buffer of `room` bytes, and compares all that can be seen: number, count
     /// and list; that nothing else is written to the buffer; that a range or a turned-down call keeps desk and pages;
     /// that the same radios are on and wait, at their latest places. Now and then it asks whether the store is sound, and
-    /// compares all pages with the plain rule: chains, stale entries and missed counts.
-    pub fn call(&mut self, bytes: &[u8], room: usize) -> Answer {
+    /// compares all pages with the plain rule: chains, stale entries and missed counts. Answers what both answered.
+    pub fn call(&mut self, bytes: &[u8], room: usize) -> Told {
         self.calls += 1;
         self.before.clone_from(&self.store);
         self.buffer.clear();
         self.buffer.resize(room, UNTOUCHED);
-        let answer = self.store.call(bytes, &mut self.buffer);
         let told = self.plain.call(bytes, room);
         let call = self.calls;
+        let answer = self.store.call(bytes, &mut self.buffer);
         assert_eq!(
             (answer.number(), answer.count()),
-            (told.number, told.count),
+            told.numbers(),
             "call {call}: {bytes:?}, {room} bytes"
         );
+        let changes = answer.is_accepted();
+        if let Some(list) = answer.list() {
+            assert_eq!(list.len(), told.count, "call {call}: the list of {bytes:?}");
+            assert!(
+                list.iter().flat_map(bytes_of).eq(told.list.iter().copied()),
+                "call {call}: the list of {bytes:?} is {list:?}"
+            );
+        }
         assert_eq!(
             self.buffer[..told.list.len()],
             told.list,
-            "call {call}: the list of {bytes:?}"
+            "call {call}: the list of {bytes:?} in the buffer"
         );
         assert!(
             self.buffer[told.list.len()..].iter().all(|byte| *byte == UNTOUCHED),
             "call {call}: {bytes:?} writes past its list"
         );
-        match answer {
-            Answer::Accepted => self.compare_radios(bytes),
-            Answer::Found(_) | Answer::Refused(..) => {
-                assert!(self.store == self.before, "call {call}: {bytes:?} changes the store");
-            }
+        if changes {
+            self.compare_radios(bytes);
+        } else {
+            assert!(self.store == self.before, "call {call}: {bytes:?} changes the store");
         }
-        answer
+        told
     }
 
     /// After an accepted sign-on, report or sign-off.
     fn compare_radios(&mut self, bytes: &[u8]) {
         let desk = self.store.desk();
-        let on = desk.on.radios[..desk.on.n].iter().copied();
+        let on = desk.on.in_use().iter().copied();
         assert!(
             on.eq(self.plain.latest().map(|(radio, _)| radio)),
             "call {}: who is on",
@@ -95,7 +102,7 @@ impl Both {
         );
         self.rule.carry_out(bytes, self.before.desk());
         self.rule.compare_waiting(desk);
-        for report in &desk.waiting.rows[..desk.waiting.n] {
+        for report in desk.waiting.in_use() {
             let latest = self.plain.place(report.radio);
             assert_eq!(
                 latest,
@@ -110,4 +117,11 @@ impl Both {
             self.rule.compare_pages(&self.store);
         }
     }
+}
+
+/// A listed radio as the answer buffer has it.
+fn bytes_of(located: Located) -> impl Iterator<Item = u8> {
+    [located.radio, located.east, located.north]
+        .into_iter()
+        .flat_map(u16::to_le_bytes)
 }

@@ -11,5 +11,5 @@ mod rule;
 mod xorshift;
 
 pub use both::Both;
-pub use plain::Plain;
+pub use plain::{Plain, Told};
 pub use xorshift::Xorshift;

@@ -11,8 +11,15 @@ pub struct Plain {
 #[derive(PartialEq, Eq, Debug)]
 pub struct Told {
     pub number: u16,
-    pub count: u16,
+    pub count: usize,
     pub list: Vec<u8>,
+}
+
+impl Told {
+    /// Number and count.
+    pub fn numbers(&self) -> (u16, usize) {
+        (self.number, self.count)
+    }
 }
 
 impl Plain {
@@ -127,7 +134,7 @@ fn accepted() -> Told {
     }
 }
 
-fn refused(number: u16, count: u16) -> Told {
+fn refused(number: u16, count: usize) -> Told {
     Told {
         number,
         count,

@@ -78,7 +78,9 @@ impl Rule {
 
     /// The reports waiting in the desk are exactly the waiting radios with their latest places.
     pub fn compare_waiting(&self, desk: &Desk) {
-        let rows = desk.waiting.rows[..desk.waiting.n]
+        let rows = desk
+            .waiting
+            .in_use()
             .iter()
             .map(|report| (report.radio, (report.east, report.north)));
         assert!(
@@ -92,7 +94,7 @@ impl Rule {
     pub fn compare_pages(&self, store: &Store) {
         let (desk, pages) = (store.desk(), store.pages());
         let mut times = [0; PAGES];
-        let firsts = desk.grid.cells.slots[..desk.grid.cells.n].iter().map(|slot| slot.first);
+        let firsts = desk.grid.cells.in_use().iter().map(|slot| slot.first);
         for mut page in firsts.chain([desk.grid.free]) {
             while page != NONE {
                 times[usize::from(page)] += 1;
@@ -109,7 +111,7 @@ impl Rule {
             }
         }
         let mut missed = vec![0; RADIOS];
-        for line in &desk.memo.rows[..desk.memo.n] {
+        for line in desk.memo.in_use() {
             missed[usize::from(line.radio)] = usize::from(line.missed);
         }
         assert_eq!(stale, missed, "stale entries are the missed counts");
@@ -119,7 +121,7 @@ impl Rule {
 
 /// The number of the stripe that a coordinate lies in: a cut at c puts coordinates below c on the low side.
 fn stripe(cuts: &CutList, coordinate: u16) -> usize {
-    cuts.at[..cuts.n].iter().filter(|cut| **cut <= coordinate).count()
+    cuts.in_use().iter().filter(|cut| **cut <= coordinate).count()
 }
 
 fn page_of(pages: &[u8], page: u16) -> &[u8] {

@@ -1,8 +1,8 @@
 //! Damaged stores: each clause of a sound store, broken in the desk or in the pages. Every call is then turned down under
 //! number 2 and keeps every byte, and the test alone finds the store unsound.
 #![forbid(unsafe_code)]
+use boragefile::{Desk, Line, Record, Refusal, Report, Slot, Store, NONE, PAGES, PAGE_BYTES};
 use conformance::{Both, Xorshift};
-use boragefile::{Answer, Desk, Line, Record, Refusal, Report, Slot, Store, NONE, PAGES, PAGE_BYTES};
 
 const USED: usize = 0;
 const KIND: usize = 1;
@@ -29,19 +29,19 @@ fn entries(pages: &[u8], page: u16) -> usize {
 }
 
 fn slots(desk: &Desk) -> &[Slot] {
-    &desk.grid.cells.slots[..desk.grid.cells.n]
+    desk.grid.cells.in_use()
 }
 
 fn lines(desk: &mut Desk) -> &mut [Line] {
-    &mut desk.memo.rows[..desk.memo.n]
+    &mut desk.memo.rows[..usize::from(desk.memo.n)]
 }
 
 fn waiting(desk: &mut Desk) -> &mut [Report] {
-    &mut desk.waiting.rows[..desk.waiting.n]
+    &mut desk.waiting.rows[..usize::from(desk.waiting.n)]
 }
 
 fn line_of(desk: &Desk, radio: u16) -> Option<&Line> {
-    desk.memo.rows[..desk.memo.n].iter().find(|line| line.radio == radio)
+    desk.memo.in_use().iter().find(|line| line.radio == radio)
 }
 
 /// A stored entry, and the place in the round of its cell.
@@ -122,8 +122,8 @@ fn rich() -> Store {
 
 fn is_rich(store: &Store) -> bool {
     let (desk, pages) = (store.desk(), store.pages());
-    let memo = &desk.memo.rows[..desk.memo.n];
-    let wait = &desk.waiting.rows[..desk.waiting.n];
+    let memo = desk.memo.in_use();
+    let wait = desk.waiting.in_use();
     let live_lines = memo.iter().filter(|line| line.placed == 1).count();
     desk.grid.easts.n >= 3
         && desk.grid.norths.n >= 3
@@ -175,8 +175,8 @@ fn is_turned_down(store: &Store) -> bool {
         let mut tried = store.clone();
         let mut buffer = [0x5a; 3072];
         let answer = tried.call(&bytes, &mut buffer);
-        let down = answer == Answer::Refused(Refusal::Unsound, 0);
-        assert_eq!(down, answer.number() == 2);
+        let down = answer.refusal() == Some(Refusal::Unsound);
+        assert!(!down || (answer.number(), answer.count()) == (2, 0));
         assert!(
             !down || (tried == *store && buffer == [0x5a; 3072]),
             "{bytes:?} keeps every byte"
@@ -214,20 +214,22 @@ fn all_turned_down(damages: &[Change]) {
 fn limits() {
     all_turned_down(&[
         ("16 east cuts", |desk, _| desk.grid.easts.n = 16),
-        ("very many east cuts", |desk, _| desk.grid.easts.n = usize::MAX),
+        ("very many east cuts", |desk, _| desk.grid.easts.n = u16::MAX),
         ("16 north cuts", |desk, _| desk.grid.norths.n = 16),
-        ("very many north cuts", |desk, _| desk.grid.norths.n = usize::MAX / 2),
+        ("very many north cuts", |desk, _| desk.grid.norths.n = u16::MAX / 2),
         ("no cell", |desk, _| desk.grid.cells.n = 0),
         ("65 cells", |desk, _| desk.grid.cells.n = 65),
-        ("very many cells", |desk, _| desk.grid.cells.n = usize::MAX),
-        ("very many waiting", |desk, _| desk.waiting.n = usize::MAX),
+        ("very many cells", |desk, _| desk.grid.cells.n = u16::MAX),
+        ("very many waiting", |desk, _| desk.waiting.n = u16::MAX),
         ("129 waiting", |desk, _| desk.waiting.n = 129),
         ("1,152 memo lines", |desk, _| desk.memo.n = 1152),
-        ("very many memo lines", |desk, _| desk.memo.n = usize::MAX),
+        ("very many memo lines", |desk, _| desk.memo.n = u16::MAX),
         ("513 on", |desk, _| desk.on.n = 513),
-        ("very many on", |desk, _| desk.on.n = usize::MAX),
+        ("very many on", |desk, _| desk.on.n = u16::MAX),
         ("radio 0 is on", |desk, _| desk.on.radios[0] = 0),
-        ("radio 4,096 is on", |desk, _| desk.on.radios[desk.on.n - 1] = 4096),
+        ("radio 4,096 is on", |desk, _| {
+            desk.on.radios[usize::from(desk.on.n) - 1] = 4096
+        }),
         ("radio 0 waits", |desk, _| waiting(desk)[0].radio = 0),
         ("radio 0 has a line", |desk, _| lines(desk)[0].radio = 0),
         ("an entry of radio 0", |desk, pages| {
@@ -260,7 +262,7 @@ fn cuts_and_cells() {
         }),
         ("a cell is missing", |desk, _| {
             desk.grid.cells.n -= 1;
-            desk.grid.cells.slots[desk.grid.cells.n] = Slot::default();
+            desk.grid.cells.slots[usize::from(desk.grid.cells.n)] = Slot::default();
         }),
         ("a cell twice in the round", |desk, _| {
             desk.grid.cells.slots[1] = desk.grid.cells.slots[0]
@@ -275,12 +277,12 @@ fn cuts_and_cells() {
         }),
         ("an empty slot counts", |desk, _| desk.grid.cells.n += 1),
         ("a cell goes too far", |desk, _| {
-            let n = desk.grid.cells.n;
+            let n = usize::from(desk.grid.cells.n);
             let slot = desk.grid.cells.slots[..n].iter_mut().find(|slot| slot.east < 65535);
             slot.expect("a cell with a neighbour").east += 1;
         }),
         ("an edge that is no cut", |desk, _| {
-            let n = desk.grid.cells.n;
+            let n = usize::from(desk.grid.cells.n);
             let slots = &mut desk.grid.cells.slots[..n];
             for i in 0..n * n {
                 let (a, b) = (slots[i / n], slots[i % n]);
@@ -439,7 +441,9 @@ fn forget(desk: &mut Desk, radio: u16) {
 }
 
 fn first_waiting(desk: &Desk, new: u16) -> Report {
-    *desk.waiting.rows[..desk.waiting.n]
+    *desk
+        .waiting
+        .in_use()
         .iter()
         .find(|report| report.new == new)
         .expect("a waiting report")
@@ -449,7 +453,7 @@ fn first_waiting(desk: &Desk, new: u16) -> Report {
 fn who_is_on() {
     all_turned_down(&[
         ("a radio on that is nowhere", |desk, _| {
-            desk.on.radios[desk.on.n] = 4000;
+            desk.on.radios[usize::from(desk.on.n)] = 4000;
             desk.on.n += 1;
         }),
         ("a radio off with an entry", |desk, pages| {
@@ -496,10 +500,10 @@ fn memo_lines() {
         }),
         ("a line is gone", |desk, _| {
             desk.memo.n -= 1;
-            desk.memo.rows[desk.memo.n] = Line::default();
+            desk.memo.rows[usize::from(desk.memo.n)] = Line::default();
         }),
         ("a line for nothing", |desk, _| {
-            desk.memo.rows[desk.memo.n] = Line {
+            desk.memo.rows[usize::from(desk.memo.n)] = Line {
                 radio: 4095,
                 missed: 1,
                 placed: 0,
@@ -562,7 +566,7 @@ fn waiting_reports() {
         ("a report past the count", |desk, _| desk.waiting.rows[127].radio = 4095),
         ("an empty row counts", |desk, _| desk.waiting.n += 1),
         ("a new report is gone", |desk, _| {
-            let n = desk.waiting.n;
+            let n = usize::from(desk.waiting.n);
             let at = waiting(desk)
                 .iter()
                 .position(|report| report.new == 1)
@@ -589,7 +593,7 @@ fn sound_stores_that_no_run_makes() {
     let store = rich();
     let changes: [Change; 3] = [
         ("a cut that no cell needs", |desk, _| {
-            let last = desk.grid.easts.n;
+            let last = usize::from(desk.grid.easts.n);
             assert!(last < 15 && desk.grid.easts.at[last - 1] < 65535);
             desk.grid.easts.at[last] = 65535;
             desk.grid.easts.n += 1;
@@ -612,11 +616,11 @@ fn sound_stores_that_no_run_makes() {
 
 /// For every k the stale entries in cells at place k and later, plus all waiting, are at most 16 × (63 − k) + c + 127.
 fn within_bound(desk: &Desk, pages: &[u8]) -> bool {
-    let mut stale = vec![0; desk.grid.cells.n];
+    let mut stale = vec![0; desk.grid.cells.in_use().len()];
     for entry in stored(desk, pages) {
         stale[entry.round] += usize::from(is_stale(desk, entry.radio, entry.place));
     }
-    let tail = |k: usize| stale[k..].iter().sum::<usize>() + desk.waiting.n;
+    let tail = |k: usize| stale[k..].iter().sum::<usize>() + desk.waiting.in_use().len();
     (0..stale.len()).all(|k| tail(k) <= 16 * (63 - k) + usize::from(desk.tally) + 127)
 }
 
@@ -682,7 +686,7 @@ fn stores_in_any_condition() {
             let (page, at) = (random.within(0, PAGES as u16 - 1), random.below(PAGE_BYTES / 2));
             match random.below(12) {
                 0 => desk.grid.easts.at[random.below(15)] = value,
-                1 => desk.grid.norths.n = value.into(),
+                1 => desk.grid.norths.n = value,
                 2 => desk.grid.cells.slots[random.below(64)].first = value,
                 3 => desk.grid.cells.slots[random.below(64)].north = value,
                 4 => desk.grid.free = value,
@@ -697,10 +701,11 @@ fn stores_in_any_condition() {
         let mut buffer = [0x5a; 3072];
         let requests = requests();
         let answer = other.call(&requests[random.below(requests.len())], &mut buffer);
-        if let Answer::Refused(..) = answer {
+        let refusal = answer.refusal();
+        if refusal.is_some() {
             assert!(other == before && buffer == [0x5a; 3072]);
         }
-        let was_sound = answer.number() != 2;
+        let was_sound = refusal != Some(Refusal::Unsound);
         assert_eq!(before.is_sound(), was_sound);
         assert_eq!(other.is_sound(), was_sound, "a call keeps a sound store sound");
         sound += usize::from(was_sound);

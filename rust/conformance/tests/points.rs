@@ -1,7 +1,7 @@
 //! The worked points, on the running desk and beside the plain list.
 #![forbid(unsafe_code)]
+use boragefile::{begin, call, is_sound, Answer, Desk, Located, Record, Refusal, Store, LIST_BYTES, PAGES_BYTES};
 use conformance::Both;
-use boragefile::{begin, call, is_sound, listed, Answer, Desk, Record, Refusal, Store, LIST_BYTES, PAGES_BYTES};
 
 fn on(radio: u16, east: u16, north: u16) -> Record {
     Record::SignOn { radio, east, north }
@@ -24,22 +24,39 @@ fn range(west: u16, east: u16, south: u16, north: u16) -> Record {
     }
 }
 
-fn refused(refusal: Refusal) -> Answer {
-    Answer::Refused(refusal, 0)
+/// Number and count of an accepted sign-on, report or sign-off.
+const ACCEPTED: (u16, usize) = (0, 0);
+
+fn found(count: usize) -> (u16, usize) {
+    (0, count)
+}
+
+fn refused(refusal: Refusal) -> (u16, usize) {
+    (refusal.number(), 0)
+}
+
+fn numbers(answer: Answer) -> (u16, usize) {
+    (answer.number(), answer.count())
 }
 
 #[test]
 fn the_journal_of_the_contract() {
     let mut both = Both::fresh();
-    assert_eq!(both.record(on(7, 100, 200)), Answer::Accepted);
-    assert_eq!(both.record(report(7, 300, 200)), Answer::Accepted);
-    assert_eq!(both.record(range(0, 300, 0, 200)), Answer::Found(1));
+    assert_eq!(both.record(on(7, 100, 200)).numbers(), ACCEPTED);
+    assert_eq!(both.record(report(7, 300, 200)).numbers(), ACCEPTED);
+    assert_eq!(both.record(range(0, 300, 0, 200)).numbers(), found(1));
     let mut buffer = [0; LIST_BYTES];
-    both.store.call(&range(0, 300, 0, 200).to_bytes(), &mut buffer);
-    assert_eq!(listed(&buffer, 1).collect::<Vec<_>>(), [(7, 300, 200)]);
-    assert_eq!(both.record(off(7)), Answer::Accepted);
-    assert_eq!(both.record(range(0, 300, 0, 200)), Answer::Found(0));
-    assert_eq!(both.record(off(7)), refused(Refusal::NotOn));
+    let answer = both.store.call(&range(0, 300, 0, 200).to_bytes(), &mut buffer);
+    let list = answer.list().expect("an accepted range has a list");
+    let seven = Located {
+        radio: 7,
+        east: 300,
+        north: 200,
+    };
+    assert_eq!(list.iter().collect::<Vec<_>>(), [seven]);
+    assert_eq!(both.record(off(7)).numbers(), ACCEPTED);
+    assert_eq!(both.record(range(0, 300, 0, 200)).numbers(), found(0));
+    assert_eq!(both.record(off(7)).numbers(), refused(Refusal::NotOn));
 }
 
 #[test]
@@ -47,13 +64,13 @@ fn a_page_buffer_of_another_size_is_turned_down() {
     let mut desk = Desk::blank();
     for size in [0, 1, 200, PAGES_BYTES - 1, PAGES_BYTES + 1, 2 * PAGES_BYTES] {
         let mut pages = vec![7; size];
-        assert_eq!(begin(&mut desk, &mut pages), refused(Refusal::PageBuffer));
+        assert_eq!(numbers(begin(&mut desk, &mut pages)), refused(Refusal::PageBuffer));
         assert!(desk == Desk::blank() && pages.iter().all(|byte| *byte == 7));
         let mut store = Store::fresh();
         let fresh = store.clone();
         let mut buffer = [9; 12];
         let answer = call(store.parts_mut().0, &mut pages, &on(1, 2, 3).to_bytes(), &mut buffer);
-        assert_eq!(answer, refused(Refusal::PageBuffer));
+        assert_eq!(numbers(answer), refused(Refusal::PageBuffer));
         assert!(store == fresh && pages.iter().all(|byte| *byte == 7) && buffer == [9; 12]);
         let mut other = fresh.pages().to_vec();
         other.resize(size, 0);
@@ -65,10 +82,10 @@ fn a_page_buffer_of_another_size_is_turned_down() {
 fn a_fresh_store_is_made_whatever_was_there() {
     let fresh = Store::fresh();
     let mut desk = Desk::blank();
-    desk.grid.easts.n = usize::MAX;
+    desk.grid.easts.n = u16::MAX;
     desk.on.radios = [65535; 512];
     let mut pages = vec![0xff; PAGES_BYTES];
-    assert_eq!(begin(&mut desk, &mut pages), Answer::Accepted);
+    assert_eq!(numbers(begin(&mut desk, &mut pages)), ACCEPTED);
     assert!(desk == *fresh.desk() && pages == fresh.pages());
     assert!(is_sound(&desk, &pages));
     assert_eq!(
@@ -80,28 +97,31 @@ fn a_fresh_store_is_made_whatever_was_there() {
 #[test]
 fn bytes_that_are_no_record() {
     let mut both = Both::fresh();
-    assert_eq!(both.call(&[], 0), refused(Refusal::Length));
-    assert_eq!(both.call(&[4], 0), refused(Refusal::Length));
-    assert_eq!(both.call(&[4, 0, 1], 0), refused(Refusal::Length));
-    assert_eq!(both.call(&[3, 0, 1, 0], 0), refused(Refusal::Length));
-    assert_eq!(both.call(&[5, 0, 1, 0], 0), refused(Refusal::Length));
-    assert_eq!(both.call(&[4, 0, 9, 0], 0), refused(Refusal::Kind));
-    assert_eq!(both.call(&[4, 0, 0, 0], 0), refused(Refusal::Kind));
+    assert_eq!(both.call(&[], 0).numbers(), refused(Refusal::Length));
+    assert_eq!(both.call(&[4], 0).numbers(), refused(Refusal::Length));
+    assert_eq!(both.call(&[4, 0, 1], 0).numbers(), refused(Refusal::Length));
+    assert_eq!(both.call(&[3, 0, 1, 0], 0).numbers(), refused(Refusal::Length));
+    assert_eq!(both.call(&[5, 0, 1, 0], 0).numbers(), refused(Refusal::Length));
+    assert_eq!(both.call(&[4, 0, 9, 0], 0).numbers(), refused(Refusal::Kind));
+    assert_eq!(both.call(&[4, 0, 0, 0], 0).numbers(), refused(Refusal::Kind));
     assert_eq!(
-        both.call(&[10, 0, 3, 0, 1, 0, 1, 0, 1, 0], 0),
+        both.call(&[10, 0, 3, 0, 1, 0, 1, 0, 1, 0], 0).numbers(),
         refused(Refusal::LengthOfKind)
     );
-    assert_eq!(both.call(&[6, 0, 1, 0, 0, 0], 0), refused(Refusal::LengthOfKind));
+    assert_eq!(
+        both.call(&[6, 0, 1, 0, 0, 0], 0).numbers(),
+        refused(Refusal::LengthOfKind)
+    );
 }
 
 #[test]
 fn radio_4095_passes_and_0_and_4096_do_not() {
     let mut both = Both::fresh();
-    assert_eq!(both.record(on(4095, 1, 1)), Answer::Accepted);
+    assert_eq!(both.record(on(4095, 1, 1)).numbers(), ACCEPTED);
     for radio in [0, 4096, 65535] {
-        assert_eq!(both.record(on(radio, 1, 1)), refused(Refusal::Radio));
-        assert_eq!(both.record(report(radio, 1, 1)), refused(Refusal::Radio));
-        assert_eq!(both.record(off(radio)), refused(Refusal::Radio));
+        assert_eq!(both.record(on(radio, 1, 1)).numbers(), refused(Refusal::Radio));
+        assert_eq!(both.record(report(radio, 1, 1)).numbers(), refused(Refusal::Radio));
+        assert_eq!(both.record(off(radio)).numbers(), refused(Refusal::Radio));
     }
 }
 
@@ -109,20 +129,20 @@ fn radio_4095_passes_and_0_and_4096_do_not() {
 fn a_range_of_one_place() {
     let mut both = Both::fresh();
     both.record(on(9, 5, 5));
-    assert_eq!(both.record(range(5, 5, 5, 5)), Answer::Found(1));
-    assert_eq!(both.record(range(6, 5, 5, 5)), refused(Refusal::Rectangle));
-    assert_eq!(both.record(range(5, 5, 6, 5)), refused(Refusal::Rectangle));
+    assert_eq!(both.record(range(5, 5, 5, 5)).numbers(), found(1));
+    assert_eq!(both.record(range(6, 5, 5, 5)).numbers(), refused(Refusal::Rectangle));
+    assert_eq!(both.record(range(5, 5, 6, 5)).numbers(), refused(Refusal::Rectangle));
 }
 
 #[test]
 fn the_513th_sign_on() {
     let mut both = Both::fresh();
     for radio in 1..=512 {
-        assert_eq!(both.record(on(radio, radio * 127, radio * 61)), Answer::Accepted);
+        assert_eq!(both.record(on(radio, radio * 127, radio * 61)).numbers(), ACCEPTED);
     }
-    assert_eq!(both.record(on(513, 1, 1)), refused(Refusal::Full));
-    assert_eq!(both.record(on(512, 1, 1)), refused(Refusal::AlreadyOn));
-    assert_eq!(both.record(range(0, 65535, 0, 65535)), Answer::Found(512));
+    assert_eq!(both.record(on(513, 1, 1)).numbers(), refused(Refusal::Full));
+    assert_eq!(both.record(on(512, 1, 1)).numbers(), refused(Refusal::AlreadyOn));
+    assert_eq!(both.record(range(0, 65535, 0, 65535)).numbers(), found(512));
 }
 
 /// 33 entries in one uncut square: 32 radios are flushed, seven of them sign off, and the next flush sweeps these and adds
@@ -136,7 +156,7 @@ fn thirty_three(place: impl Fn(u16) -> (u16, u16)) -> Both {
     let first = (1..=32).map(sign_on);
     let records = first.chain((1..=7).map(off)).chain((33..=40).map(sign_on));
     for record in records {
-        assert_eq!(both.record(record), Answer::Accepted);
+        assert_eq!(both.record(record).numbers(), ACCEPTED);
     }
     both
 }
@@ -168,7 +188,7 @@ fn seven_wait_and_the_eighth_flushes() {
     let fresh = both.store.clone();
     for radio in 1..=7 {
         both.record(on(radio, 100 * radio, 100));
-        assert_eq!(both.store.desk().waiting.n, usize::from(radio));
+        assert_eq!(both.store.desk().waiting.n, radio);
         assert!(both.store.pages() == fresh.pages());
     }
     both.record(on(8, 800, 100));
@@ -182,9 +202,9 @@ fn two_found_and_a_buffer_of_11_bytes() {
     both.record(on(1, 10, 10));
     both.record(on(2, 20, 20));
     let all = range(0, 65535, 0, 65535).to_bytes();
-    assert_eq!(both.call(&all, 11), Answer::Refused(Refusal::AnswerBuffer, 2));
-    assert_eq!(both.call(&all, 12), Answer::Found(2));
-    assert_eq!(both.call(&all, 13), Answer::Found(2));
+    assert_eq!(both.call(&all, 11).numbers(), (Refusal::AnswerBuffer.number(), 2));
+    assert_eq!(both.call(&all, 12).numbers(), found(2));
+    assert_eq!(both.call(&all, 13).numbers(), found(2));
 }
 
 #[test]
@@ -192,8 +212,8 @@ fn what_stands_after_the_record_does_not_count() {
     let mut both = Both::fresh();
     let mut bytes = on(3, 30, 30).to_bytes();
     bytes.extend_from_slice(&[0xff; 70_000]);
-    assert_eq!(both.call(&bytes, 0), Answer::Accepted);
-    assert_eq!(both.record(range(30, 30, 30, 30)), Answer::Found(1));
+    assert_eq!(both.call(&bytes, 0).numbers(), ACCEPTED);
+    assert_eq!(both.record(range(30, 30, 30, 30)).numbers(), found(1));
 }
 
 /// The comparison itself: a desk that has another place than the list does not get through.

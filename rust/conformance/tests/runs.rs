@@ -2,8 +2,8 @@
 //! and every range leaving desk and pages as they were; beside the plain rule, who waits after every call, and chains, stale
 //! entries and missed counts now and then. The same runs every time.
 #![forbid(unsafe_code)]
+use boragefile::{Record, LIST_BYTES};
 use conformance::{Both, Xorshift};
-use boragefile::{Answer, Record, LIST_BYTES};
 
 const RUNS: usize = 9;
 const CALLS: usize = 115_000;
@@ -18,8 +18,8 @@ struct Seen {
     flushes: usize,
     splits: usize,
     joins: usize,
-    most_cells: usize,
-    most_lines: usize,
+    most_cells: u16,
+    most_lines: u16,
 }
 
 /// A run of `CALLS` calls from a fresh store; `next` gives each call's bytes and the length of its answer buffer.
@@ -30,10 +30,10 @@ fn run(name: &str, seed: u64, mut next: impl FnMut(&mut Xorshift, &Both) -> (Vec
     while both.calls() < CALLS {
         let (bytes, room) = next(&mut random, &both);
         let (cells, waiting) = (both.store.desk().grid.cells.n, both.store.desk().waiting.n);
-        let answer = both.call(&bytes, room);
+        let told = both.call(&bytes, room);
         let desk = both.store.desk();
-        seen.answers[usize::from(answer.number())] += 1;
-        seen.found += if let Answer::Found(n) = answer { n.into() } else { 0 };
+        seen.answers[usize::from(told.number)] += 1;
+        seen.found += if told.number == 0 { told.count } else { 0 };
         seen.flushes += usize::from(desk.waiting.n + 1 < waiting);
         seen.splits += usize::from(desk.grid.cells.n > cells);
         seen.joins += usize::from(desk.grid.cells.n < cells);
@@ -58,11 +58,11 @@ fn sends(random: &mut Xorshift, both: &Both, radio: u16, place: (u16, u16), off_
 
 /// One of the radios on, with its latest place.
 fn one_on(random: &mut Xorshift, both: &Both) -> Option<(u16, (u16, u16))> {
-    let on = &both.store.desk().on;
-    if on.n == 0 {
+    let on = both.store.desk().on.in_use();
+    if on.is_empty() {
         return None;
     }
-    let radio = on.radios[random.below(on.n)];
+    let radio = random.pick(on);
     both.plain.place(radio).map(|place| (radio, place))
 }
 

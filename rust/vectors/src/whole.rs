@@ -6,16 +6,13 @@ use std::collections::BTreeMap;
 /// Desk and pages in the journals' form.
 pub fn whole(store: &Store) -> Json {
     let desk = store.desk();
-    let cells = desk.grid.cells.slots[..desk.grid.cells.n]
-        .iter()
-        .map(|slot| cell(store, slot))
-        .collect();
-    let waiting = desk.waiting.rows[..desk.waiting.n].iter().map(|report| {
+    let cells = desk.grid.cells.in_use().iter().map(|slot| cell(store, slot)).collect();
+    let waiting = desk.waiting.in_use().iter().map(|report| {
         let mut row = places(&[report.radio, report.east, report.north]);
         row.push(Json::Bool(report.new == 1));
         Json::List(row)
     });
-    let memo = desk.memo.rows[..desk.memo.n].iter().map(|line| {
+    let memo = desk.memo.in_use().iter().map(|line| {
         let mut row = places(&[line.radio, line.missed]);
         row.push(if line.placed == 1 {
             Json::List(places(&[line.east, line.north]))
@@ -31,7 +28,7 @@ pub fn whole(store: &Store) -> Json {
         ("free", Json::List(places(&chain(store, desk.grid.free)))),
         ("waiting", Json::List(waiting.collect())),
         ("memo", Json::List(memo.collect())),
-        ("on", Json::List(places(&desk.on.radios[..desk.on.n]))),
+        ("on", Json::List(places(desk.on.in_use()))),
         ("tally", Json::Number(desk.tally.into())),
     ])
 }
@@ -72,7 +69,7 @@ fn places(fields: &[u16]) -> Vec<Json> {
 }
 
 fn cuts(list: &CutList) -> Json {
-    Json::List(places(&list.at[..list.n]))
+    Json::List(places(list.in_use()))
 }
 
 fn cell(store: &Store, slot: &Slot) -> Json {

@@ -1,0 +1,28 @@
+// The desk from C++: the header, a fresh store, a sign-on and a range.
+#include "boragefile.h"
+#include <cstdio>
+#include <cstring>
+
+static boragefile_desk desk;
+static uint8_t pages[BORAGEFILE_PAGES_BYTES], buffer[BORAGEFILE_LIST_BYTES];
+
+template <size_t N> static boragefile_answer call(const uint8_t (&record)[N])
+{
+    return boragefile_call(&desk, pages, sizeof pages, record, N, buffer, sizeof buffer);
+}
+
+int main()
+{
+    const uint8_t on[] = {10, 0, BORAGEFILE_KIND_SIGN_ON, 0, 7, 0, 100, 0, 200, 0};
+    const uint8_t range[] = {12, 0, BORAGEFILE_KIND_RANGE, 0, 0, 0, 100, 0, 0, 0, 200, 0};
+    const uint8_t listed[] = {7, 0, 100, 0, 200, 0};
+    if (boragefile_begin(&desk, pages, sizeof pages).number != BORAGEFILE_ACCEPTED || call(on).number != BORAGEFILE_ACCEPTED)
+        return 1;
+    const boragefile_answer found = call(range);
+    if (found.number != BORAGEFILE_ACCEPTED || found.count != 1 || std::memcmp(buffer, listed, sizeof listed) != 0)
+        return 1;
+    if (call(on).number != BORAGEFILE_ALREADY_ON || !boragefile_sound(&desk, pages, sizeof pages))
+        return 1;
+    std::puts("ok");
+    return 0;
+}

@@ -1,0 +1,62 @@
+/* How much stack a call takes: reads a journal (records, one after the other) from standard input, carries it out on a painted stack and prints the bytes of
+ * it that the deepest call, the making of a fresh store and the test of soundness wrote to. */
+#define _GNU_SOURCE
+#include "boragefile.h"
+#include <pthread.h>
+#include <stdio.h>
+#include <stdlib.h>
+#include <string.h>
+
+#define STACK_BYTES (1 << 20)
+#define PAINT 0xA5
+
+static boragefile_desk desk;
+static uint8_t pages[BORAGEFILE_PAGES_BYTES], buffer[BORAGEFILE_LIST_BYTES];
+static uint8_t journal[1 << 20];
+static size_t journal_bytes;
+static uint8_t *stack;
+
+/* Paints what lies below the caller's frame, but for a little that this call itself may need. */
+static __attribute__((noinline)) void paint(void)
+{
+    memset(stack, PAINT, (size_t)((uint8_t *)__builtin_frame_address(0) - 1024 - stack));
+}
+
+/* The bytes between the caller's frame and the deepest one that is painted no more. */
+static __attribute__((noinline)) size_t used(void)
+{
+    uint8_t *deepest = stack;
+    while (*deepest == PAINT)
+        deepest++;
+    return (size_t)((uint8_t *)__builtin_frame_address(0) - deepest);
+}
+
+static void *measure(void *unused)
+{
+    paint();
+    boragefile_begin(&desk, pages, sizeof pages);
+    size_t begin = used(), call = 0;
+    for (size_t at = 0; at + 4 <= journal_bytes; at += journal[at] + 256u * journal[at + 1]) {
+        paint();
+        boragefile_call(&desk, pages, sizeof pages, journal + at, journal_bytes - at, buffer, sizeof buffer);
+        size_t deep = used();
+        call = deep > call ? deep : call;
+    }
+    paint();
+    if (!boragefile_sound(&desk, pages, sizeof pages))
+        exit(1);
+    printf("begin %zu\ncall %zu\nsound %zu\n", begin, call, used());
+    return unused;
+}
+
+int main(void)
+{
+    journal_bytes = fread(journal, 1, sizeof journal, stdin);
+    stack = aligned_alloc(4096, STACK_BYTES);
+    pthread_attr_t attributes;
+    pthread_t thread;
+    if (!stack || pthread_attr_init(&attributes) || pthread_attr_setstack(&attributes, stack, STACK_BYTES) ||
+        pthread_create(&thread, &attributes, measure, NULL) || pthread_join(thread, NULL))
+        return 1;
+    return 0;
+}

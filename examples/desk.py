@@ -1,0 +1,78 @@
+#!/usr/bin/env python3
+"""A desk in Python, by ctypes over a shared object that is made from the static library:
+
+    gcc -shared -o libboragefile.so -Wl,--whole-archive target/staticlib/libboragefile.a -Wl,--no-whole-archive
+    examples/desk.py ./libboragefile.so < LINES
+
+It takes the lines of desk.c and desk.rs and prints what they print, but for the words of a refusal, from a fresh store that it does not save.
+"""
+import ctypes
+import struct
+import sys
+
+KINDS = {b"on": (1, 3), b"report": (2, 3), b"off": (3, 1), b"range": (4, 4)}
+
+
+class Answer(ctypes.Structure):
+    _fields_ = [("number", ctypes.c_uint16), ("count", ctypes.c_uint16)]
+
+
+class Store:
+    """A fresh store: a desk of 7,201 16-bit numbers, and its pages."""
+
+    def __init__(self, path):
+        self.library = ctypes.CDLL(path)
+        slices = [ctypes.c_void_p, ctypes.c_size_t]
+        for function, result, lent in (
+            (self.library.boragefile_begin, Answer, 1),
+            (self.library.boragefile_call, Answer, 3),
+            (self.library.boragefile_sound, ctypes.c_bool, 1),
+        ):
+            function.restype = result
+            function.argtypes = [ctypes.c_void_p, *slices * lent]
+        self.desk = (ctypes.c_uint16 * 7201)()
+        self.pages = (ctypes.c_uint8 * 25600)()
+        self.buffer = (ctypes.c_uint8 * 3072)()
+        if self.library.boragefile_begin(self.desk, self.pages, len(self.pages)).number != 0:
+            raise ValueError("no fresh store")
+
+    def call(self, record):
+        """The answer's number and, after an accepted range alone, the list of radio, east and north."""
+        lent = self.desk, self.pages, len(self.pages), record, len(record), self.buffer, len(self.buffer)
+        answer = self.library.boragefile_call(*lent)
+        if answer.number != 0 or record[2] != 4:
+            return answer.number, None
+        return 0, list(struct.iter_unpack("<3H", bytes(self.buffer)[: 6 * answer.count]))
+
+
+def record_of(line):
+    """The record's bytes, or None where the line is no record."""
+    word, *numbers = line.split() or [b""]
+    kind, wanted = KINDS.get(word, (0, -1))
+    if len(numbers) != wanted or not all(number.isdigit() and int(number) <= 65535 for number in numbers):
+        return None
+    return struct.pack(f"<{2 + wanted}H", 4 + 2 * wanted, kind, *map(int, numbers))
+
+
+def main():
+    if len(sys.argv) != 2:
+        sys.exit("usage: desk.py LIBRARY < LINES")
+    store = Store(sys.argv[1])
+    for i, line in enumerate(sys.stdin.buffer, 1):
+        record = record_of(line)
+        if record is None:
+            print(i, "no record")
+            continue
+        number, found = store.call(record)
+        if number != 0:
+            print(i, "refused", number)
+        elif found is None:
+            print(i, "ok")
+        else:
+            print(i, "found", len(found))
+            for located in found:
+                print(*located)
+
+
+if __name__ == "__main__":
+    main()

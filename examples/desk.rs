@@ -1,0 +1,142 @@
+//! A desk that keeps its store in a file across restarts, in Rust. `desk.c` beside it is the same in C: each reads the other's
+//! file.
+//!
+//!     desk FILE < LINES
+//!
+//! A line is one of `on RADIO EAST NORTH`, `report RADIO EAST NORTH`, `off RADIO` and `range WEST EAST SOUTH NORTH`. For line i
+//! it prints `i ok`, `i found n` and then n lines `radio east north`, `i refused r: words`, or `i no record`. What was answered
+//! with `ok` is in the file.
+//!
+//! The file: a line with the version, the desk, the pages, and a sum over all of these, so that a bit that flipped on the disk
+//! is found even where the store is sound with it. A file that cannot be used is left as it is, and the program ends with 1.
+#![forbid(unsafe_code)]
+use boragefile::{Answer, Located, Record, Store, DESK_BYTES, LIST_BYTES, PAGES_BYTES, VERSION};
+use std::fs::{rename, File};
+use std::io::{self, BufRead, ErrorKind, Write};
+use std::path::{Path, PathBuf};
+use std::process::ExitCode;
+
+const SUM_BYTES: usize = 8;
+
+type Failure = Box<dyn std::error::Error>;
+
+fn main() -> ExitCode {
+    let mut arguments = std::env::args_os().skip(1);
+    let (Some(path), None) = (arguments.next(), arguments.next()) else {
+        eprintln!("usage: desk FILE < LINES");
+        return ExitCode::from(2);
+    };
+    let path = PathBuf::from(path);
+    match serve(&path) {
+        Ok(()) => ExitCode::SUCCESS,
+        Err(why) => {
+            eprintln!("desk: {}: {why}", path.display());
+            ExitCode::FAILURE
+        }
+    }
+}
+
+fn serve(path: &Path) -> Result<(), Failure> {
+    let mut store = restored(path)?;
+    // takes every radio, so number 11 never comes
+    let mut buffer = [0; LIST_BYTES];
+    let mut out = io::stdout().lock();
+    for (i, line) in (1..).zip(io::stdin().lock().split(b'\n')) {
+        let Some(record) = record_of(&line?) else {
+            writeln!(out, "{i} no record")?;
+            continue;
+        };
+        match store.call(&record.to_bytes(), &mut buffer) {
+            Answer::Accepted { .. } => {
+                save(&store, path)?;
+                writeln!(out, "{i} ok")?;
+            }
+            Answer::Found(list) => {
+                writeln!(out, "{i} found {}", list.len())?;
+                for Located { radio, east, north } in list {
+                    writeln!(out, "{radio} {east} {north}")?;
+                }
+            }
+            Answer::Refused { refusal, .. } => {
+                writeln!(out, "{i} refused {}: {refusal}", refusal.number())?
+            }
+        }
+    }
+    Ok(())
+}
+
+fn head() -> String {
+    format!("boragefile {VERSION}\n")
+}
+
+/// FNV-1a, 64 bits, with its lowest byte first.
+fn sum(bytes: &[u8]) -> [u8; SUM_BYTES] {
+    let step = |hash: u64, byte: &u8| (hash ^ u64::from(*byte)).wrapping_mul(0x100_0000_01b3);
+    bytes.iter().fold(0xcbf2_9ce4_8422_2325, step).to_le_bytes()
+}
+
+/// The store of the file, or a fresh one where there is no file.
+fn restored(path: &Path) -> Result<Store, Failure> {
+    let file = match std::fs::read(path) {
+        Ok(file) => file,
+        Err(error) if error.kind() == ErrorKind::NotFound => return Ok(Store::fresh()),
+        Err(error) => return Err(error.into()),
+    };
+    let Some(saved) = file.strip_prefix(head().as_bytes()) else {
+        return Err(format!("it is no store of version {VERSION}").into());
+    };
+    let whole = saved.len() == DESK_BYTES + PAGES_BYTES + SUM_BYTES;
+    if !whole || !file.ends_with(&sum(&file[..file.len() - SUM_BYTES])) {
+        let then =
+            "keep it for inspection, begin with another file and have the radios sign on again";
+        return Err(format!("it is damaged: {then}").into());
+    }
+    let (desk, pages) = saved[..DESK_BYTES + PAGES_BYTES].split_at(DESK_BYTES);
+    Ok(Store::restored(desk, pages)?)
+}
+
+/// Saves the store: a new file first, whole and on the disk, which then takes the old one's name. So there is a whole file at
+/// any time.
+fn save(store: &Store, path: &Path) -> io::Result<()> {
+    let mut saved = [head().as_bytes(), store.desk().as_bytes(), store.pages()].concat();
+    saved.extend(sum(&saved));
+    let mut fresh = path.as_os_str().to_owned();
+    fresh.push(".new");
+    let mut file = File::create(&fresh)?;
+    file.write_all(&saved)?;
+    file.sync_all()?;
+    rename(&fresh, path)?;
+    let folder = path
+        .parent()
+        .filter(|folder| !folder.as_os_str().is_empty());
+    File::open(folder.unwrap_or(Path::new(".")))?.sync_all()
+}
+
+/// The record of a line, if it is one.
+fn record_of(line: &[u8]) -> Option<Record> {
+    let mut words = line
+        .split(u8::is_ascii_whitespace)
+        .filter(|word| !word.is_empty());
+    let kind = words.next()?;
+    let numbers = words.map(number_of).collect::<Option<Vec<u16>>>()?;
+    Some(match (kind, numbers.as_slice()) {
+        (b"on", &[radio, east, north]) => Record::SignOn { radio, east, north },
+        (b"report", &[radio, east, north]) => Record::Report { radio, east, north },
+        (b"off", &[radio]) => Record::SignOff { radio },
+        (b"range", &[west, east, south, north]) => Record::Range {
+            west,
+            east,
+            south,
+            north,
+        },
+        _ => return None,
+    })
+}
+
+/// A number of digits, 0 to 65535.
+fn number_of(word: &[u8]) -> Option<u16> {
+    if !word.iter().all(u8::is_ascii_digit) {
+        return None;
+    }
+    std::str::from_utf8(word).ok()?.parse().ok()
+}

@@ -1,0 +1,88 @@
+//! A store through the wrapper: what a desk is as bytes, a list only where one was found, and a store that was saved.
+#![forbid(unsafe_code)]
+use boragefile::{begin, Desk, Located, Record, Refusal, Store, DESK_BYTES, ENTRY_BYTES, PAGES_BYTES};
+
+const ALL: Record = Record::Range {
+    west: 0,
+    east: 65535,
+    south: 0,
+    north: 65535,
+};
+
+/// A store with these radios on, each at its own place.
+fn with_radios(radios: &[u16]) -> Store {
+    let mut store = Store::fresh();
+    for radio in radios {
+        let on = Record::SignOn {
+            radio: *radio,
+            east: 10 * radio,
+            north: 20 * radio,
+        };
+        assert!(store.call(&on.to_bytes(), &mut []).is_accepted());
+    }
+    store
+}
+
+#[test]
+fn fresh_desks_are_equal_byte_by_byte_whatever_was_there() {
+    let fresh = [0, 0x5a, 0xa5, 0xff].map(|filled| {
+        let mut desk = Desk::from_bytes(&[filled; DESK_BYTES]).expect("a desk's bytes");
+        assert_eq!(desk.as_bytes(), [filled; DESK_BYTES]);
+        assert!(begin(&mut desk, &mut [filled; PAGES_BYTES]).is_accepted());
+        desk
+    });
+    for desk in &fresh {
+        assert_eq!(desk.as_bytes(), fresh[0].as_bytes());
+    }
+}
+
+#[test]
+fn number_11_gives_no_list_though_the_buffer_holds_an_older_one() {
+    let mut store = with_radios(&[7]);
+    let mut buffer = [0; ENTRY_BYTES];
+    let found = store.call(&ALL.to_bytes(), &mut buffer).list().expect("a list of one");
+    let seven = Located {
+        radio: 7,
+        east: 70,
+        north: 140,
+    };
+    assert_eq!(found.iter().collect::<Vec<_>>(), [seven]);
+    let on = Record::SignOn {
+        radio: 8,
+        east: 1,
+        north: 1,
+    };
+    assert!(store.call(&on.to_bytes(), &mut buffer).is_accepted());
+    let answer = store.call(&ALL.to_bytes(), &mut buffer);
+    assert_eq!((answer.refusal(), answer.count()), (Some(Refusal::AnswerBuffer), 2));
+    assert_eq!(answer.list(), None);
+}
+
+#[test]
+fn a_saved_store_comes_back() {
+    let radios: Vec<u16> = (1..=100).collect();
+    let mut store = with_radios(&radios);
+    let (desk, pages) = (store.desk().as_bytes().to_vec(), store.pages().to_vec());
+    let mut again = Store::restored(&desk, &pages).expect("what was saved is sound");
+    assert!(again == store);
+    let (mut buffer, mut other) = ([0; 600], [0; 600]);
+    let list = store.call(&ALL.to_bytes(), &mut buffer);
+    assert_eq!(list.count(), 100);
+    assert_eq!(again.call(&ALL.to_bytes(), &mut other), list);
+}
+
+#[test]
+fn what_is_no_sound_store_does_not_come_back() {
+    let store = with_radios(&[7]);
+    let (desk, pages) = (store.desk().as_bytes(), store.pages());
+    let why = |desk: &[u8], pages: &[u8]| Store::restored(desk, pages).err();
+    assert_eq!(why(desk, pages), None);
+    assert_eq!(why(&desk[1..], pages), Some(Refusal::Unsound));
+    assert_eq!(why(desk, &pages[1..]), Some(Refusal::PageBuffer));
+    let mut damaged = pages.to_vec();
+    damaged[PAGES_BYTES - 1] = 1;
+    assert_eq!(why(desk, &damaged), Some(Refusal::Unsound));
+    let mut damaged = desk.to_vec();
+    damaged[DESK_BYTES - 1] = 1;
+    assert_eq!(why(&damaged, pages), Some(Refusal::Unsound));
+}
