@@ -1,16 +1,19 @@
-// The desk's calls on a desk that is lent: thin functions over `carry_lent` and `fresh::begin`, and those for programs in Rust or C, with the test of soundness.
+// The desk's calls on a desk that is lent: thin functions over `carry_lent` and `fresh::begin`, and those for programs in Rust or C, with the test of
+// soundness.
 ghost use mathlib.Core.Bool.{true};
 ghost use mathlib.Core.Path.{_≡_};
-ghost use Rattle.desk.specs.Call.{Answers};
+ghost use Rattle.desk.specs.Call.{handed, left, Answers};
 ghost use Rattle.desk.specs.Sound.{Sound};
 ghost use Rattle.fresh.specs.Begin.{Begins};
+use desk::Answer;
 use desk::Desk;
 use desk::Parts;
-use fresh::Answer;
 
 // `carry_lent` on a desk that is lent and altered there: its parts are copied out and stored back, and the memo's array is lent on.
 pub fn call(desk: &mut Desk, pages: &mut [u8], bytes: &[u8], buffer: &mut [u8]) -> Answer
-    ensures { λ r. ⌜ Answers (record { desk = now (desk .entry); pages = now (pages .entry); bytes = now (bytes .entry); buffer = now (buffer .entry) }) (record { number = r .number; count = r .count; desk = now (desk .exit); pages = now (pages .exit); buffer = now (buffer .exit) }) ⌝ }
+    ensures { λ r. ⌜ Answers
+        (handed (now (desk .entry)) (now (pages .entry)) (now (bytes .entry)) (now (buffer .entry)))
+        (left (r .number) (r .count) (now (desk .exit)) (now (pages .exit)) (now (buffer .exit))) ⌝ }
 {
     let parts = Parts {
         grid: desk.grid,
@@ -36,14 +39,18 @@ pub extern "C" fn boragefile_call(
     bytes: &[u8],
     buffer: &mut [u8],
 ) -> Answer
-    ensures { λ a. ⌜ Answers (record { desk = now (desk .entry); pages = now (pages .entry); bytes = now (bytes .entry); buffer = now (buffer .entry) }) (record { number = a .number; count = a .count; desk = now (desk .exit); pages = now (pages .exit); buffer = now (buffer .exit) }) ⌝ }
+    ensures { λ a. ⌜ Answers
+        (handed (now (desk .entry)) (now (pages .entry)) (now (bytes .entry)) (now (buffer .entry)))
+        (left (a .number) (a .count) (now (desk .exit)) (now (pages .exit)) (now (buffer .exit))) ⌝ }
 {
     call(desk, pages, bytes, buffer)
 }
 
 // A fresh store on a desk that is lent and altered there.
 pub fn begin(desk: &mut Desk, pages: &mut [u8]) -> Answer
-    ensures { λ r. ⌜ Begins (record { desk = now (desk .entry); pages = now (pages .entry) }) (record { number = r .number; count = r .count; desk = now (desk .exit); pages = now (pages .exit) }) ⌝ }
+    ensures { λ r. ⌜ Begins
+        (record { desk = now (desk .entry); pages = now (pages .entry) })
+        (record { number = r .number; count = r .count; desk = now (desk .exit); pages = now (pages .exit) }) ⌝ }
 {
     let d = *desk;
     let c = fresh::begin(d, pages);
@@ -54,7 +61,9 @@ pub fn begin(desk: &mut Desk, pages: &mut [u8]) -> Answer
 // `begin`, for a serving program in Rust or C.
 #[no_mangle]
 pub extern "C" fn boragefile_begin(desk: &mut Desk, pages: &mut [u8]) -> Answer
-    ensures { λ a. ⌜ Begins (record { desk = now (desk .entry); pages = now (pages .entry) }) (record { number = a .number; count = a .count; desk = now (desk .exit); pages = now (pages .exit) }) ⌝ }
+    ensures { λ a. ⌜ Begins
+        (record { desk = now (desk .entry); pages = now (pages .entry) })
+        (record { number = a .number; count = a .count; desk = now (desk .exit); pages = now (pages .exit) }) ⌝ }
 {
     begin(desk, pages)
 }

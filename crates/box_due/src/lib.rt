@@ -68,7 +68,7 @@ fn reach_of(cuts: CutList, x: u16) -> Reach
     requires { ⌜ cuts .n ≤ maxCuts ⌝ }
     ensures { λ r. ⌜ Reaches (cutsIn cuts) x (spanIn r) ⌝ }
 {
-    let n = cuts.n;
+    let n = cuts.n as usize;
     let mut reach = Reach {
         low: 0,
         high: Desk::LAST_METRE,
@@ -103,12 +103,12 @@ fn waiting_at(easts: CutList, norths: CutList, waiting: Waiting, east: u16, nort
 {
     let east_reach = reach_of(easts, east);
     let north_reach = reach_of(norths, north);
-    let n = waiting.n;
+    let n = waiting.n as usize;
     let mut found: usize = 0;
     let mut i: usize = 0;
     while i < n {
         let x = waiting.rows[i];
-        let step = boxes::one_if(lies_within(east_reach, north_reach, x));
+        let step = lists::one_if(lies_within(east_reach, north_reach, x));
         found = found + step;
         i = i + 1;
     }
@@ -122,7 +122,7 @@ fn crowd_of(easts: CutList, norths: CutList, waiting: Waiting) -> [u8; BOXES]
     requires { ⌜ (waiting .n ≤ fullMemory) × (easts .n ≤ maxCuts) × (norths .n ≤ maxCuts) ⌝ }
     ensures { λ r. ⌜ Crowd (cutsBy easts norths) (reportsOf waiting) r ⌝ }
 {
-    let n = waiting.n;
+    let n = waiting.n as usize;
     let at = boxes::boxes_of(easts, norths, waiting);
     let mut crowd = [0u8; BOXES];
     let mut i: usize = 0;
@@ -202,21 +202,23 @@ fn fullest(easts: CutList, norths: CutList, waiting: Waiting) -> BoxAt
     ensures { λ r. ⌜ some (boxIn r) ≡ mostOf (waitingIn (cutsBy easts norths) (reportsOf waiting)) (boxes (cutsBy easts norths)) ⌝ }
 {
     let crowd = crowd_of(easts, norths, waiting);
-    let columns = easts.n + 1;
-    let rows = norths.n + 1;
+    let columns = easts.n as usize + 1;
+    let rows = norths.n as usize + 1;
     fullest_in_rows(&crowd, columns, rows)
 }
 
 // "if the memory cell of that place has 8 waiting, flush it. If 128 still wait in all, flush the memory cell with most waiting"
 pub fn box_due(easts: CutList, norths: CutList, waiting: Waiting, east: u16, north: u16) -> BoxDue
     requires { ⌜ (waiting .n ≤ fullMemory) × (easts .n ≤ maxCuts) × (norths .n ≤ maxCuts) ⌝ }
-    ensures { λ r. ⌜ r ≡ dueOf (boxToFlush (cutsBy easts norths) (waitingIn (cutsBy easts norths) (reportsOf waiting)) (length (reportsOf waiting)) (record { east = east; north = north })) ⌝ }
+    ensures { λ r. ⌜ dueOf r
+        ≡ boxToFlush (cutsBy easts norths) (waitingIn (cutsBy easts norths) (reportsOf waiting)) (length (reportsOf waiting))
+        (record { east = east; north = north }) ⌝ }
 {
     if Desk::FULL_BOX <= waiting_at(easts, norths, waiting, east, north) {
         let here = boxes::box_of(easts, norths, east, north);
         return BoxDue::Flush(here);
     }
-    if waiting.n < FULL_MEMORY {
+    if (waiting.n as usize) < FULL_MEMORY {
         return BoxDue::Nothing;
     }
     let most = fullest(easts, norths, waiting);

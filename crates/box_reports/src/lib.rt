@@ -45,7 +45,7 @@ fn parted(easts: CutList, norths: CutList, waiting: Waiting, m: BoxAt, wanted: b
     requires { ⌜ (waiting .n ≤ fullMemory) × (easts .n ≤ maxCuts) × (norths .n ≤ maxCuts) ⌝ }
     ensures { λ r. ⌜ (r ≡ waitingWith (filter (λ x. onSide wanted (cutsBy easts norths) (boxIn m) (rowOf x)) (reportsIn waiting))) × (r .n ≤ waiting .n) ⌝ }
 {
-    let n = waiting.n;
+    let n = waiting.n as usize;
     let at = boxes::boxes_of(easts, norths, waiting);
     let mut rows = [Report {
         radio: 0,
@@ -59,11 +59,11 @@ fn parted(easts: CutList, norths: CutList, waiting: Waiting, m: BoxAt, wanted: b
         let x = waiting.rows[i];
         let stays = in_box(m, at.easts[i], at.norths[i]) == wanted;
         rows[k] = kept(stays, x);
-        let step = boxes::one_if(stays);
+        let step = lists::one_if(stays);
         k = k + step;
         i = i + 1;
     }
-    Waiting { n: k, rows }
+    Waiting { n: k as u16, rows }
 }
 
 // "each waiting report of m", one after the other.

@@ -23,27 +23,17 @@ pub struct BoxAt {
     pub north: usize,
 }
 
-// 1 where the test holds.
-pub fn one_if(test: bool) -> usize
-    ensures { λ r. ⌜ (r ≡ one-if test) × (r ≤ 1) ⌝ }
-{
-    if test {
-        return 1;
-    }
-    0
-}
-
 // The stripe of a coordinate: "a cut at c puts coordinates below c on the low side".
 pub fn stripe_of(cuts: CutList, x: u16) -> usize
     requires { ⌜ cuts .n ≤ maxCuts ⌝ }
     ensures { λ r. ⌜ r ≡ stripe (cutsIn cuts) x ⌝ }
 {
-    let n = cuts.n;
+    let n = cuts.n as usize;
     let mut passed: usize = 0;
     let mut i: usize = 0;
     while i < n {
         let c = cuts.at[i];
-        let step = one_if(c <= x);
+        let step = lists::one_if(c <= x);
         passed = passed + step;
         i = i + 1;
     }
@@ -117,7 +107,7 @@ fn stripes_of<'a>(cuts: CutList, xs: &'a [u16; FULL_MEMORY]) -> [u16; FULL_MEMOR
     requires { ⌜ (cuts .n ≤ maxCuts) × (length (now xs) ≡ fullMemory) ⌝ }
     ensures { λ r. ⌜ Striped (cutsIn cuts) (now (xs .entry)) r ⌝ }
 {
-    let n = cuts.n;
+    let n = cuts.n as usize;
     let mut stripes = [0u16; FULL_MEMORY];
     let mut i: usize = 0;
     while i < n {

@@ -15,40 +15,38 @@ use Rattle.rules.specs.Store.{Store}
 use Rattle.rules.specs.Records.{Request, signOn, report, signOff, range, requestOf, refusal}
 use Rattle.rules.specs.Carry.{Outcome, carriedOut, carry, allowedIn}
 use Rattle.rules.specs.Told.{toldList}
-use Rattle.rules.specs.WellFormed.{WellFormed, chains}
+use Rattle.rules.specs.WellFormed.{WellFormed, chains, PagesOnce}
 use Rattle.rules.proofs.StepLaws.{step-well}
 use Rattle.desk.specs.declared.Desk.{Desk}
 use Rattle.desk.specs.declared.Parts.{Parts}
 use Rattle.desk.specs.Layout.{onOf}
-use Rattle.desk.specs.Views.{radiosOf, partsOf, deskWith}
+use Rattle.desk.specs.Views.{radiosOf, partsOf, deskWith, rectOf}
 use Rattle.desk.specs.Sound.{Sound}
 use Rattle.desk.specs.Call.{Before, After, turnedDown, laidOut, Carried as CarriedOut, Answers}
-use Rattle.desk.proofs.PagesLaws.{PagesOnce, pages-laid}
+use Rattle.desk.specs.Laid.{LaidDesk}
+use Rattle.desk.proofs.PagesLaws.{pages-laid}
 use Rattle.waiting.specs.On.{WholeOn}
 use Rattle.waiting.proofs.OnLaws.{whole-on-laid}
-use Rattle.records.specs.declared.Asked.{Asked}
-use Rattle.records.specs.declared.Asked.the-variants.{SignOn, Report, SignOff, Range, Refused}
-use Rattle.records.specs.Asked.{onIn, caseOf, askedOf}
+use Rattle.records.specs.Asked.{onIn, Checked, asks, fails, checked}
 use Rattle.records.proofs.AskedLaws.{on-few, on-rises, refused-carry, refused-allowed, taken-carry, taken-allowed, asks-on, asks-report, asks-off}
-use Rattle.range_places.specs.declared.Rectangle.{Rectangle}
-use Rattle.range_places.specs.Places.{rectOf}
+use Rattle.desk.specs.declared.Rectangle.{Rectangle}
 use Rattle.range.specs.declared.Listed.{Listed}
 use Rattle.range.specs.Range.{foundIn}
 use Rattle.range.proofs.StoreLaws.{range-gives}
-use Rattle.effects.specs.Effects.{Stands, AskedOn, AskedReport, AskedOff, Carries}
-use Rattle.effects.proofs.EffectLaws.{on-held}
+use Rattle.effects.specs.Effects.{BeforeSignOn, BeforeReport, BeforeSignOff, AfterRequest}
+use Rattle.effects.proofs.EffectLaws.{on-held, desk-laid, laid-desk}
 use Rattle.carry.specs.declared.Told.{Told}
-use Rattle.carry.specs.Carry.{Lists}
+use Rattle.carry.specs.Carry.{AfterRange}
 
 well-once : (s : Store) → WellFormed s → PagesOnce s
 unfolding chains
 well-once s w = w .once
 
 -- an outcome whose store is laid out in desk and pages
-laid-out : {desk : Desk} {b : List ℕ} (o : Outcome) → WellFormed (o .store) → Stands (o .store) desk b
+laid-out : {desk : Desk} {b : List ℕ} (o : Outcome) → WellFormed (o .store) → LaidDesk (o .store) desk b
     → record { number = o .number; count = o .count; desk = desk; pages = b; buffer = o .buffer } ≡ laidOut o
 unfolding laidOut
-laid-out o w x = ap₂ (λ (d : Desk) (p : List ℕ). record { number = o .number; count = o .count; desk = d; pages = p; buffer = o .buffer }) (x .held) (pages-laid (o .store) (well-once (o .store) w) _ (x .laid))
+laid-out o w x = ap₂ (λ (d : Desk) (p : List ℕ). record { number = o .number; count = o .count; desk = d; pages = p; buffer = o .buffer }) (laid-desk (o .store) x .0) (pages-laid (o .store) (well-once (o .store) w) _ (laid-desk (o .store) x .1))
 
 module _ (parts : Parts) (ws : List ℕ) {b : List ℕ} (x : Sound (deskWith parts ws) b) where
   abbrev desk : Desk
@@ -64,24 +62,24 @@ module _ (parts : Parts) (ws : List ℕ) {b : List ℕ} (x : Sound (deskWith par
   pub record-asks : (desk .on .n ≤ maxOn) × WholeOn (desk .on) × Rising 0 (radiosOf (desk .on))
   record-asks = (on-few s (desk .on) on-laid (x .well), whole-on-laid (desk .on) (s .on) on-laid, on-rises s (desk .on) on-laid (x .well))
 
-  module _ (bytes buffer : List ℕ) (small : Bytes bytes) {o : Asked} (told : o ≡ askedOf (refusal (onIn (desk .on)) (length (radiosOf (desk .on))) bytes) (requestOf bytes)) where
+  module _ (bytes buffer : List ℕ) (small : Bytes bytes) {k : Checked} (told : k ≡ checked (refusal (onIn (desk .on)) (length (radiosOf (desk .on))) bytes) (requestOf bytes)) where
     abbrev before : Before
     before = record { desk = desk; pages = b; bytes = bytes; buffer = buffer }
 
     -- ---- turned down under 3 to 10
 
-    pub refused-answers : (n : ℕ) → o ≡ Refused n → CarriedOut before x (record { number = n; count = 0; desk = desk; pages = b; buffer = buffer })
+    pub refused-answers : (n : ℕ) → k ≡ fails n → CarriedOut before x (record { number = n; count = 0; desk = desk; pages = b; buffer = buffer })
     refused-answers n e =
         let c = refused-carry s (desk .on) bytes on-laid told e 0 buffer in
         record {
           pick = 0;
           permitted = refused-allowed s (desk .on) bytes on-laid told e 0;
-          done = laid-out (record { number = n; count = 0; buffer = buffer; store = s }) (x .well) (record { held = x .held; laid = x .laid }) ∙ ap laidOut (sym c);
+          done = laid-out (record { number = n; count = 0; buffer = buffer; store = s }) (x .well) (desk-laid s (x .held) (x .laid)) ∙ ap laidOut (sym c);
         }
 
     -- ---- carried out
 
-    taken : (q : Request) → o ≡ caseOf q → (pick : ℕ) → allowedIn pick q s ≡ true → (y : Outcome) → carriedOut pick q s buffer ≡ y → {d : Desk} {b′ : List ℕ} → Stands (y .store) d b′
+    taken : (q : Request) → k ≡ asks q → (pick : ℕ) → allowedIn pick q s ≡ true → (y : Outcome) → carriedOut pick q s buffer ≡ y → {d : Desk} {b′ : List ℕ} → LaidDesk (y .store) d b′
         → CarriedOut before x (record { number = y .number; count = y .count; desk = d; pages = b′; buffer = y .buffer })
     taken q e pick a y g h =
         let c : carry pick s bytes buffer ≡ y = taken-carry s (desk .on) bytes on-laid told q e pick buffer ∙ g in
@@ -92,32 +90,32 @@ module _ (parts : Parts) (ws : List ℕ) {b : List ℕ} (x : Sound (deskWith par
         }
 
     module _ (r : ℕ) (p : Place) where
-      pub on-asked : o ≡ SignOn r (p .east) (p .north) → AskedOn desk r p b
-      on-asked e = record { sound = x; signs = asks-on s (desk .on) bytes on-laid told small e }
+      pub on-asked : k ≡ asks (signOn r p) → BeforeSignOn desk r p b
+      on-asked e = record { sound = x; signs = asks-on s (desk .on) bytes on-laid told small r p e }
 
-      pub report-asked : o ≡ Report r (p .east) (p .north) → AskedReport desk r p b
-      report-asked e = record { sound = x; reports = asks-report s (desk .on) bytes on-laid told small e }
+      pub report-asked : k ≡ asks (report r p) → BeforeReport desk r p b
+      report-asked e = record { sound = x; reports = asks-report s (desk .on) bytes on-laid told small r p e }
 
-      pub on-answers : {d : Desk} {b′ : List ℕ} → o ≡ SignOn r (p .east) (p .north) → Carries s (signOn r p) d b′ → CarriedOut before x (record { number = 0; count = 0; desk = d; pages = b′; buffer = buffer })
+      pub on-answers : {d : Desk} {b′ : List ℕ} → k ≡ asks (signOn r p) → AfterRequest s (signOn r p) d b′ → CarriedOut before x (record { number = 0; count = 0; desk = d; pages = b′; buffer = buffer })
       unfolding carriedOut
-      on-answers e c = taken (signOn r p) e (c .pick) (c .permitted) _ refl (c .stands)
+      on-answers e c = taken (signOn r p) e (c .pick) (c .permitted) _ refl (c .laid)
 
-      pub report-answers : {d : Desk} {b′ : List ℕ} → o ≡ Report r (p .east) (p .north) → Carries s (report r p) d b′ → CarriedOut before x (record { number = 0; count = 0; desk = d; pages = b′; buffer = buffer })
+      pub report-answers : {d : Desk} {b′ : List ℕ} → k ≡ asks (report r p) → AfterRequest s (report r p) d b′ → CarriedOut before x (record { number = 0; count = 0; desk = d; pages = b′; buffer = buffer })
       unfolding carriedOut
-      report-answers e c = taken (report r p) e (c .pick) (c .permitted) _ refl (c .stands)
+      report-answers e c = taken (report r p) e (c .pick) (c .permitted) _ refl (c .laid)
 
-    pub off-asked : (r : ℕ) → o ≡ SignOff r → AskedOff desk r b
-    off-asked r e = record { sound = x; signs = asks-off s (desk .on) bytes on-laid told small e }
+    pub off-asked : (r : ℕ) → k ≡ asks (signOff r) → BeforeSignOff desk r b
+    off-asked r e = record { sound = x; signs = asks-off s (desk .on) bytes on-laid told small r e }
 
-    pub off-answers : (r : ℕ) {d : Desk} {b′ : List ℕ} → o ≡ SignOff r → Carries s (signOff r) d b′ → CarriedOut before x (record { number = 0; count = 0; desk = d; pages = b′; buffer = buffer })
+    pub off-answers : (r : ℕ) {d : Desk} {b′ : List ℕ} → k ≡ asks (signOff r) → AfterRequest s (signOff r) d b′ → CarriedOut before x (record { number = 0; count = 0; desk = d; pages = b′; buffer = buffer })
     unfolding carriedOut
-    off-answers r e c = taken (signOff r) e (c .pick) (c .permitted) _ refl (c .stands)
+    off-answers r e c = taken (signOff r) e (c .pick) (c .permitted) _ refl (c .laid)
 
-    range-answers : (rect : Rect) {r : Told} {after : List ℕ} → o ≡ Range (rect .easts .low) (rect .easts .high) (rect .norths .low) (rect .norths .high) → Lists s rect parts buffer r after
+    range-answers : (rect : Rect) {r : Told} {after : List ℕ} → k ≡ asks (range rect) → AfterRange s rect parts buffer r after
         → CarriedOut before x (record { number = r .answer .number; count = r .answer .count; desk = deskWith (r .parts) ws; pages = b; buffer = after })
     unfolding carriedOut allowedIn
     range-answers rect {r = r} {after = after} e l =
-        taken (range rect) e 0 refl (record { number = r .answer .number; count = r .answer .count; buffer = after; store = s }) (sym (l .told)) (record { held = ap (λ (p : Parts). deskWith p ws) (l .kept) ∙ x .held; laid = x .laid })
+        taken (range rect) e 0 refl (record { number = r .answer .number; count = r .answer .count; buffer = after; store = s }) (sym (l .told)) (desk-laid s (ap (λ (p : Parts). deskWith p ws) (l .kept) ∙ x .held) (x .laid))
 
     -- ---- the same, in the words of the calls
 
@@ -127,27 +125,27 @@ module _ (parts : Parts) (ws : List ℕ) {b : List ℕ} (x : Sound (deskWith par
     by-result : {r c : Told} {ws′ b′ : List ℕ} → r ≡ c → CarriedOut before x (leaves c ws′ b′ buffer) → CarriedOut before x (leaves r ws′ b′ buffer)
     by-result {ws′ = ws′} {b′ = b′} e = subst (λ (c : Told). CarriedOut before x (leaves c ws′ b′ buffer)) (sym e)
 
-    pub refused-returns : (n : ℕ) {r : Told} → o ≡ Refused n → r ≡ record { parts = parts; answer = record { number = n; count = 0 } } → CarriedOut before x (leaves r ws b buffer)
+    pub refused-returns : (n : ℕ) {r : Told} → k ≡ fails n → r ≡ record { parts = parts; answer = record { number = n; count = 0 } } → CarriedOut before x (leaves r ws b buffer)
     refused-returns n e g = by-result g (refused-answers n e)
 
-    pub on-returns : (r : ℕ) (p : Place) {d : Parts} {ws′ b′ : List ℕ} {c : Told} → o ≡ SignOn r (p .east) (p .north) → ((y : AskedOn desk r p b) → Carries (y .sound .store) (signOn r p) (deskWith d ws′) b′)
+    pub on-returns : (r : ℕ) (p : Place) {d : Parts} {ws′ b′ : List ℕ} {c : Told} → k ≡ asks (signOn r p) → ((y : BeforeSignOn desk r p b) → AfterRequest (y .sound .store) (signOn r p) (deskWith d ws′) b′)
         → c ≡ record { parts = d; answer = record { number = 0; count = 0 } } → CarriedOut before x (leaves c ws′ b′ buffer)
     unfolding on-asked
     on-returns r p e l g = by-result g (on-answers r p e (l (on-asked r p e)))
 
-    pub report-returns : (r : ℕ) (p : Place) {d : Parts} {ws′ b′ : List ℕ} {c : Told} → o ≡ Report r (p .east) (p .north) → ((y : AskedReport desk r p b) → Carries (y .sound .store) (report r p) (deskWith d ws′) b′)
+    pub report-returns : (r : ℕ) (p : Place) {d : Parts} {ws′ b′ : List ℕ} {c : Told} → k ≡ asks (report r p) → ((y : BeforeReport desk r p b) → AfterRequest (y .sound .store) (report r p) (deskWith d ws′) b′)
         → c ≡ record { parts = d; answer = record { number = 0; count = 0 } } → CarriedOut before x (leaves c ws′ b′ buffer)
     unfolding report-asked
     report-returns r p e l g = by-result g (report-answers r p e (l (report-asked r p e)))
 
-    pub off-returns : (r : ℕ) {d : Parts} {ws′ b′ : List ℕ} {c : Told} → o ≡ SignOff r → ((y : AskedOff desk r b) → Carries (y .sound .store) (signOff r) (deskWith d ws′) b′)
+    pub off-returns : (r : ℕ) {d : Parts} {ws′ b′ : List ℕ} {c : Told} → k ≡ asks (signOff r) → ((y : BeforeSignOff desk r b) → AfterRequest (y .sound .store) (signOff r) (deskWith d ws′) b′)
         → c ≡ record { parts = d; answer = record { number = 0; count = 0 } } → CarriedOut before x (leaves c ws′ b′ buffer)
     unfolding off-asked
     off-returns r e l g = by-result g (off-answers r e (l (off-asked r e)))
 
-    pub range-returns : (west east south north : ℕ) {c : Told} {after : List ℕ} → o ≡ Range west east south north
-        → ((y : Sound desk b) → Lists (y .store) (record { easts = record { low = west; high = east }; norths = record { low = south; high = north } }) parts buffer c after) → CarriedOut before x (leaves c ws b after)
-    range-returns w e u n g l = range-answers _ g (l x)
+    pub range-returns : (rect : Rect) {c : Told} {after : List ℕ} → k ≡ asks (range rect) → ((y : Sound desk b) → AfterRange (y .store) rect parts buffer c after)
+        → CarriedOut before x (leaves c ws b after)
+    range-returns rect g l = range-answers rect g (l x)
 
 -- ---- numbers 1 and 2
 
@@ -177,7 +175,7 @@ module _ (parts : Parts) (ws pages bytes buffer : List ℕ) where
 pub lists-returns : (parts : Parts) (ws : List ℕ) {b : List ℕ} (x : Sound (deskWith parts ws) b) (area : Rectangle) (buffer : List ℕ) {told : Listed} {after : List ℕ} {r : Told}
     → record { number = told .number; count = told .count; buffer = after } ≡ toldList (foundIn b (rectOf area) (parts .grid .cells) (parts .waiting) (record { n = parts .lines; words = ws }) (parts .on)) buffer
     → r ≡ record { parts = parts; answer = record { number = told .number; count = told .count } }
-    → Lists (x .store) (rectOf area) parts buffer r after
+    → AfterRange (x .store) (rectOf area) parts buffer r after
 lists-returns parts ws {b = b} x area buffer {told = told} {after = after} e g = record {
   kept = ap (λ (c : Told). c .parts) g;
   told =

@@ -1,18 +1,14 @@
 // A record on a store in any condition: carried out, or turned down. The desk comes in its parts, with the memo's array, the pages and the answer buffer lent.
 ghost use mathlib.Core.Path.{_≡_};
-ghost use Prim.Native.Nat.{_*_};
-ghost use lib.ListN.{length};
-ghost use Rattle.desk.specs.Call.{Answers, Carried as CarriedOut};
-ghost use Rattle.desk.specs.Layout.{lineSlots, lineFields};
+ghost use Rattle.desk.specs.Call.{handed, left, Answers, Carried as CarriedOut};
 ghost use Rattle.desk.specs.Sound.{Sound};
-ghost use Rattle.desk.specs.Views.{deskWith};
-ghost use Rattle.range_places.specs.Places.{rectOf};
-ghost use Rattle.carry.specs.Carry.{Lists};
+ghost use Rattle.desk.specs.Views.{deskWith, rectOf};
+ghost use Rattle.carry.specs.Carry.{MemoArray, AfterRange};
+use desk::Answer;
 use desk::Desk;
 use desk::Parts;
-use fresh::Answer;
+use desk::Rectangle;
 use page::BUFFER_BYTES;
-use range_places::Rectangle;
 use records::Asked;
 
 // 1: "The page buffer isn't 25,600 bytes."
@@ -54,8 +50,9 @@ fn listed(
     area: Rectangle,
     buffer: &mut [u8],
 ) -> Told
-    requires { ⌜ (length (now words) ≡ lineFields * lineSlots) × Sound (deskWith parts (now words)) (now pages) ⌝ }
-    ensures { λ r. ⌜ ((s : Sound (deskWith parts (now (words .entry))) (now (pages .entry))) → Lists (s .store) (rectOf area) parts (now (buffer .entry)) r (now (buffer .exit))) ⌝ }
+    requires { ⌜ MemoArray (now words) × Sound (deskWith parts (now words)) (now pages) ⌝ }
+    ensures { λ r. ⌜ ((s : Sound (deskWith parts (now (words .entry))) (now (pages .entry)))
+        → AfterRange (s .store) (rectOf area) parts (now (buffer .entry)) r (now (buffer .exit))) ⌝ }
 {
     let grid = parts.grid;
     let cells = grid.cells;
@@ -75,11 +72,15 @@ fn carry_sound(
     bytes: &[u8],
     buffer: &mut [u8],
 ) -> Told
-    requires { ⌜ (length (now words) ≡ lineFields * lineSlots) × Sound (deskWith parts (now words)) (now pages) ⌝ }
-    ensures { λ r. ⌜ ((s : Sound (deskWith parts (now (words .entry))) (now (pages .entry))) → CarriedOut (record { desk = deskWith parts (now (words .entry)); pages = now (pages .entry); bytes = now (bytes .entry); buffer = now (buffer .entry) }) s (record { number = r .answer .number; count = r .answer .count; desk = deskWith (r .parts) (now (words .exit)); pages = now (pages .exit); buffer = now (buffer .exit) })) ⌝ }
+    requires { ⌜ MemoArray (now words) × Sound (deskWith parts (now words)) (now pages) ⌝ }
+    ensures { λ r. ⌜ ((s : Sound (deskWith parts (now (words .entry))) (now (pages .entry)))
+        → CarriedOut
+        (handed (deskWith parts (now (words .entry))) (now (pages .entry)) (now (bytes .entry)) (now (buffer .entry)))
+        s
+        (left (r .answer .number) (r .answer .count) (deskWith (r .parts) (now (words .exit))) (now (pages .exit)) (now (buffer .exit)))) ⌝ }
 {
     let on = parts.on;
-    match records::asked_by(bytes, &on.radios, on.n) {
+    match records::asked_by(bytes, &on.radios, on.n as usize) {
         Asked::Refused(number) => answered(parts, number, 0),
         Asked::SignOn(radio, east, north) => accepted(effects::sign_on(
             parts,
@@ -118,8 +119,10 @@ pub fn carry_lent<'a>(
     bytes: &[u8],
     buffer: &mut [u8],
 ) -> Told
-    requires { ⌜ length (now words) ≡ lineFields * lineSlots ⌝ }
-    ensures { λ r. ⌜ Answers (record { desk = deskWith parts (now (words .entry)); pages = now (pages .entry); bytes = now (bytes .entry); buffer = now (buffer .entry) }) (record { number = r .answer .number; count = r .answer .count; desk = deskWith (r .parts) (now (words .exit)); pages = now (pages .exit); buffer = now (buffer .exit) }) ⌝ }
+    requires { ⌜ MemoArray (now words) ⌝ }
+    ensures { λ r. ⌜ Answers
+        (handed (deskWith parts (now (words .entry))) (now (pages .entry)) (now (bytes .entry)) (now (buffer .entry)))
+        (left (r .answer .number) (r .answer .count) (deskWith (r .parts) (now (words .exit))) (now (pages .exit)) (now (buffer .exit))) ⌝ }
 {
     if pages.len() != BUFFER_BYTES {
         return answered(parts, WRONG_SIZE, 0);
@@ -138,7 +141,9 @@ pub struct Carried {
 
 // The same with the desk whole and by value.
 pub fn carry(desk: Desk, pages: &mut [u8], bytes: &[u8], buffer: &mut [u8]) -> Carried
-    ensures { λ r. ⌜ Answers (record { desk = desk; pages = now (pages .entry); bytes = now (bytes .entry); buffer = now (buffer .entry) }) (record { number = r .answer .number; count = r .answer .count; desk = r .desk; pages = now (pages .exit); buffer = now (buffer .exit) }) ⌝ }
+    ensures { λ r. ⌜ Answers
+        (handed desk (now (pages .entry)) (now (bytes .entry)) (now (buffer .entry)))
+        (left (r .answer .number) (r .answer .count) (r .desk) (now (pages .exit)) (now (buffer .exit))) ⌝ }
 {
     let memo = desk.memo;
     let mut words = memo.words;

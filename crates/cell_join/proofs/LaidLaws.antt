@@ -6,35 +6,35 @@ use Prim.Native.Nat.{ℕ, _+_, _≤_}
 use native.Mathlib.Omega.{arith}
 use lib.Dec.{ltb}
 use lib.ListN.{length, take-append-drop}
-use Rattle.terms.specs.Terms.{Place, noPage}
+use Rattle.terms.specs.Terms.{Fix, noPage}
 use Rattle.lists.specs.Chains.{firstOf, settledChain, settledFree}
 use Rattle.lists.specs.Rows.{Rows, merge}
 use Rattle.lists.specs.Sums.{count}
-use Rattle.lists.proofs.AmongLaws.{Among, each-among}
+use Rattle.lists.specs.Among.{Among}
+use Rattle.lists.proofs.AmongLaws.{each-among}
 use Rattle.lists.proofs.RowsLaws.{rising-filter, length-merge-le}
 use Rattle.lists.proofs.SumsLaws.{length-filter-not}
 use Rattle.lists.proofs.TestsLaws.{each-middle}
 use Rattle.rules.specs.Limits.{joinEntries}
-use Rattle.rules.specs.Store.{Line, Cell, Store, others, pagesFor, settled, freeAfter}
+use Rattle.rules.specs.Store.{Line, Cell, Store, withCells, withFree, others, pagesFor, settled, freeAfter}
 use Rattle.rules.specs.Sweep.{stale, sweptEntries}
 use Rattle.rules.specs.Flush.{Flushed, joinedEdges, joined, joinedWith}
-use Rattle.rules.proofs.Parts.{Rowed}
+use Rattle.rules.specs.Parts.{Rowed}
+use Rattle.rules.specs.Midway.{MidFlush}
+use Rattle.rules.specs.WellFormed.{PagesOnce}
 use Rattle.rules.proofs.PagedLaws.{needed, pagesFor-one}
 use Rattle.rules.proofs.TilingLaws.{others-split, round-others}
-use Rattle.rules.proofs.FlushLaws.{Ready}
 use Rattle.desk.specs.Layout.{Laid}
-use Rattle.desk.proofs.PagesLaws.{PagesOnce}
-use Rattle.cell_last.specs.Loose.{onPages}
 use Rattle.settle.specs.Settle.{written, givenLeaves, settledLeaves}
 use Rattle.settle.proofs.SettleLaws.{Apart, apart-cell, settled-laid, settled-once, settled-even, given-laid, given-once}
 use Rattle.cell_last.proofs.MidwayLaws.{d-apart, d-room}
 
-module _ {f : Flushed} {d₀ : Cell} {before after : List Cell} {old : Rows Line} {n c : ℕ} (r : Ready f d₀ before after old n c) (b : List ℕ) (l : Laid (f .store) b) where
+module _ {f : Flushed} {d₀ : Cell} {before after : List Cell} {old : Rows Line} {n c : ℕ} (r : MidFlush f d₀ before after old n c) (b : List ℕ) (l : Laid (f .store) b) where
   module _ (m : Cell) (a : Among (before ++ after) m) (small : length (f .cell .entries) + length (m .entries) ≤ joinEntries) where
     abbrev left : List Cell
     left = a .before ++ a .after
 
-    abbrev entries : Rows Place
+    abbrev entries : Rows Fix
     entries = merge (sweptEntries (f .store .memo) (m .entries)) (f .cell .entries)
 
     pub few-joined : length entries ≤ length (f .cell .entries) + length (m .entries)
@@ -69,7 +69,7 @@ module _ {f : Flushed} {d₀ : Cell} {before after : List Cell} {old : Rows Line
     onD = joinedOn (f .cell .number) (f .cell .chain)
 
     abbrev settledD : Store
-    settledD = onPages ((before ++ after) ++ (settled (f .store .free) onD ∷ [])) (freeAfter (f .store .free) onD) (f .store)
+    settledD = withCells ((before ++ after) ++ (settled (f .store .free) onD ∷ [])) (withFree (freeAfter (f .store .free) onD) (f .store))
 
     abbrev bytesD : List ℕ
     bytesD = written b (settledLeaves (onD .number) (onD .chain) (f .store .free) (onD .entries))
@@ -102,7 +102,7 @@ module _ {f : Flushed} {d₀ : Cell} {before after : List Cell} {old : Rows Line
     freeD = settledFree 0 (f .cell .chain) (f .store .free)
 
     abbrev withoutD : Store
-    withoutD = onPages (before ++ after) freeD (f .store)
+    withoutD = withCells (before ++ after) (withFree freeD (f .store))
 
     abbrev bytesM : List ℕ
     bytesM = written b (givenLeaves (firstOf noPage (f .store .free)) (f .cell .chain))

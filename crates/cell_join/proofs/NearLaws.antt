@@ -6,25 +6,26 @@ use Prim.Native.Nat.{ℕ, suc, _+_, _≤_, _<_}
 use native.Mathlib.Omega.{arith}
 use lib.ListN.{length, take, drop, getD}
 use borrow.Author.Tests.{leb-true}
-use Rattle.terms.specs.Terms.{Place, maxOn, pages, noPage}
+use Rattle.terms.specs.Terms.{Fix, maxOn, pages, noPage}
 use Rattle.lists.specs.Chains.{firstOf}
 use Rattle.lists.specs.Parts.{removeAt}
 use Rattle.lists.specs.Rows.{Rows, Rising, merge}
 use Rattle.lists.specs.Tests.{Each}
-use Rattle.lists.proofs.AmongLaws.{Among, each-among}
+use Rattle.lists.specs.Among.{Among}
+use Rattle.lists.proofs.AmongLaws.{each-among}
 use Rattle.lists.proofs.RowsLaws.{rising-filter}
 use Rattle.lists.proofs.SumsLaws.{sum-cons, sum-middle, length-middle, length-filter-not}
 use Rattle.lists.proofs.TestsLaws.{each-middle, both-right}
 use Rattle.entries.specs.declared.Entries.{Entries}
 use Rattle.entries.specs.Entries.{rowsOf}
 use Rattle.page.specs.declared.Chain.{Chain}
-use Rattle.page.specs.Buffer.{there, pagesOf, chainFrom}
+use Rattle.page.specs.Buffer.{there, pagesOf, chainFrom, entriesOn}
 use Rattle.rules.specs.Limits.{maxCells, joinEntries}
 use Rattle.rules.specs.Store.{Cell, pagesFor}
 use Rattle.rules.specs.Sweep.{stale, swept, sweptEntries, sweptMemo}
 use Rattle.rules.specs.Flush.{Flushed, beside, joinable, joined, joinedWith}
 use Rattle.rules.specs.WellFormed.{staleIn}
-use Rattle.rules.proofs.Parts.{Rowed}
+use Rattle.rules.specs.Parts.{Rowed}
 use Rattle.rules.proofs.BooksLaws.{memo-total}
 use Rattle.rules.proofs.RoundLaws.{bounded-total}
 use Rattle.desk.specs.declared.Slot.{Slot}
@@ -39,12 +40,12 @@ use Rattle.directory.specs.Directory.{WholeDirectory}
 use Rattle.directory.proofs.CellLaws.{slots-at}
 use Rattle.directory.proofs.DirectoryLaws.{directory-whole, directory-count, directory-slots, directory-removed}
 use Rattle.settle.specs.declared.Settled.{Settled}
-use Rattle.sweep.specs.Sweep.{entriesOn}
 use Rattle.sweep.proofs.CellLaws.{Sweepable, sweepable, cell-asks, cell-gives}
 use Rattle.join.specs.Join.{joinedSlot}
 use Rattle.join.proofs.JoinLaws.{joined-slot-cell}
-use Rattle.cell_last.specs.Loose.{Midway}
-use Rattle.cell_join.specs.Joining.{Nearing, Joining, JoinedPages, Joined}
+use Rattle.cell_last.specs.Grids.{withDirectory}
+use Rattle.cell_last.specs.Settling.{BeforeReshape}
+use Rattle.cell_join.specs.Joining.{BeforeJoin, BeforeJoinPages, AfterJoinPages, AfterJoin}
 use Rattle.cell_last.proofs.MidwayLaws.{store-once, midway-loose, midway-slot}
 use Rattle.cell_join.proofs.LaidLaws.{few-joined, cells-joined}
 use Rattle.cell_last.proofs.CellsLaws.{slots-with}
@@ -52,10 +53,10 @@ use Rattle.cell_last.proofs.MovedLaws.{with-slots, loose-in, loose-in-slots, lo
 
 -- ---- the memo in the middle of a flush
 
-module _ {grid : Grid} {at : ℕ} {chain : List ℕ} {rows : Rows Place} {memo : Memo} {b : List ℕ} (x : Midway grid at chain rows memo b) where
+module _ {grid : Grid} {at : ℕ} {chain : List ℕ} {rows : Rows Fix} {memo : Memo} {b : List ℕ} (x : BeforeReshape grid at chain rows memo b) where
   pub midway-lines : length (x .flushed .store .memo) ≤ lineSlots
   midway-lines =
-      let r = x .ready in
+      let r = x .mid in
       let cells = x .before ++ (x .d ∷ x .after) in
       omega (
         arith,
@@ -70,7 +71,7 @@ module _ {grid : Grid} {at : ℕ} {chain : List ℕ} {rows : Rows Place} {memo :
 
 -- ---- the neighbour
 
-module _ {grid : Grid} {at : ℕ} {rest : Directory} {k : ℕ} {chain : List ℕ} {rows : Rows Place} {memo : Memo} {b : List ℕ} (x : Nearing grid at rest k chain rows memo b) where
+module _ {grid : Grid} {at : ℕ} {rest : Directory} {k : ℕ} {chain : List ℕ} {rows : Rows Fix} {memo : Memo} {b : List ℕ} (x : BeforeJoin grid at rest k chain rows memo b) where
   abbrev f : Flushed
   f = x .midway .flushed
 
@@ -88,7 +89,7 @@ module _ {grid : Grid} {at : ℕ} {rest : Directory} {k : ℕ} {chain : List ℕ
   small = leb-true (length (f .cell .entries) + length (m .entries)) joinEntries (both-right (beside (f .cell .edges) (m .edges)) _ (x .near))
 
   cells-few : length cells < maxCells
-  cells-few = omega (arith, x .midway .ready .tiled .few-cells, length-middle (x .midway .before) (x .midway .d) (x .midway .after))
+  cells-few = omega (arith, x .midway .mid .tiled .few-cells, length-middle (x .midway .before) (x .midway .d) (x .midway .after))
 
   pub near-d : at < maxCells
   near-d = loose-in-slots (midway-loose (x .midway))
@@ -99,16 +100,16 @@ module _ {grid : Grid} {at : ℕ} {rest : Directory} {k : ℕ} {chain : List ℕ
   paged : length (m .chain) ≡ pagesFor (length (m .entries))
   paged =
       each-among (λ c. length (c .chain) ≡ pagesFor (length (c .entries)))
-      (each-middle (λ c. length (c .chain) ≡ pagesFor (length (c .entries))) (x .midway .before) (x .midway .d) (x .midway .after) (x .midway .ready .paged .cells-paged) .1) among
+      (each-middle (λ c. length (c .chain) ≡ pagesFor (length (c .entries))) (x .midway .before) (x .midway .d) (x .midway .after) (x .midway .mid .paged .cells-paged) .1) among
 
   rowed : Rowed m
-  rowed = each-among Rowed (x .midway .ready .books .cells-rowed .1) among
+  rowed = each-among Rowed (x .midway .mid .books .cells-rowed .1) among
 
   read : CellRead b m
   read =
       each-among (CellRead b)
       (each-middle (CellRead b) (x .midway .before) (x .midway .d) (x .midway .after)
-      (subst (λ (l : List Cell). Each (CellRead b) l) (x .midway .ready .cells) (cells-read (f .store) (store-once (x .midway .ready) b (x .midway .laid)) b (x .midway .laid))) .1) among
+      (subst (λ (l : List Cell). Each (CellRead b) l) (x .midway .mid .cells) (cells-read (f .store) (store-once (x .midway .mid) b (x .midway .laid .in-grid .laid)) b (x .midway .laid .in-grid .laid))) .1) among
 
   few-stay : length (sweptEntries (f .store .memo) (m .entries)) ≤ length (m .entries)
   unfolding sweptEntries
@@ -127,14 +128,14 @@ module _ {grid : Grid} {at : ℕ} {rest : Directory} {k : ℕ} {chain : List ℕ
 
     pub near-asks : other .n ≤ pages
         → (other .n ≤ pages) × Each (λ p. there b p ≡ true) (pagesOf other) × Rising 0 (entriesOn b (pagesOf other)) × Whole memo × (memo .n ≤ lineSlots) × Rising 0 (linesOf memo) × (length (sweptEntries (linesOf memo) (entriesOn b (pagesOf other))) ≤ maxOn)
-    near-asks n = cell-asks near-swept other memo from-first (x .midway .noted) n (midway-lines (x .midway)) (x .midway .ready .books .memo-rises)
+    near-asks n = cell-asks near-swept other memo from-first (x .midway .laid .memo-is) n (midway-lines (x .midway)) (x .midway .mid .books .memo-rises)
 
     pub other-is : pagesOf other ≡ m .chain
     other-is = from-first ∙ near-swept .read
 
     module _ (stay : Entries) {after : Memo} (said : (rowsOf stay ≡ sweptEntries (linesOf memo) (entriesOn b (pagesOf other))) × (stay .n ≡ length (sweptEntries (linesOf memo) (entriesOn b (pagesOf other)))) × (after ≡ memoOf (sweptMemo (linesOf memo) (entriesOn b (pagesOf other))))) where
       gives : (rowsOf stay ≡ swept (f .store .memo) m .entries) × (stay .n ≡ length (swept (f .store .memo) m .entries)) × (after ≡ memoOf (sweptMemo (f .store .memo) (m .entries)))
-      gives = cell-gives near-swept other memo from-first (x .midway .noted) stay said
+      gives = cell-gives near-swept other memo from-first (x .midway .laid .memo-is) stay said
 
       pub stays : rowsOf stay ≡ sweptEntries (f .store .memo) (m .entries)
       unfolding swept
@@ -149,11 +150,11 @@ module _ {grid : Grid} {at : ℕ} {rest : Directory} {k : ℕ} {chain : List ℕ
       unfolding sweptEntries
       near-merges table n e = (
         rw stays (rising-filter (λ e. not (stale (f .store .memo) e)) 0 (m .entries) (rowed .rising)),
-        rw (← e, x .midway .entered) (x .midway .ready .books .cells-rowed .0 .rising),
+        rw (← e, x .midway .entered) (x .midway .mid .books .cells-rowed .0 .rising),
         omega (arith, count-stays, small, n, ap length e, ap length (x .midway .entered)),
       )
 
-      abbrev pub near-joins : (all : Rows Place) → all ≡ merge (rowsOf stay) rows → Joining (grid .free) (getD (grid .cells .slots) at noSlot) chain (getD (rest .slots) k noSlot) (pagesOf other) all b
+      abbrev pub near-joins : (all : Rows Fix) → all ≡ merge (rowsOf stay) rows → BeforeJoinPages (grid .free) (getD (grid .cells .slots) at noSlot) chain (getD (rest .slots) k noSlot) (pagesOf other) all b
       near-joins all e = record {
         flushed = f;
         old = x .midway .d;
@@ -162,7 +163,7 @@ module _ {grid : Grid} {at : ℕ} {rest : Directory} {k : ℕ} {chain : List ℕ
         memo = x .midway .lines;
         n = x .midway .n;
         c = x .midway .c;
-        ready = x .midway .ready;
+        mid = x .midway .mid;
         neighbour = m;
         among = among;
         small = small;
@@ -172,19 +173,19 @@ module _ {grid : Grid} {at : ℕ} {rest : Directory} {k : ℕ} {chain : List ℕ
         m-is = x .stands .element;
         other-is = other-is;
         all-is = e ∙ ap₂ merge stays (x .midway .entered);
-        laid = x .midway .laid;
+        laid = x .midway .laid .in-grid .laid;
       }
 
-      pub near-fits : (all : Rows Place) → all ≡ merge (rowsOf stay) rows → length all ≤ maxOn
-      near-fits all e = omega (arith, few-joined (x .midway .ready) b (x .midway .laid) m among small, small, ap length (e ∙ ap₂ merge stays (x .midway .entered)))
+      pub near-fits : (all : Rows Fix) → all ≡ merge (rowsOf stay) rows → length all ≤ maxOn
+      near-fits all e = omega (arith, few-joined (x .midway .mid) b (x .midway .laid .in-grid .laid) m among small, small, ap length (e ∙ ap₂ merge stays (x .midway .entered)))
 
       noted : after ≡ memoOf (sweptMemo (f .store .memo) (m .entries))
       noted = gives .2
 
-      pub near-returns : {ends : Settled} {b′ : List ℕ} {cells′ : Directory} {g : Grid} → JoinedPages f m ends b′
+      pub near-returns : {ends : Settled} {b′ : List ℕ} {cells′ : Directory} {g : Grid} → AfterJoinPages f m ends b′
           → cells′ ≡ directoryWith (removeAt (slotsIn rest) k ++ (joinedSlot (getD (grid .cells .slots) at noSlot) (getD (rest .slots) k noSlot) (ends .first) ∷ []))
-          → g ≡ record { easts = grid .easts; norths = grid .norths; cells = cells′; free = ends .free }
-          → Joined f m g after b′
+          → g ≡ withDirectory cells′ (ends .free) grid
+          → AfterJoin f m g after b′
       unfolding gridOf joinedWith
       near-returns {ends = ends} {cells′ = cells′} {g = g} laid is-cells is-g =
           let d-slot : getD (grid .cells .slots) at noSlot ≡ slotOf (f .cell) = sym (slots-at (grid .cells) at (loose-in (midway-loose (x .midway)))) ∙ midway-slot (x .midway) in
@@ -195,13 +196,15 @@ module _ {grid : Grid} {at : ℕ} {rest : Directory} {k : ℕ} {chain : List ℕ
           let all : cells′ ≡ directoryOf (joinedWith f m .cells) =
           is-cells ∙ ap₂ (λ (l : List Slot) (s : Slot). directoryWith (l ++ (s ∷ []))) left last
           ∙ ap directoryWith (sym (map-append slotOf (take k cells ++ drop (suc k) cells) (joined f m ∷ []))) ∙ with-slots ((take k cells ++ drop (suc k) cells) ++ (joined f m ∷ []))
-          ∙ ap directoryOf (sym (cells-joined (x .midway .ready) b (x .midway .laid) m among small refl)) in
+          ∙ ap directoryOf (sym (cells-joined (x .midway .mid) b (x .midway .laid .in-grid .laid) m among small refl)) in
           record {
-            lays = record {
-              held = is-g ∙ ap₂ (λ (h : Grid) (p : Directory × ℕ). record { easts = h .easts; norths = h .norths; cells = p .0; free = p .1 }) (x .midway .held) (ap₂ (λ (d : Directory) (n : ℕ). (d, n)) all (laid .free));
-              laid = laid .laid;
+            laid = record {
+              in-grid = record {
+                grid-is = is-g ∙ ap₂ (λ (h : Grid) (p : Directory × ℕ). withDirectory (p .0) (p .1) h) (x .midway .laid .in-grid .grid-is) (ap₂ (λ (d : Directory) (n : ℕ). (d, n)) all (laid .free));
+                laid = laid .laid;
+              };
+              memo-is = noted;
             };
-            noted = noted;
           }
 
   pub near-puts : WholeDirectory rest × (k < rest .n) × (rest .n < maxCells)

@@ -4,26 +4,27 @@ use mathlib.Core.List.{List, _++_}
 use mathlib.Core.Path.{_≡_}
 use Prim.Native.Nat.{ℕ, _+_, _≤_}
 use lib.ListN.{length}
-use Rattle.terms.specs.Terms.{Place, noPage}
+use Rattle.terms.specs.Terms.{Fix, noPage}
 use Rattle.lists.specs.Chains.{firstOf}
 use Rattle.lists.specs.Rows.{Rows, merge}
-use Rattle.lists.proofs.AmongLaws.{Among}
+use Rattle.lists.specs.Among.{Among}
 use Rattle.rules.specs.Limits.{joinEntries}
 use Rattle.rules.specs.Store.{Line, Cell}
-use Rattle.rules.specs.Sweep.{sweptEntries, sweptMemo}
+use Rattle.rules.specs.Sweep.{sweptEntries}
 use Rattle.rules.specs.Flush.{Flushed, joinable, joined, joinedWith}
-use Rattle.rules.proofs.FlushLaws.{Ready}
+use Rattle.rules.specs.Midway.{MidFlush}
 use Rattle.desk.specs.declared.Slot.{Slot}
 use Rattle.desk.specs.declared.Directory.{Directory}
 use Rattle.desk.specs.declared.Grid.{Grid}
 use Rattle.desk.specs.declared.Memo.{Memo}
-use Rattle.desk.specs.Layout.{slotOf, directoryOf, memoOf, Laid}
-use Rattle.directory.proofs.DirectoryLaws.{Stands}
+use Rattle.desk.specs.Layout.{slotOf, directoryOf, Laid}
+use Rattle.desk.specs.Laid.{LaidMemo}
+use Rattle.directory.specs.Directory.{Stands}
 use Rattle.settle.specs.declared.Settled.{Settled}
-use Rattle.cell_last.specs.Loose.{Lays, Midway}
+use Rattle.cell_last.specs.Settling.{BeforeReshape}
 
 -- d and a neighbour m are to be joined: d's slot, its old pages, m's slot, its pages, and all entries that the joined cell has
-pub record Joining (free : ℕ) (d : Slot) (chain : List ℕ) (m : Slot) (other : List ℕ) (all : Rows Place) (bytes : List ℕ) : Type 0 where
+pub record BeforeJoinPages (free : ℕ) (d : Slot) (chain : List ℕ) (m : Slot) (other : List ℕ) (all : Rows Fix) (bytes : List ℕ) : Type 0 where
   pub flushed : Flushed
   pub old : Cell
   pub before : List Cell
@@ -31,7 +32,7 @@ pub record Joining (free : ℕ) (d : Slot) (chain : List ℕ) (m : Slot) (other 
   pub memo : Rows Line
   pub n : ℕ
   pub c : ℕ
-  pub ready : Ready flushed old before after memo n c
+  pub mid : MidFlush flushed old before after memo n c
   pub neighbour : Cell
   pub among : Among (before ++ after) neighbour
   pub small : length (flushed .cell .entries) + length (neighbour .entries) ≤ joinEntries
@@ -44,20 +45,19 @@ pub record Joining (free : ℕ) (d : Slot) (chain : List ℕ) (m : Slot) (other 
   pub laid : Laid (flushed .store) bytes
 
 -- the pages lay out the joined store's: where its joined cell begins, and its free chain
-pub record JoinedPages (f : Flushed) (m : Cell) (ends : Settled) (bytes : List ℕ) : Type 0 where
+pub record AfterJoinPages (f : Flushed) (m : Cell) (ends : Settled) (bytes : List ℕ) : Type 0 where
   pub first : ends .first ≡ firstOf noPage (joined f m .chain)
   pub free : ends .free ≡ firstOf noPage (joinedWith f m .free)
   pub laid : Laid (joinedWith f m) bytes
 
 -- the cell at place k of the others may be joined with d
-pub record Nearing (grid : Grid) (at : ℕ) (rest : Directory) (k : ℕ) (chain : List ℕ) (rows : Rows Place) (memo : Memo) (bytes : List ℕ) : Type 0 where
-  pub midway : Midway grid at chain rows memo bytes
+pub record BeforeJoin (grid : Grid) (at : ℕ) (rest : Directory) (k : ℕ) (chain : List ℕ) (rows : Rows Fix) (memo : Memo) (bytes : List ℕ) : Type 0 where
+  pub midway : BeforeReshape grid at chain rows memo bytes
   pub neighbour : Cell
   pub rest-is : rest ≡ directoryOf (midway .before ++ midway .after)
   pub stands : Stands rest (midway .before ++ midway .after) neighbour k
   pub near : joinable (midway .flushed .cell) neighbour ≡ true
 
 -- grid, memo and pages are those of d joined with m
-pub record Joined (f : Flushed) (m : Cell) (grid : Grid) (memo : Memo) (bytes : List ℕ) : Type 0 where
-  pub lays : Lays (joinedWith f m) grid bytes
-  pub noted : memo ≡ memoOf (sweptMemo (f .store .memo) (m .entries))
+pub record AfterJoin (f : Flushed) (m : Cell) (grid : Grid) (memo : Memo) (bytes : List ℕ) : Type 0 where
+  pub laid : LaidMemo (joinedWith f m) grid memo bytes

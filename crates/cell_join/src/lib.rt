@@ -2,7 +2,7 @@
 ghost use mathlib.Core.Path.{_≡_};
 ghost use mathlib.Core.List.{[], _∷_, _++_};
 ghost use Prim.Native.Nat.{_<_, _≤_};
-ghost use Rattle.terms.specs.Terms.{maxOn, pages};
+ghost use Rattle.terms.specs.Terms.{pages};
 ghost use Rattle.lists.specs.Parts.{removeAt};
 ghost use Rattle.entries.specs.Entries.{rowsOf};
 ghost use Rattle.page.specs.Buffer.{pagesOf};
@@ -12,7 +12,8 @@ ghost use Rattle.desk.specs.Views.{slotsIn, directoryWith};
 ghost use Rattle.directory.specs.Directory.{WholeDirectory};
 ghost use Rattle.join.specs.Join.{joinedSlot};
 ghost use Rattle.memo.specs.Memo.{memoIn};
-ghost use Rattle.cell_join.specs.Joining.{Joining, JoinedPages, Nearing, Joined};
+ghost use Rattle.cell_last.specs.Settling.{HandFits};
+ghost use Rattle.cell_join.specs.Joining.{BeforeJoinPages, AfterJoinPages, BeforeJoin, AfterJoin};
 use cell_last::Reshaped;
 use desk::Desk;
 use desk::Directory;
@@ -32,8 +33,10 @@ fn join_onto_d(
     other: Chain,
     all: Entries,
 ) -> Settled
-    requires { ⌜ (chain .n ≤ pages) × (other .n ≤ pages) × (all .n ≤ maxOn) × (d .number < m .number) × Joining free d (pagesOf chain) m (pagesOf other) (rowsOf all) (now buffer) ⌝ }
-    ensures { λ r. ⌜ ((x : Joining free d (pagesOf chain) m (pagesOf other) (rowsOf all) (now (buffer .entry))) → JoinedPages (x .flushed) (x .neighbour) r (now (buffer .exit))) ⌝ }
+    requires { ⌜ HandFits chain all × (other .n ≤ pages) × (d .number < m .number)
+        × BeforeJoinPages free d (pagesOf chain) m (pagesOf other) (rowsOf all) (now buffer) ⌝ }
+    ensures { λ r. ⌜ ((x : BeforeJoinPages free d (pagesOf chain) m (pagesOf other) (rowsOf all) (now (buffer .entry)))
+        → AfterJoinPages (x .flushed) (x .neighbour) r (now (buffer .exit))) ⌝ }
 {
     let settled = settle::settle(buffer, chain, free, d.number, all);
     let front = settle::give_up(buffer, other, settled.free, 0);
@@ -53,8 +56,10 @@ fn join_onto_m(
     other: Chain,
     all: Entries,
 ) -> Settled
-    requires { ⌜ (chain .n ≤ pages) × (other .n ≤ pages) × (all .n ≤ maxOn) × (m .number ≤ d .number) × Joining free d (pagesOf chain) m (pagesOf other) (rowsOf all) (now buffer) ⌝ }
-    ensures { λ r. ⌜ ((x : Joining free d (pagesOf chain) m (pagesOf other) (rowsOf all) (now (buffer .entry))) → JoinedPages (x .flushed) (x .neighbour) r (now (buffer .exit))) ⌝ }
+    requires { ⌜ HandFits chain all × (other .n ≤ pages) × (m .number ≤ d .number)
+        × BeforeJoinPages free d (pagesOf chain) m (pagesOf other) (rowsOf all) (now buffer) ⌝ }
+    ensures { λ r. ⌜ ((x : BeforeJoinPages free d (pagesOf chain) m (pagesOf other) (rowsOf all) (now (buffer .entry)))
+        → AfterJoinPages (x .flushed) (x .neighbour) r (now (buffer .exit))) ⌝ }
 {
     let front = settle::give_up(buffer, chain, free, 0);
     settle::settle(buffer, other, front, m.number, all)
@@ -70,8 +75,10 @@ fn join_pages(
     other: Chain,
     all: Entries,
 ) -> Settled
-    requires { ⌜ (chain .n ≤ pages) × (other .n ≤ pages) × (all .n ≤ maxOn) × Joining free d (pagesOf chain) m (pagesOf other) (rowsOf all) (now buffer) ⌝ }
-    ensures { λ r. ⌜ ((x : Joining free d (pagesOf chain) m (pagesOf other) (rowsOf all) (now (buffer .entry))) → JoinedPages (x .flushed) (x .neighbour) r (now (buffer .exit))) ⌝ }
+    requires { ⌜ HandFits chain all × (other .n ≤ pages)
+        × BeforeJoinPages free d (pagesOf chain) m (pagesOf other) (rowsOf all) (now buffer) ⌝ }
+    ensures { λ r. ⌜ ((x : BeforeJoinPages free d (pagesOf chain) m (pagesOf other) (rowsOf all) (now (buffer .entry)))
+        → AfterJoinPages (x .flushed) (x .neighbour) r (now (buffer .exit))) ⌝ }
 {
     if d.number < m.number {
         return join_onto_d(buffer, free, d, chain, m, other, all);
@@ -98,10 +105,12 @@ pub fn join(
     chain: Chain,
     table: Entries,
     words: &mut [u16; Desk::MEMO_WORDS],
-    lines: usize,
+    lines: u16,
 ) -> Reshaped
-    requires { ⌜ (chain .n ≤ pages) × (table .n ≡ length (rowsOf table)) × Nearing grid at rest k (pagesOf chain) (rowsOf table) (memoIn lines (now words)) (now buffer) ⌝ }
-    ensures { λ r. ⌜ ((x : Nearing grid at rest k (pagesOf chain) (rowsOf table) (memoIn lines (now (words .entry))) (now (buffer .entry))) → Joined (x .midway .flushed) (x .neighbour) (r .grid) (memoIn (r .lines) (now (words .exit))) (now (buffer .exit))) ⌝ }
+    requires { ⌜ (chain .n ≤ pages) × (table .n ≡ length (rowsOf table))
+        × BeforeJoin grid at rest k (pagesOf chain) (rowsOf table) (memoIn lines (now words)) (now buffer) ⌝ }
+    ensures { λ r. ⌜ ((x : BeforeJoin grid at rest k (pagesOf chain) (rowsOf table) (memoIn lines (now (words .entry))) (now (buffer .entry)))
+        → AfterJoin (x .midway .flushed) (x .neighbour) (r .grid) (memoIn (r .lines) (now (words .exit))) (now (buffer .exit))) ⌝ }
 {
     let cells = grid.cells;
     let d = cells.slots[at];

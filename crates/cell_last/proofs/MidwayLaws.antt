@@ -4,30 +4,30 @@ use mathlib.Core.Path.{_≡_, refl, sym, ap, subst, _∙_}
 use Prim.Native.Nat.{ℕ, _+_, _≤_}
 use native.Mathlib.Omega.{arith}
 use lib.ListN.{length, getD, length-append}
-use Rattle.terms.specs.Terms.{Place}
+use Rattle.terms.specs.Terms.{Fix}
 use Rattle.lists.specs.Rows.{Rows}
 use Rattle.lists.proofs.SumsLaws.{sum-middle}
 use Rattle.rules.specs.Limits.{maxCells}
 use Rattle.rules.specs.Store.{Line, Cell, Store, pagesFor, settled}
 use Rattle.rules.specs.Flush.{Flushed, grown}
-use Rattle.rules.specs.WellFormed.{chains}
-use Rattle.rules.proofs.Parts.{Paged}
-use Rattle.rules.proofs.PagedLaws.{size, needed, pages-few, room-pages}
-use Rattle.rules.proofs.FlushLaws.{Ready}
+use Rattle.rules.specs.WellFormed.{chains, PagesOnce}
+use Rattle.rules.specs.Parts.{Paged}
+use Rattle.rules.specs.Midway.{MidFlush, size}
+use Rattle.rules.proofs.PagedLaws.{needed, pages-few, room-pages}
 use Rattle.desk.specs.declared.Grid.{Grid}
 use Rattle.desk.specs.declared.Memo.{Memo}
 use Rattle.desk.specs.Layout.{noSlot, slotOf, Laid}
 use Rattle.desk.specs.Views.{slotsIn}
-use Rattle.desk.proofs.PagesLaws.{PagesOnce}
+use Rattle.desk.specs.Laid.{LaidGrid}
 use Rattle.settle.proofs.SettleLaws.{Apart, apart-cell}
-use Rattle.cell_last.specs.Loose.{Lays, Loose, movedLast, Midway}
-use Rattle.cell_last.proofs.MovedLaws.{lays-same, slot-same, loose-slot}
+use Rattle.cell_last.specs.Settling.{BeforeSettle, movedLast, BeforeReshape}
+use Rattle.cell_last.proofs.MovedLaws.{grid-same, slot-same, loose-slot}
 
 paged-once : (s : Store) → Paged (s .cells) (s .free) → PagesOnce s
 unfolding chains
 paged-once s p = p .once
 
-module _ {f : Flushed} {d₀ : Cell} {before after : List Cell} {old : Rows Line} {n c : ℕ} (r : Ready f d₀ before after old n c) (b : List ℕ) (l : Laid (f .store) b) where
+module _ {f : Flushed} {d₀ : Cell} {before after : List Cell} {old : Rows Line} {n c : ℕ} (r : MidFlush f d₀ before after old n c) (b : List ℕ) (l : Laid (f .store) b) where
   pub store-once : PagesOnce (f .store)
   store-once = paged-once (f .store) (subst (λ (cs : List Cell). Paged cs (f .store .free)) (sym (r .cells)) (r .paged))
 
@@ -47,7 +47,7 @@ module _ {f : Flushed} {d₀ : Cell} {before after : List Cell} {old : Rows Line
         ap (λ (x : List ℕ). length x) (r .chain),
       )
 
-module _ {grid : Grid} {at : ℕ} {chain : List ℕ} {rows : Rows Place} {memo : Memo} {b : List ℕ} (x : Midway grid at chain rows memo b) where
+module _ {grid : Grid} {at : ℕ} {chain : List ℕ} {rows : Rows Fix} {memo : Memo} {b : List ℕ} (x : BeforeReshape grid at chain rows memo b) where
   abbrev f : Flushed
   f = x .flushed
 
@@ -58,31 +58,30 @@ module _ {grid : Grid} {at : ℕ} {chain : List ℕ} {rows : Rows Place} {memo :
   rest = x .before ++ x .after
 
   -- d is a cell whose entries are at hand
-  abbrev pub midway-loose : Loose grid at chain rows b
+  abbrev pub midway-loose : BeforeSettle grid at chain rows b
   midway-loose = record {
     store = f .store;
     before = x .before;
     old = x .d;
     after = x .after;
     cell = f .cell;
-    cells = x .ready .cells;
-    few = subst (λ (l : List Cell). length l ≤ maxCells) (sym (x .ready .cells)) (x .ready .tiled .few-cells);
-    number = x .ready .number;
-    edges = x .ready .edges;
-    chain-kept = x .ready .chain;
-    once = store-once (x .ready) b (x .laid);
-    room = d-room (x .ready) b (x .laid);
+    cells = x .mid .cells;
+    few = subst (λ (l : List Cell). length l ≤ maxCells) (sym (x .mid .cells)) (x .mid .tiled .few-cells);
+    number = x .mid .number;
+    edges = x .mid .edges;
+    chain-kept = x .mid .chain;
+    once = store-once (x .mid) b (x .laid .in-grid .laid);
+    room = d-room (x .mid) b (x .laid .in-grid .laid);
     place = x .place;
-    held = x .held;
     chained = x .chained;
     entered = x .entered;
-    laid = x .laid;
+    laid = x .laid .in-grid;
   }
 
   -- d's slot, which has its number, its edges and its first page still
   pub midway-slot : getD (slotsIn (grid .cells)) at noSlot ≡ slotOf (f .cell)
-  midway-slot = loose-slot midway-loose ∙ sym (slot-same (f .cell) (x .d) (x .ready .number) (x .ready .edges) (x .ready .chain))
+  midway-slot = loose-slot midway-loose ∙ sym (slot-same (f .cell) (x .d) (x .mid .number) (x .mid .edges) (x .mid .chain))
 
-  pub grown-lays : {g : Grid} {b′ : List ℕ} → Lays (movedLast (f .store) rest (f .cell)) g b′ → Lays (grown f) g b′
+  pub grown-laid : {g : Grid} {b′ : List ℕ} → LaidGrid (movedLast (f .store) rest (f .cell)) g b′ → LaidGrid (grown f) g b′
   unfolding grown movedLast
-  grown-lays l = lays-same _ _ refl (ap (λ (cs : List Cell). cs ++ (settled free (f .cell) ∷ [])) (sym (x .ready .rest))) refl l
+  grown-laid l = grid-same _ _ refl (ap (λ (cs : List Cell). cs ++ (settled free (f .cell) ∷ [])) (sym (x .mid .rest))) refl l

@@ -1,11 +1,11 @@
 // A cell goes to the end of the round, with the pages that its entries need.
 ghost use mathlib.Core.Path.{_≡_};
 ghost use mathlib.Core.List.{_++_};
-ghost use Prim.Native.Nat.{_≤_};
-ghost use Rattle.terms.specs.Terms.{maxOn, pages};
 ghost use Rattle.entries.specs.Entries.{rowsOf};
 ghost use Rattle.page.specs.Buffer.{pagesOf};
-ghost use Rattle.cell_last.specs.Loose.{Loose, movedLast, Lays};
+ghost use Rattle.desk.specs.Laid.{LaidGrid};
+ghost use Rattle.cell_last.specs.Grids.{withDirectory};
+ghost use Rattle.cell_last.specs.Settling.{HandFits, BeforeSettle, movedLast};
 use desk::Directory;
 use desk::Grid;
 use desk::Slot;
@@ -15,7 +15,7 @@ use page::Chain;
 // The grid once d is settled, split or joined, and how many lines the memo then has.
 pub struct Reshaped {
     pub grid: Grid,
-    pub lines: usize,
+    pub lines: u16,
 }
 
 // The slot with another first page.
@@ -29,7 +29,7 @@ fn begun_at(d: Slot, first: u16) -> Slot
 
 // The grid with another directory and another front of the free chain.
 pub fn with_cells(grid: Grid, cells: Directory, free: u16) -> Grid
-    ensures { λ r. ⌜ r ≡ record { easts = grid .easts; norths = grid .norths; cells = cells; free = free } ⌝ }
+    ensures { λ r. ⌜ r ≡ withDirectory cells free grid ⌝ }
 {
     let mut g = grid;
     g.cells = cells;
@@ -39,8 +39,9 @@ pub fn with_cells(grid: Grid, cells: Directory, free: u16) -> Grid
 
 // The cell at place `at` with these entries: on the pages that they need, and last in the round.
 pub fn settled_last(buffer: &mut [u8], grid: Grid, at: usize, chain: Chain, table: Entries) -> Grid
-    requires { ⌜ (chain .n ≤ pages) × (table .n ≤ maxOn) × Loose grid at (pagesOf chain) (rowsOf table) (now buffer) ⌝ }
-    ensures { λ r. ⌜ ((x : Loose grid at (pagesOf chain) (rowsOf table) (now (buffer .entry))) → Lays (movedLast (x .store) (x .before ++ x .after) (x .cell)) r (now (buffer .exit))) ⌝ }
+    requires { ⌜ HandFits chain table × BeforeSettle grid at (pagesOf chain) (rowsOf table) (now buffer) ⌝ }
+    ensures { λ r. ⌜ ((x : BeforeSettle grid at (pagesOf chain) (rowsOf table) (now (buffer .entry)))
+        → LaidGrid (movedLast (x .store) (x .before ++ x .after) (x .cell)) r (now (buffer .exit))) ⌝ }
 {
     let cells = grid.cells;
     let d = cells.slots[at];

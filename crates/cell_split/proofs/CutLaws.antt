@@ -5,8 +5,8 @@ use borrow.Author.Tests.{eq-eqb, ne-eqb}
 use Rattle.rules.specs.Flush.{addCut}
 use Rattle.desk.specs.declared.Grid.{Grid}
 use Rattle.desk.specs.Layout.{cutListOf}
-use Rattle.desk.specs.Views.{cutsIn}
-use Rattle.cut.specs.Choice.{axisOf, cutAt}
+use Rattle.desk.specs.Views.{cutsIn, axisOf}
+use Rattle.cut.specs.Choice.{cutAt}
 use Rattle.directory.specs.Cuts.{CutReady}
 use Rattle.cell_split.specs.Splitting.{Cuttable, cutGrid}
 

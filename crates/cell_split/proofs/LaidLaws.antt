@@ -6,18 +6,17 @@ use native.Mathlib.Omega.{arith}
 use lib.ListN.{length, length-append}
 use Rattle.lists.specs.Rows.{Rows}
 use Rattle.rules.specs.Limits.{maxCells}
-use Rattle.rules.specs.Store.{Line, Cell, Store, settled, freeAfter}
+use Rattle.rules.specs.Store.{Line, Cell, Store, withCells, withFree, settled, freeAfter}
 use Rattle.rules.specs.Cut.{Cut}
 use Rattle.rules.specs.Flush.{Flushed, lowCell, highCell}
+use Rattle.rules.specs.Midway.{MidFlush}
 use Rattle.rules.proofs.PagedLaws.{needed, pages-few-split, room-pages, length-freeAfter, size-split}
-use Rattle.rules.proofs.FlushLaws.{Ready}
 use Rattle.desk.specs.Layout.{Laid}
 use Rattle.settle.specs.Settle.{written, settledLeaves}
 use Rattle.settle.proofs.SettleLaws.{Apart, apart-cell, apart-new, settled-laid, settled-once}
-use Rattle.cell_last.specs.Loose.{onPages}
 use Rattle.cell_last.proofs.MidwayLaws.{store-once}
 
-module _ {f : Flushed} {d₀ : Cell} {before after : List Cell} {old : Rows Line} {n c : ℕ} (r : Ready f d₀ before after old n c) (b : List ℕ) (l : Laid (f .store) b) where
+module _ {f : Flushed} {d₀ : Cell} {before after : List Cell} {old : Rows Line} {n c : ℕ} (r : MidFlush f d₀ before after old n c) (b : List ℕ) (l : Laid (f .store) b) where
   module _ (cut : Cut) (number : ℕ) (few : length (before ++ (d₀ ∷ after)) < maxCells) where
     abbrev low : Cell
     low = lowCell cut (f .cell)
@@ -45,7 +44,7 @@ module _ {f : Flushed} {d₀ : Cell} {before after : List Cell} {old : Rows Line
 
     -- the low side keeps d's chain and is settled first
     abbrev midway : Store
-    midway = onPages ((before ++ after) ++ (settled (f .store .free) low ∷ [])) (freeAfter (f .store .free) low) (f .store)
+    midway = withCells ((before ++ after) ++ (settled (f .store .free) low ∷ [])) (withFree (freeAfter (f .store .free) low) (f .store))
 
     abbrev bytesLow : List ℕ
     bytesLow = written b (settledLeaves (low .number) (low .chain) (f .store .free) (low .entries))

@@ -7,21 +7,20 @@ use native.Mathlib.Omega.{arith}
 use lib.Dec.{eqb}
 use lib.ListN.{length, getD}
 use borrow.Author.Tests.{ne-eqb}
-use Rattle.terms.specs.Terms.{Place, pages, noPage}
+use Rattle.terms.specs.Terms.{Fix, pages, noPage}
 use Rattle.lists.specs.Chains.{firstOf}
 use Rattle.lists.specs.Parts.{removeAt}
 use Rattle.lists.specs.Rows.{Rows}
 use Rattle.lists.specs.Sums.{filter}
 use Rattle.lists.specs.Tests.{Each}
 use Rattle.lists.proofs.Cases.{by-cases}
-use Rattle.page.specs.Buffer.{bufferBytes, chainFrom, endFrom}
-use Rattle.page.specs.declared.ChainEnd.the-variants.{Ended}
+use Rattle.page.specs.Buffer.{bufferBytes, chainFrom, atNone, endFrom}
 use Rattle.rules.specs.Limits.{maxCells}
-use Rattle.rules.specs.Grid.{Axis, eastward, northward, cutsOf, withCuts}
+use Rattle.rules.specs.Grid.{Axis, eastward, northward, cutsOf, withCutsOf}
 use Rattle.rules.specs.Store.{Cell, pagesFor, settled, freeAfter}
 use Rattle.rules.specs.Cut.{Cut, lowSide}
 use Rattle.rules.specs.Flush.{Flushed, addCut, unusedNumber, lowCell, highCell, splitAt}
-use Rattle.rules.proofs.Parts.{Tiling}
+use Rattle.rules.specs.Parts.{Tiling}
 use Rattle.rules.proofs.TilingLaws.{GoodCut}
 use Rattle.rules.proofs.CutLaws.{chosen-good}
 use Rattle.desk.specs.declared.CutList.{CutList}
@@ -29,9 +28,10 @@ use Rattle.desk.specs.declared.Slot.{Slot}
 use Rattle.desk.specs.declared.Directory.{Directory}
 use Rattle.desk.specs.declared.Grid.{Grid}
 use Rattle.desk.specs.Layout.{noSlot, cutListOf, slotOf, directoryOf, gridOf}
-use Rattle.desk.specs.Views.{slotsIn, directoryWith}
-use Rattle.boxes.proofs.BoxLaws.{cuts-laid}
-use Rattle.cut.specs.Choice.{axisOf, cutAt}
+use Rattle.desk.specs.Views.{slotsIn, directoryWith, axisOf}
+use Rattle.desk.proofs.UniqueLaws.{cuts-laid}
+use Rattle.cut.specs.Choice.{cutAt}
+use Rattle.desk.specs.Laid.{LaidGrid}
 use Rattle.directory.specs.Cuts.{CutReady}
 use Rattle.directory.specs.Directory.{WholeDirectory, Numbered, unusedOf}
 use Rattle.directory.proofs.CellLaws.{slots-at}
@@ -41,13 +41,13 @@ use Rattle.settle.specs.Settle.{written, settledLeaves, settledEnds}
 use Rattle.split.specs.Split.{lowSlot, highSlot}
 use Rattle.split.proofs.SplitLaws.{low-slot-settled, high-slot-settled}
 use Rattle.cell_split.specs.declared.Sides.{Sides}
-use Rattle.cell_split.specs.Splitting.{Splitting, SidesLaid, Cuttable, cutGrid}
-use Rattle.cell_last.specs.Loose.{Lays}
+use Rattle.cell_split.specs.Splitting.{BeforeSplit, AfterSides, Cuttable, cutGrid}
+use Rattle.cell_last.specs.Grids.{withDirectory}
 use Rattle.cell_last.proofs.MovedLaws.{with-slots, rest-slots, loose-in, loose-in-slots, loose-slot}
 use Rattle.cell_last.proofs.MidwayLaws.{midway-loose, midway-slot}
 use Rattle.cell_split.proofs.SplitLaws.{low-asks, low-size, high-asks, sides-laid, sides-end}
 
-module _ {grid : Grid} {at : ℕ} {chain : List ℕ} {rows : Rows Place} {axis at-cut : ℕ} {b : List ℕ} (x : Splitting grid at chain rows axis at-cut b) where
+module _ {grid : Grid} {at : ℕ} {chain : List ℕ} {rows : Rows Fix} {axis at-cut : ℕ} {b : List ℕ} (x : BeforeSplit grid at chain rows axis at-cut b) where
   abbrev f : Flushed
   f = x .midway .flushed
 
@@ -58,38 +58,39 @@ module _ {grid : Grid} {at : ℕ} {chain : List ℕ} {rows : Rows Place} {axis a
   number = unusedNumber (f .store .cells)
 
   few : length (x .midway .before ++ (x .midway .d ∷ x .midway .after)) < maxCells
-  few = subst (λ (l : List Cell). length l < maxCells) (x .midway .ready .cells) (x .few)
+  few = subst (λ (l : List Cell). length l < maxCells) (x .midway .mid .cells) (x .few)
 
   pub split-in-slots : at < maxCells
   split-in-slots = loose-in-slots (midway-loose (x .midway))
 
   pub number-is : {n : ℕ} → n ≡ unusedOf (slotsIn (grid .cells)) → n ≡ number
   unfolding gridOf
-  number-is e = e ∙ unused-laid (f .store .cells) (ap (λ (g : Grid). g .cells) (x .midway .held))
+  number-is e = e ∙ unused-laid (f .store .cells) (ap (λ (g : Grid). g .cells) (x .midway .laid .in-grid .grid-is))
 
   d-number : getD (grid .cells .slots) at noSlot .number ≡ x .midway .d .number
   d-number =
       ap (λ (s : Slot). s .number) (sym (slots-at (grid .cells) at (loose-in (midway-loose (x .midway)))) ∙ loose-slot (midway-loose (x .midway)))
 
   -- the low side
-  pub low-settles : (part : Rows Place) → part ≡ filter (lowSide cut) rows
-      → Each (λ p. p < pages) chain × (endFrom pages b (grid .free) ≡ Ended) × (pagesFor (length part) ≤ length chain + length (chainFrom pages b (grid .free)))
+  pub low-settles : (part : Rows Fix) → part ≡ filter (lowSide cut) rows
+      → Each (λ p. p < pages) chain × (endFrom pages b (grid .free) ≡ atNone)
+      × (pagesFor (length part) ≤ length chain + length (chainFrom pages b (grid .free)))
   low-settles part e = low-asks (x .midway) cut number few e
 
-  module _ (part : Rows Place) (is-low : part ≡ filter (lowSide cut) rows) {b₁ : List ℕ} {e₁ : Settled}
+  module _ (part : Rows Fix) (is-low : part ≡ filter (lowSide cut) rows) {b₁ : List ℕ} {e₁ : Settled}
       (wrote : b₁ ≡ written b (settledLeaves (getD (grid .cells .slots) at noSlot .number) chain (chainFrom pages b (grid .free)) part))
       (ends : e₁ ≡ settledEnds chain (chainFrom pages b (grid .free)) part) where
     -- the other side
-    pub high-settles : (none : List ℕ) (part′ : Rows Place) → none ≡ [] → part′ ≡ filter (λ e. not (lowSide cut e)) rows
-        → Each (λ p. p < pages) none × (endFrom pages b₁ (e₁ .free) ≡ Ended) × (pagesFor (length part′) ≤ length none + length (chainFrom pages b₁ (e₁ .free)))
+    pub high-settles : (none : List ℕ) (part′ : Rows Fix) → none ≡ [] → part′ ≡ filter (λ e. not (lowSide cut e)) rows
+        → Each (λ p. p < pages) none × (endFrom pages b₁ (e₁ .free) ≡ atNone) × (pagesFor (length part′) ≤ length none + length (chainFrom pages b₁ (e₁ .free)))
     high-settles none part′ n e = high-asks (x .midway) cut number few is-low d-number wrote ends n e
 
     pub high-size : length b₁ ≡ bufferBytes
     high-size = low-size (x .midway) cut number few is-low d-number wrote ends
 
-    pub sides-return : (none : List ℕ) (part′ : Rows Place) {n : ℕ} {b₂ : List ℕ} {e₂ : Settled} → n ≡ unusedOf (slotsIn (grid .cells)) → none ≡ [] → part′ ≡ filter (λ e. not (lowSide cut e)) rows
+    pub sides-return : (none : List ℕ) (part′ : Rows Fix) {n : ℕ} {b₂ : List ℕ} {e₂ : Settled} → n ≡ unusedOf (slotsIn (grid .cells)) → none ≡ [] → part′ ≡ filter (λ e. not (lowSide cut e)) rows
         → b₂ ≡ written b₁ (settledLeaves n none (chainFrom pages b₁ (e₁ .free)) part′) → e₂ ≡ settledEnds none (chainFrom pages b₁ (e₁ .free)) part′
-        → SidesLaid f cut (record { low = e₁ .first; high = e₂ .first; free = e₂ .free }) b₂
+        → AfterSides f cut (record { low = e₁ .first; high = e₂ .first; free = e₂ .free }) b₂
     unfolding splitAt
     sides-return none part′ {b₂ = b₂} {e₂ = e₂} is-n is-none is-high wrote-high ends-high =
         let w : b₂ ≡ written b₁ (settledLeaves number none (chainFrom pages b₁ (e₁ .free)) part′) = wrote-high ∙ ap (λ (k : ℕ). written b₁ (settledLeaves k none (chainFrom pages b₁ (e₁ .free)) part′)) (number-is is-n) in
@@ -100,21 +101,21 @@ module _ {grid : Grid} {at : ℕ} {chain : List ℕ} {rows : Rows Place} {axis a
           free = q .2;
           laid =
               sides-laid (x .midway) cut number few is-low d-number wrote ends is-none is-high w ends-high (splitAt cut f)
-              (ap (λ (l : List Cell). l ++ (settled (f .store .free) (lowCell cut (f .cell)) ∷ settled (freeAfter (f .store .free) (lowCell cut (f .cell))) (highCell cut number (f .cell)) ∷ [])) (x .midway .ready .rest))
+              (ap (λ (l : List Cell). l ++ (settled (f .store .free) (lowCell cut (f .cell)) ∷ settled (freeAfter (f .store .free) (lowCell cut (f .cell))) (highCell cut number (f .cell)) ∷ [])) (x .midway .mid .rest))
               refl;
         }
 
   -- ---- the whole split
 
   tiling : Tiling (f .store .cuts) (f .store .cells)
-  tiling = subst (Tiling (f .store .cuts)) (sym (x .midway .ready .cells)) (x .midway .ready .tiled)
+  tiling = subst (Tiling (f .store .cuts)) (sym (x .midway .mid .cells)) (x .midway .mid .tiled)
 
   good : GoodCut (f .store .cuts) (f .cell .edges) cut
-  good = chosen-good (f .store .cuts) (f .cell .edges) (f .cell .entries) cut (x .midway .ready .books .cells-rowed .0 .placed) (x .chosen)
+  good = chosen-good (f .store .cuts) (f .cell .edges) (f .cell .entries) cut (x .midway .mid .books .cells-rowed .0 .placed) (x .chosen)
 
   cells-held : grid .cells ≡ directoryOf (f .store .cells)
   unfolding gridOf
-  cells-held = ap (λ (g : Grid). g .cells) (x .midway .held)
+  cells-held = ap (λ (g : Grid). g .cells) (x .midway .laid .in-grid .grid-is)
 
   pub split-numbers : (grid .cells .n ≤ maxCells) × Numbered (slotsIn (grid .cells))
   split-numbers = (directory-few (f .store .cells) cells-held (omega (arith, x .few)), directory-numbered (f .store .cells) cells-held tiling)
@@ -130,14 +131,14 @@ module _ {grid : Grid} {at : ℕ} {chain : List ℕ} {rows : Rows Place} {axis a
   split-asks =
       (directory-whole (f .store .cells) cells-held, loose-in (midway-loose (x .midway)), omega (arith, directory-count (f .store .cells) cells-held, x .few), above)
 
-  module _ {cells : Directory} {free : ℕ} {moved : Grid} (is-moved : moved ≡ record { easts = grid .easts; norths = grid .norths; cells = cells; free = free }) where
+  module _ {cells : Directory} {free : ℕ} {moved : Grid} (is-moved : moved ≡ withDirectory cells free grid) where
     easts-held : moved .easts ≡ cutListOf (f .store .cuts .easts)
     unfolding gridOf
-    easts-held = ap (λ (g : Grid). g .easts) is-moved ∙ ap (λ (g : Grid). g .easts) (x .midway .held)
+    easts-held = ap (λ (g : Grid). g .easts) is-moved ∙ ap (λ (g : Grid). g .easts) (x .midway .laid .in-grid .grid-is)
 
     norths-held : moved .norths ≡ cutListOf (f .store .cuts .norths)
     unfolding gridOf
-    norths-held = ap (λ (g : Grid). g .norths) is-moved ∙ ap (λ (g : Grid). g .norths) (x .midway .held)
+    norths-held = ap (λ (g : Grid). g .norths) is-moved ∙ ap (λ (g : Grid). g .norths) (x .midway .laid .in-grid .grid-is)
 
     pub split-cuts : Cuttable moved axis at-cut
     unfolding axisOf
@@ -146,7 +147,7 @@ module _ {grid : Grid} {at : ℕ} {chain : List ℕ} {rows : Rows Place} {axis a
       north = λ e. cuts-held axis refl (norths-held ∙ ap (λ (t : Bool). cutListOf (cutsOf (cond t eastward northward) (f .store .cuts))) (sym (ne-eqb axis 0 e)));
     }
 
-    cut-by : (a : Axis) → cutGrid moved (record { axis = a; at = at-cut }) ≡ record { easts = cutListOf (withCuts a (addCut at-cut (cutsOf a (f .store .cuts))) (f .store .cuts) .easts); norths = cutListOf (withCuts a (addCut at-cut (cutsOf a (f .store .cuts))) (f .store .cuts) .norths); cells = moved .cells; free = moved .free }
+    cut-by : (a : Axis) → cutGrid moved (record { axis = a; at = at-cut }) ≡ record { easts = cutListOf (withCutsOf a (addCut at-cut (cutsOf a (f .store .cuts))) (f .store .cuts) .easts); norths = cutListOf (withCutsOf a (addCut at-cut (cutsOf a (f .store .cuts))) (f .store .cuts) .norths); cells = moved .cells; free = moved .free }
     unfolding cutGrid
     cut-by eastward = ap₂ (λ (l m : CutList). record { easts = l; norths = m; cells = moved .cells; free = moved .free }) (ap (λ (l : List ℕ). cutListOf (addCut at-cut l)) (cuts-laid easts-held)) norths-held
     cut-by northward = ap₂ (λ (l m : CutList). record { easts = l; norths = m; cells = moved .cells; free = moved .free }) easts-held (ap (λ (l : List ℕ). cutListOf (addCut at-cut l)) (cuts-laid norths-held))
@@ -165,26 +166,26 @@ module _ {grid : Grid} {at : ℕ} {chain : List ℕ} {rows : Rows Place} {axis a
         ap₂ (λ (s : Slot) (p : ℕ × ℕ). highSlot cut s (p .0) (p .1)) (midway-slot (x .midway)) (ap₂ (λ (a b : ℕ). (a, b)) (number-is e) g)
         ∙ high-slot-settled cut (f .cell) number (freeAfter (f .store .free) (lowCell cut (f .cell)))
 
-    pub split-lays : {n : ℕ} (sides : Sides) {b′ : List ℕ} {r : Grid} → n ≡ unusedOf (slotsIn (grid .cells)) → SidesLaid f cut sides b′
+    pub split-laid : {n : ℕ} (sides : Sides) {b′ : List ℕ} {r : Grid} → n ≡ unusedOf (slotsIn (grid .cells)) → AfterSides f cut sides b′
         → cells ≡ directoryWith ((removeAt (slotsIn (grid .cells)) at ++ (lowSlot cut (getD (slotsIn (grid .cells)) at noSlot) (sides .low) ∷ [])) ++ (highSlot cut (getD (slotsIn (grid .cells)) at noSlot) n (sides .high) ∷ []))
-        → free ≡ sides .free → r ≡ cutGrid moved cut → Lays (splitAt cut f) r b′
+        → free ≡ sides .free → r ≡ cutGrid moved cut → LaidGrid (splitAt cut f) r b′
     unfolding gridOf splitAt
-    split-lays sides is-n laid is-cells is-free is-r =
+    split-laid sides is-n laid is-cells is-free is-r =
         let rest : List Cell = x .midway .before ++ x .midway .after in
         let slots : cells ≡ directoryWith ((map slotOf rest ++ (slotOf low ∷ [])) ++ (slotOf high ∷ [])) =
         is-cells ∙ ap₂ (λ (l : List Slot) (p : Slot × Slot). directoryWith ((l ++ (p .0 ∷ [])) ++ (p .1 ∷ []))) (rest-slots (midway-loose (x .midway))) (ap₂ (λ (s t : Slot). (s, t)) (low-slot (laid .low)) (high-slot is-n (laid .high))) in
         let all : cells ≡ directoryOf (rest ++ (low ∷ high ∷ [])) =
         slots ∙ ap directoryWith (append-assoc (map slotOf rest) (slotOf low ∷ []) (slotOf high ∷ []) ∙ sym (map-append slotOf rest (low ∷ high ∷ []))) ∙ with-slots (rest ++ (low ∷ high ∷ [])) in
         record {
-          held =
+          grid-is =
               is-r ∙ cut-by (axisOf axis)
               ∙ ap₂ (λ (d : Directory) (k : ℕ). record {
-                easts = cutListOf (withCuts (axisOf axis) (addCut at-cut (cutsOf (axisOf axis) (f .store .cuts))) (f .store .cuts) .easts);
-                norths = cutListOf (withCuts (axisOf axis) (addCut at-cut (cutsOf (axisOf axis) (f .store .cuts))) (f .store .cuts) .norths);
+                easts = cutListOf (withCutsOf (axisOf axis) (addCut at-cut (cutsOf (axisOf axis) (f .store .cuts))) (f .store .cuts) .easts);
+                norths = cutListOf (withCutsOf (axisOf axis) (addCut at-cut (cutsOf (axisOf axis) (f .store .cuts))) (f .store .cuts) .norths);
                 cells = d;
                 free = k;
               })
-              (ap (λ (g : Grid). g .cells) is-moved ∙ all ∙ ap (λ (l : List Cell). directoryOf (l ++ (low ∷ high ∷ []))) (sym (x .midway .ready .rest)))
+              (ap (λ (g : Grid). g .cells) is-moved ∙ all ∙ ap (λ (l : List Cell). directoryOf (l ++ (low ∷ high ∷ []))) (sym (x .midway .mid .rest)))
               (ap (λ (g : Grid). g .free) is-moved ∙ is-free ∙ laid .free);
           laid = laid .laid;
         }

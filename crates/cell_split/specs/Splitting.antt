@@ -5,7 +5,7 @@ use mathlib.Core.Option.{some}
 use mathlib.Core.Path.{_≡_}
 use Prim.Native.Nat.{ℕ, _<_}
 use lib.ListN.{length}
-use Rattle.terms.specs.Terms.{Place, noPage}
+use Rattle.terms.specs.Terms.{Fix, noPage}
 use Rattle.lists.specs.Chains.{firstOf}
 use Rattle.lists.specs.Rows.{Rows}
 use Rattle.rules.specs.Limits.{maxCells}
@@ -19,7 +19,8 @@ use Rattle.desk.specs.Layout.{cutListOf, Laid}
 use Rattle.desk.specs.Views.{cutsIn}
 use Rattle.cut.specs.Choice.{cutAt}
 use Rattle.directory.specs.Cuts.{CutReady}
-use Rattle.cell_last.specs.Loose.{Midway}
+use Rattle.cell_last.specs.Grids.{withEasts, withNorths}
+use Rattle.cell_last.specs.Settling.{BeforeReshape}
 use Rattle.cell_split.specs.declared.Sides.{Sides}
 
 abbrev isEast : Axis → Bool
@@ -33,22 +34,19 @@ pub record Cuttable (grid : Grid) (axis cut : ℕ) : Type 0 where
 
 -- the grid with the cut among those of its direction
 unfoldable pub cutGrid : Grid → Cut → Grid
-cutGrid g c = record {
-  easts = cond (isEast (c .axis)) (cutListOf (addCut (c .at) (cutsIn (g .easts)))) (g .easts);
-  norths = cond (isEast (c .axis)) (g .norths) (cutListOf (addCut (c .at) (cutsIn (g .norths))));
-  cells = g .cells;
-  free = g .free;
-}
+cutGrid g c =
+    withEasts (cond (isEast (c .axis)) (cutListOf (addCut (c .at) (cutsIn (g .easts)))) (g .easts))
+    (withNorths (cond (isEast (c .axis)) (g .norths) (cutListOf (addCut (c .at) (cutsIn (g .norths))))) g)
 
 -- d is to be split at the cut that the rules choose
-pub record Splitting (grid : Grid) (at : ℕ) (chain : List ℕ) (rows : Rows Place) (axis cut : ℕ) (bytes : List ℕ) : Type 0 where
+pub record BeforeSplit (grid : Grid) (at : ℕ) (chain : List ℕ) (rows : Rows Fix) (axis cut : ℕ) (bytes : List ℕ) : Type 0 where
   pub memo : Memo
-  pub midway : Midway grid at chain rows memo bytes
+  pub midway : BeforeReshape grid at chain rows memo bytes
   pub few : length (midway .flushed .store .cells) < maxCells
   pub chosen : chosenCut (midway .flushed .store .cuts) (midway .flushed .cell .edges) (midway .flushed .cell .entries) ≡ some (cutAt axis cut)
 
 -- the pages lay out the split store's: where its two sides begin, and its free chain
-pub record SidesLaid (f : Flushed) (cut : Cut) (sides : Sides) (bytes : List ℕ) : Type 0 where
+pub record AfterSides (f : Flushed) (cut : Cut) (sides : Sides) (bytes : List ℕ) : Type 0 where
   pub low : sides .low ≡ firstOf noPage (settled (f .store .free) (lowCell cut (f .cell)) .chain)
   pub high :
       sides .high

@@ -2,7 +2,6 @@
 ghost use mathlib.Core.Path.{_≡_};
 ghost use mathlib.Core.List.{[], _∷_, _++_};
 ghost use Prim.Native.Nat.{_<_, _≤_};
-ghost use Rattle.terms.specs.Terms.{maxOn, pages};
 ghost use Rattle.lists.specs.Parts.{removeAt};
 ghost use Rattle.entries.specs.Entries.{rowsOf};
 ghost use Rattle.page.specs.Buffer.{pagesOf};
@@ -11,18 +10,21 @@ ghost use lib.ListN.{getD};
 ghost use Rattle.rules.specs.Flush.{addCut, splitAt};
 ghost use Rattle.desk.specs.Layout.{noSlot, cutListOf};
 ghost use Rattle.desk.specs.Views.{cutsIn, slotsIn, directoryWith};
+ghost use Rattle.desk.specs.Laid.{LaidGrid};
 ghost use Rattle.directory.specs.Directory.{WholeDirectory, unusedOf};
 ghost use Rattle.split.specs.Split.{lowSlot, highSlot};
 ghost use Rattle.cut.specs.Choice.{cutAt};
 ghost use Rattle.directory.specs.Cuts.{CutReady};
-ghost use Rattle.cell_last.specs.Loose.{Lays};
-ghost use Rattle.cell_split.specs.Splitting.{Cuttable, cutGrid, Splitting, SidesLaid};
-use cut::EAST;
+ghost use Rattle.cell_split.specs.Splitting.{Cuttable, cutGrid, BeforeSplit, AfterSides};
+use desk::EAST;
+ghost use Rattle.cell_last.specs.Grids.{withEasts, withNorths};
+ghost use Rattle.cell_last.specs.Settling.{HandFits};
 use desk::Directory;
 use desk::Grid;
 use entries::Entries;
 use page::Chain;
 use page::ChainEnd;
+use terms::PAGES;
 
 // The directory with d's two sides in its place: the low side last but one, the other last.
 fn split_cells(
@@ -35,7 +37,9 @@ fn split_cells(
     high_first: u16,
 ) -> Directory
     requires { ⌜ WholeDirectory cells × (at < cells .n) × (cells .n < maxCells) × (1 ≤ cut) ⌝ }
-    ensures { λ r. ⌜ r ≡ directoryWith ((removeAt (slotsIn cells) at ++ (lowSlot (cutAt axis cut) (getD (slotsIn cells) at noSlot) «low_first» ∷ [])) ++ (highSlot (cutAt axis cut) (getD (slotsIn cells) at noSlot) number «high_first» ∷ [])) ⌝ }
+    ensures { λ r. ⌜ r ≡ directoryWith (
+        (removeAt (slotsIn cells) at ++ (lowSlot (cutAt axis cut) (getD (slotsIn cells) at noSlot) «low_first» ∷ []))
+        ++ (highSlot (cutAt axis cut) (getD (slotsIn cells) at noSlot) number «high_first» ∷ [])) ⌝ }
 {
     let d = cells.slots[at];
     let rest = directory::taken_out(cells, at);
@@ -46,7 +50,7 @@ fn split_cells(
 // The grid with the cut among those of its direction: east's.
 fn cut_east(grid: Grid, cut: u16) -> Grid
     requires { ⌜ CutReady (grid .easts) cut ⌝ }
-    ensures { λ r. ⌜ r ≡ record { easts = cutListOf (addCut cut (cutsIn (grid .easts))); norths = grid .norths; cells = grid .cells; free = grid .free } ⌝ }
+    ensures { λ r. ⌜ r ≡ withEasts (cutListOf (addCut cut (cutsIn (grid .easts)))) grid ⌝ }
 {
     let easts = grid.easts;
     let mut g = grid;
@@ -57,7 +61,7 @@ fn cut_east(grid: Grid, cut: u16) -> Grid
 // North's.
 fn cut_north(grid: Grid, cut: u16) -> Grid
     requires { ⌜ CutReady (grid .norths) cut ⌝ }
-    ensures { λ r. ⌜ r ≡ record { easts = grid .easts; norths = cutListOf (addCut cut (cutsIn (grid .norths))); cells = grid .cells; free = grid .free } ⌝ }
+    ensures { λ r. ⌜ r ≡ withNorths (cutListOf (addCut cut (cutsIn (grid .norths)))) grid ⌝ }
 {
     let norths = grid.norths;
     let mut g = grid;
@@ -94,8 +98,10 @@ fn settle_sides(
     cut: u16,
     number: u16,
 ) -> Sides
-    requires { ⌜ (chain .n ≤ pages) × (table .n ≤ maxOn) × (number ≡ unusedOf (slotsIn (grid .cells))) × Splitting grid at (pagesOf chain) (rowsOf table) axis cut (now buffer) ⌝ }
-    ensures { λ r. ⌜ ((x : Splitting grid at (pagesOf chain) (rowsOf table) axis cut (now (buffer .entry))) → SidesLaid (x .midway .flushed) (cutAt axis cut) r (now (buffer .exit))) ⌝ }
+    requires { ⌜ HandFits chain table × (number ≡ unusedOf (slotsIn (grid .cells)))
+        × BeforeSplit grid at (pagesOf chain) (rowsOf table) axis cut (now buffer) ⌝ }
+    ensures { λ r. ⌜ ((x : BeforeSplit grid at (pagesOf chain) (rowsOf table) axis cut (now (buffer .entry)))
+        → AfterSides (x .midway .flushed) (cutAt axis cut) r (now (buffer .exit))) ⌝ }
 {
     let cells = grid.cells;
     let d = cells.slots[at];
@@ -105,7 +111,7 @@ fn settle_sides(
     let none = Chain {
         end: ChainEnd::Ended,
         n: 0,
-        pages: [0; 128],
+        pages: [0; PAGES],
     };
     let high = settle::settle(buffer, none, low.free, number, high_table);
     Sides {
@@ -125,8 +131,9 @@ pub fn split(
     axis: u8,
     cut: u16,
 ) -> Grid
-    requires { ⌜ (chain .n ≤ pages) × (table .n ≤ maxOn) × Splitting grid at (pagesOf chain) (rowsOf table) axis cut (now buffer) ⌝ }
-    ensures { λ r. ⌜ ((x : Splitting grid at (pagesOf chain) (rowsOf table) axis cut (now (buffer .entry))) → Lays (splitAt (cutAt axis cut) (x .midway .flushed)) r (now (buffer .exit))) ⌝ }
+    requires { ⌜ HandFits chain table × BeforeSplit grid at (pagesOf chain) (rowsOf table) axis cut (now buffer) ⌝ }
+    ensures { λ r. ⌜ ((x : BeforeSplit grid at (pagesOf chain) (rowsOf table) axis cut (now (buffer .entry)))
+        → LaidGrid (splitAt (cutAt axis cut) (x .midway .flushed)) r (now (buffer .exit))) ⌝ }
 {
     let cells = grid.cells;
     let number = directory::unused_number(cells);

@@ -8,7 +8,7 @@ use lib.Dec.{leb, ltb}
 use lib.ListN.{length, getD, take}
 use lib.Seq.{take-suc, take-all}
 use borrow.Author.Tests.{lt-ltb, le-ltb, le-leb, lt-leb, eq-eqb, ne-eqb}
-use Rattle.terms.specs.Terms.{Place, maxOn, pageEntries}
+use Rattle.terms.specs.Terms.{Fix, maxOn, pageEntries}
 use Rattle.lists.specs.Rows.{Row, Rows}
 use Rattle.lists.specs.Sums.{sumBy}
 use Rattle.lists.specs.Tests.{one-if, both}
@@ -21,8 +21,8 @@ use Rattle.rules.specs.Grid.{eastward, northward, along, across, spanOf, cutsOf
 use Rattle.rules.specs.Cut.{Cut, through, lowSide, lowCount, fits, difference, longerSide}
 use Rattle.desk.specs.declared.CutList.{CutList}
 use Rattle.desk.specs.declared.Slot.{Slot}
-use Rattle.desk.specs.Views.{cutsIn, cutsBy, edgesOf}
-use Rattle.cut.specs.Choice.{axisOf, cutAt}
+use Rattle.desk.specs.Views.{cutsIn, cutsBy, edgesOf, axisOf}
+use Rattle.cut.specs.Choice.{cutAt}
 
 -- ---- the two directions
 
@@ -90,7 +90,7 @@ below-low x at h = rw (lt-ltb x at h)
 pub below-high : (x at : ℕ) → at ≤ x → 0 ≡ one-if (ltb x at)
 below-high x at h = rw (le-ltb x at h)
 
-pub low-start : (es : Rows Place) (c : Cut) → 0 ≡ lowCount (take 0 es) c
+pub low-start : (es : Rows Fix) (c : Cut) → 0 ≡ lowCount (take 0 es) c
 unfolding lowCount sumBy
 low-start es c = refl
 
@@ -100,12 +100,12 @@ pub low-turn : (es : Entries) (a at : ℕ) {k low x b : ℕ} (e : Entry) → len
 unfolding lowCount
 low-turn es a at {k} {low} {x} {b} e s f h r q w g =
     let l = length-rows es (omega arith) in
-    let side : Row Place → ℕ = λ z. one-if (lowSide (cutAt a at) z) in
+    let side : Row Fix → ℕ = λ z. one-if (lowSide (cutAt a at) z) in
     let t = take-suc (rowsOf es) k noRow (omega arith) in
     rw (add-one, t, ← r) (omega (arith, sum-append side (take k (rowsOf es)) (rowOf e ∷ []), sum-cons side (rowOf e) [], sum-nil side, ap (λ (z : ℕ). one-if (ltb z at)) q))
 
 pub low-end : (es : Entries) (c : Cut) {k low : ℕ} → length (es .all) ≡ maxOn → es .n ≤ maxOn → es .n ≤ k → low ≡ lowCount (take k (rowsOf es)) c → low ≡ lowCount (rowsOf es) c
-low-end es c {k} s f h g = let l = length-rows es (omega arith) in g ∙ ap (λ (z : Rows Place). lowCount z c) (take-all k (rowsOf es) (omega arith))
+low-end es c {k} s f h g = let l = length-rows es (omega arith) in g ∙ ap (λ (z : Rows Fix). lowCount z c) (take-all k (rowsOf es) (omega arith))
 
 -- ---- the two sides
 

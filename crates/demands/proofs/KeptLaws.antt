@@ -7,37 +7,35 @@ use Prim.Native.Nat.{ℕ, suc, _+_, _≤_}
 use native.Mathlib.Omega.{arith}
 use lib.Dec.{eqb}
 use lib.ListN.{length, take}
-use borrow.Author.Tests.{eq-eqb, ne-eqb}
-use Rattle.terms.specs.Terms.{Place, maxRadio, pages, noPage}
+use borrow.Author.Tests.{eq-eqb, ne-eqb, lt-ltb}
+use Rattle.terms.specs.Terms.{Place, Fix, maxRadio, pages, noPage}
 use Rattle.lists.specs.Chains.{firstOf}
 use Rattle.lists.specs.Rows.{Row, Rows, Rising, find, countFound}
 use Rattle.lists.specs.Sums.{sumBy, sumTo, concat, count}
-use Rattle.lists.specs.Tests.{one-if, both, Each}
+use Rattle.lists.specs.Tests.{one-if, both, isSome, Each}
 use Rattle.lists.proofs.Cases.{by-cases, option-cases}
 use Rattle.lists.proofs.ChainsLaws.{walk-linked}
-use Rattle.lists.proofs.RowsLaws.{sum-at-key}
+use Rattle.lists.proofs.RowsLaws.{sum-at-key, find-within}
 use Rattle.lists.proofs.SumsLaws.{sum-nil, sum-append, sum-le, sum-const, sum-each, sumTo-ext, sum-concat-map, sum-each-once}
 use Rattle.lists.proofs.TestsLaws.{each-map, each-zip, one-if-le}
 use Rattle.page.specs.Page.{entries}
 use Rattle.page.specs.Buffer.{pageAt}
 use Rattle.page.proofs.ChainLaws.{following}
-use Rattle.rules.specs.Store.{Store, Cell, Report as StoreReport, Line as StoreLine}
+use Rattle.rules.specs.Store.{Store, Cell, Report as StoreReport, Line as StoreLine, missedOf}
 use Rattle.rules.specs.Sweep.{isAt}
 use Rattle.rules.specs.Carry.{isOn, placeOf, liveIn, storedIn}
 use Rattle.rules.specs.Plain.{Plain}
-use Rattle.rules.specs.WellFormed.{countIf, liveOf, staleOf, chains, WellFormed}
-use Rattle.rules.proofs.LinkLaws.{Link}
+use Rattle.rules.specs.WellFormed.{countIf, liveOf, staleOf, chains, WellFormed, PagesOnce}
+use Rattle.rules.proofs.LinkLaws.{Link, length-waiting}
 use Rattle.rules.proofs.BooksLaws.{missed-total}
-use Rattle.rules.proofs.Parts.{missedOf}
 use Rattle.rules.proofs.PlaceLaws.{samePlace-refl}
 use Rattle.rules.proofs.TilingLaws.{some-cell}
 use Rattle.rules.proofs.WellLaws.{well-core, well-tiling}
 use Rattle.desk.specs.Layout.{slotOf, gridOf, reportOf, waitingOf, lineWith, lineOf, deskOf, Laid}
-use Rattle.desk.proofs.PagesLaws.{PagesOnce}
 use Rattle.desk.proofs.ReadLaws.{ChainRead, CellRead, FreePage, cells-read, free-read, Paged, pages-enough}
 use Rattle.desk.proofs.UniqueLaws.{take-cuts, take-slots, take-waiting, take-memo}
 use Rattle.demands.specs.Trace.{deskCuts}
-use Rattle.demands.specs.Demands.{chainAt, allChains, staleEntry, staleEntries, missedIn, missedCount, waitingPlace, staleBound, Kept}
+use Rattle.demands.specs.Demands.{chainAt, allChains, staleEntry, staleEntries, missedIn, missedCount, memoLines, isRadio, waitingPlace, staleBound, Kept}
 
 -- ---- the desk's lists
 
@@ -64,6 +62,30 @@ pub missed-count : (s : Store) (r : ℕ) → missedCount (deskOf s) r ≡ missed
 unfolding missedCount deskOf
 missed-count s r = ap (λ l. missedIn l r) (take-memo (s .memo)) ∙ missed-found (s .memo) r
 
+lines-keys : (l : Rows StoreLine) (r : ℕ) → sumBy (λ y. one-if (eqb r (y .radio))) (map lineOf l) ≡ sumBy (λ y. one-if (eqb r (y .key))) l
+unfolding sumBy
+lines-keys [] r = refl
+lines-keys (x ∷ xs) r = rw (line-radio (x .key) (x .val .missed) (x .val .last), lines-keys xs r)
+
+count-line : (r : ℕ) (o : Option StoreLine) → countFound (λ k _. one-if (eqb r k)) r o ≡ one-if (isSome o)
+count-line r none = refl
+count-line r (some l) = rw (eq-eqb r r refl)
+
+pub memo-lines : (s : Store) → WellFormed s → (r : ℕ) → memoLines (deskOf s) r ≡ one-if (isSome (find (s .memo) r))
+unfolding memoLines deskOf
+memo-lines s w r =
+    ap (sumBy (λ y. one-if (eqb r (y .radio)))) (take-memo (s .memo)) ∙ lines-keys (s .memo) r
+    ∙ sum-at-key (λ y. one-if (eqb r (y .key))) 0 r (s .memo) (λ y d. ap one-if (ne-eqb r (y .key) (λ q. d (sym q)))) (w .memo-rises)
+    ∙ count-line r (find (s .memo) r)
+
+pub one-line : (s : Store) → WellFormed s → (r : ℕ) → memoLines (deskOf s) r ≤ one-if (isRadio r)
+unfolding isRadio both
+one-line s w r =
+    by-cases (isSome (find (s .memo) r))
+    (λ t. let k = find-within 0 maxRadio r (s .memo) (w .memo-rises) (w .memo-radios) t in
+    rw (memo-lines s w r, t, lt-ltb 0 r (k .0), lt-ltb r (suc maxRadio) (omega (arith, k .1))) (omega arith))
+    (λ t. rw (memo-lines s w r, t) (omega arith))
+
 waiting-found : (l : Rows StoreReport) (r : ℕ) → waitingPlace (map reportOf l) r ≡ placeOf (find l r)
 unfolding waitingPlace find
 waiting-found [] r = refl
@@ -76,6 +98,9 @@ waiting-place s r = ap (λ l. waitingPlace l r) (take-waiting (s .waiting)) ∙ 
 pub waiting-number : (s : Store) → deskOf s .waiting .n ≡ length (s .waiting)
 unfolding deskOf waitingOf
 waiting-number s = refl
+
+pub exactly-waiting : (s : Store) (x : Plain) → WellFormed s → Link s x → deskOf s .waiting .n ≡ sumTo (suc maxRadio) (λ r. one-if (x .waits r))
+exactly-waiting s x w k = waiting-number s ∙ length-waiting s x k (well-core s w .waits)
 
 -- ---- the chains
 
@@ -97,7 +122,7 @@ all-chains s b once l =
 
 -- ---- the entries on the pages are those of the cells
 
-module _ (s : Store) (w : WellFormed s) (b : List ℕ) (l : Laid s b) (f : Row Place → ℕ) where
+module _ (s : Store) (w : WellFormed s) (b : List ℕ) (l : Laid s b) (f : Row Fix → ℕ) where
   cell-sum : (c : Cell) → Paged c → CellRead b c → sumBy (λ p. sumBy f (entries (pageAt b p))) (c .chain) ≡ sumBy f (c .entries)
   cell-sum c p k = sym (sum-concat-map f (λ q. entries (pageAt b q)) (c .chain)) ∙ ap (sumBy f) (sym (k .entries (pages-enough c p)))
 
@@ -126,7 +151,7 @@ unfolding staleEntry both
 count-stale x r none = refl
 count-stale x r (some v) = rw (eq-eqb r r refl)
 
-stale-rows : (x : Plain) (r : ℕ) (l : Rows Place) → Rising 0 l → sumBy (λ e. one-if (staleEntry x r e)) l ≡ countIf (λ p. not (isAt (x .flushed r) p)) (find l r)
+stale-rows : (x : Plain) (r : ℕ) (l : Rows Fix) → Rising 0 l → sumBy (λ e. one-if (staleEntry x r e)) l ≡ countIf (λ p. not (isAt (x .flushed r) p)) (find l r)
 unfolding staleEntry both
 stale-rows x r l a =
     sum-at-key (λ e. one-if (staleEntry x r e)) 0 r l (λ e d. rw (ne-eqb r (e .key) (λ q. d (sym q)))) a ∙ count-stale x r (find l r)
@@ -193,7 +218,9 @@ stale-bounded s x b w l k =
 pub kept : (s : Store) (x : Plain) (b : List ℕ) → WellFormed s → Laid s b → Link s x → Kept (deskOf s) b x
 kept s x b w l k = record {
   missed = λ r _ _. stale-missed s x b w l k r ∙ sym (missed-count s r);
+  one-line = one-line s w;
   bounded = stale-bounded s x b w l k;
   once = λ p. ap (count p) (all-chains s b (w .once) l) ∙ w .once p;
   waiting = λ r. waiting-place s r ∙ k .waiting r;
+  exactly = exactly-waiting s x w k;
 }

@@ -6,7 +6,7 @@ use mathlib.Core.Path.{_≡_}
 use Prim.Native.Nat.{ℕ, suc, _+_, _≤_}
 use lib.Dec.{eqb, ltb}
 use lib.ListN.{take}
-use Rattle.terms.specs.Terms.{Place, maxRadio, pages, noPage}
+use Rattle.terms.specs.Terms.{Place, Fix, maxRadio, pages, noPage}
 use Rattle.lists.specs.Chains.{walk}
 use Rattle.lists.specs.Rows.{Row}
 use Rattle.lists.specs.Sums.{sumBy, sumTo, concat, count}
@@ -49,7 +49,7 @@ allChains d b =
     concat (map (λ c. chainAt b (c .first)) (take (d .grid .cells .n) (d .grid .cells .slots))) ++ chainAt b (d .grid .free)
 
 -- "a stored entry is stale unless its place is the last place flushed for its radio, by the plain rule .., and the radio has not signed off since"
-unfoldable pub staleEntry : Plain → ℕ → Row Place → Bool
+unfoldable pub staleEntry : Plain → ℕ → Row Fix → Bool
 staleEntry x r e = both (eqb r (e .key)) (not (isAt (x .flushed r) (e .val)))
 
 -- "Stale entries of each radio .. are counted over all 128 pages"
@@ -63,6 +63,14 @@ missedIn (l ∷ ls) r = cond (eqb r (l .radio)) (l .missed) (missedIn ls r)
 
 unfoldable pub missedCount : Desk → ℕ → ℕ
 missedCount d r = missedIn (take (d .memo .n) (linesIn (d .memo .words))) r
+
+-- how many memo lines a radio has
+unfoldable pub memoLines : Desk → ℕ → ℕ
+memoLines d r = sumBy (λ l. one-if (eqb r (l .radio))) (take (d .memo .n) (linesIn (d .memo .words)))
+
+-- "A radio number is 1 to 4,095."
+unfoldable pub isRadio : ℕ → Bool
+isRadio r = both (ltb 0 r) (ltb r (suc maxRadio))
 
 -- the place of the report of a radio that waits in the desk
 unfoldable pub waitingPlace : List Report → ℕ → Option Place
@@ -80,12 +88,16 @@ staleBound = 1150
 pub record Kept (d : Desk) (b : List ℕ) (x : Plain) : Type 0 where
   -- "each radio's stale entries on the pages are its missed count"
   pub missed : (r : ℕ) → 1 ≤ r → r ≤ maxRadio → staleEntries x b r ≡ missedCount d r
+  -- a radio has one memo line at most, and what is no radio has none: each line is the one that the missed count is read from
+  pub one-line : (r : ℕ) → memoLines d r ≤ one-if (isRadio r)
   -- "stale and waiting together are at most 1,150"
   pub bounded : sumTo (suc maxRadio) (staleEntries x b) + d .waiting .n ≤ staleBound
   -- "each of the 128 pages stands once in one chain"
   pub once : (p : ℕ) → count p (allChains d b) ≡ one-if (ltb p pages)
   -- "the reports waiting in the desk are exactly its waiting radios with their latest places"
   pub waiting : (r : ℕ) → waitingPlace (take (d .waiting .n) (d .waiting .rows)) r ≡ placeIf (x .waits r) (x .latest r)
+  -- "exactly": as many reports as there are radios that wait, so none of a radio twice
+  pub exactly : d .waiting .n ≡ sumTo (suc maxRadio) (λ r. one-if (x .waits r))
 
 -- what holds of each call
 pub record NotRefused (x : Plain) (bytes buffer : List ℕ) (y : After) : Type 0 where

@@ -22,10 +22,10 @@ use Rattle.page.proofs.PageLaws.{length-pageOf}
 use Rattle.rules.specs.Grid.{square}
 use Rattle.rules.specs.Store.{Cell, fresh, pagesFor}
 use Rattle.rules.specs.Carry.{isOn, waitingIn}
-use Rattle.rules.specs.WellFormed.{liveOf, staleIn, chains, GoodCell, WellFormed}
+use Rattle.rules.specs.WellFormed.{liveOf, staleIn, chains, GoodCell, WellFormed, PagesOnce}
 use Rattle.desk.specs.Layout.{deskOf, leaves, cellLeaves, cellsLeaves, freeLeaves, storeLeaves, At, Laid, pagesOf, freshPages}
 use Rattle.desk.specs.Sound.{Sound}
-use Rattle.desk.proofs.PagesLaws.{PagesOnce, pages-laid}
+use Rattle.desk.proofs.PagesLaws.{pages-laid}
 use Rattle.rules.proofs.TilingLaws.{tiling-fresh}
 
 -- ---- its pages

@@ -7,7 +7,7 @@ use native.Mathlib.Omega.{arith}
 use lib.Dec.{eqb, ltb}
 use lib.ListN.{length, take, drop, length-replicate, length-take}
 use borrow.Author.Tests.{eqb-true, eq-eqb, lt-ltb, ltb-true}
-use Rattle.terms.specs.Terms.{Place, pages, pageEntries, noPage, noCell}
+use Rattle.terms.specs.Terms.{Fix, pages, pageEntries, noPage, noCell}
 use Rattle.lists.specs.Chains.{firstOf}
 use Rattle.lists.specs.Parts.{tab}
 use Rattle.lists.specs.Rows.{Rows, find}
@@ -21,7 +21,7 @@ use Rattle.page.specs.Page.{pageBytes, kindFree, kindFurther, freePageOf}
 use Rattle.page.specs.Buffer.{pageAt}
 use Rattle.page.proofs.PageLaws.{length-pageOf}
 use Rattle.rules.specs.Store.{Cell, Store}
-use Rattle.rules.specs.WellFormed.{chains}
+use Rattle.rules.specs.WellFormed.{chains, PagesOnce}
 use Rattle.desk.specs.Layout.{Leaf, leaves, cellLeaves, cellsLeaves, freeLeaves, storeLeaves, At, Laid, orZeros, pagesOf}
 
 -- ---- the leaves' pages are the chains, in order
@@ -29,7 +29,7 @@ use Rattle.desk.specs.Layout.{Leaf, leaves, cellLeaves, cellsLeaves, fre
 abbrev pub keys : {Val : Type 0} → Rows Val → List ℕ
 keys l = map (λ x. x .key) l
 
-pub keys-leaves : (kind cell : ℕ) (ps : List ℕ) (es : Rows Place) → keys (leaves kind cell ps es) ≡ ps
+pub keys-leaves : (kind cell : ℕ) (ps : List ℕ) (es : Rows Fix) → keys (leaves kind cell ps es) ≡ ps
 unfolding leaves
 keys-leaves kind cell [] es = refl
 keys-leaves kind cell (p ∷ ps) es = ap (λ (l : List ℕ). p ∷ l) (keys-leaves kindFurther cell ps (drop pageEntries es))
@@ -58,7 +58,7 @@ keys-storeLeaves s =
 abbrev pub Whole : Leaf → Type 0
 Whole x = length (x .val) ≡ pageBytes
 
-pub whole-leaves : (kind cell : ℕ) (ps : List ℕ) (es : Rows Place) → Each Whole (leaves kind cell ps es)
+pub whole-leaves : (kind cell : ℕ) (ps : List ℕ) (es : Rows Fix) → Each Whole (leaves kind cell ps es)
 unfolding leaves
 whole-leaves kind cell [] es = tt
 whole-leaves kind cell (p ∷ ps) es =
@@ -107,10 +107,6 @@ found-at b (x ∷ l) h f =
     )
 
 -- ---- both ways
-
--- "Each page is in one chain"
-abbrev pub PagesOnce : Store → Type 0
-PagesOnce s = (p : ℕ) → count p (chains s) ≡ one-if (ltb p pages)
 
 module _ (s : Store) (once : PagesOnce s) where
   pub leaves-once : (p : ℕ) → count p (keys (storeLeaves s)) ≡ one-if (ltb p pages)

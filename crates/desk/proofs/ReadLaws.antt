@@ -6,7 +6,7 @@ use Prim.Native.Nat.{ℕ, _+_, _*_, _≤_, _<_}
 use native.Mathlib.Omega.{arith}
 use lib.Dec.{eqb, ltb}
 use lib.ListN.{length, take, drop, length-take, length-drop, take-append-drop}
-use Rattle.terms.specs.Terms.{Place, pages, pageEntries, noPage, noCell}
+use Rattle.terms.specs.Terms.{Fix, pages, pageEntries, noPage, noCell}
 use Rattle.lists.specs.Chains.{firstOf, Linked}
 use Rattle.lists.specs.Rows.{Rows}
 use Rattle.lists.specs.Sums.{count, concat}
@@ -14,14 +14,12 @@ use Rattle.lists.specs.Tests.{one-if, Each}
 use Rattle.lists.proofs.SumsLaws.{length-below, sum-append, counted-below, count-concat-map}
 use Rattle.lists.proofs.TestsLaws.{each-map, each-split, each-zip, concat-map-each}
 use Rattle.page.specs.Page.{kindFree, kindFirst, kindFurther, freePageOf, kind, next, cell, entries}
-use Rattle.page.specs.Buffer.{pageAt, bufferBytes, there, chainFrom, endFrom}
-use Rattle.page.specs.declared.ChainEnd.the-variants.{Ended}
+use Rattle.page.specs.Buffer.{pageAt, bufferBytes, there, chainFrom, atNone, endFrom}
 use Rattle.page.proofs.PageLaws.{page-fields, entries-pageOf}
 use Rattle.page.proofs.ChainLaws.{following, bounds-there, linked-read}
 use Rattle.rules.specs.Store.{Cell, Store, pagesFor}
-use Rattle.rules.specs.WellFormed.{chains}
+use Rattle.rules.specs.WellFormed.{chains, PagesOnce}
 use Rattle.desk.specs.Layout.{leaves, cellLeaves, cellsLeaves, freeLeaves, storeLeaves, At, Laid}
-use Rattle.desk.proofs.PagesLaws.{PagesOnce}
 
 -- ---- chains
 
@@ -39,7 +37,7 @@ module _ (b : List ℕ) where
     pub linked : Linked noPage (following b) l
     pub all-there : Each (λ p. there b p ≡ true) l
     pub chain : chainFrom pages b (firstOf noPage l) ≡ l
-    pub ended : endFrom pages b (firstOf noPage l) ≡ Ended
+    pub ended : endFrom pages b (firstOf noPage l) ≡ atNone
 
   -- the first page's kind, then further pages
   abbrev pub Kinds : ℕ → List ℕ → Type 0
@@ -64,7 +62,7 @@ module _ (b : List ℕ) where
 
   -- ---- from leaves
 
-  linked-leaves : (k n : ℕ) (ps : List ℕ) (es : Rows Place) → Below ps → Each (At b) (leaves k n ps es) → Linked noPage (following b) ps
+  linked-leaves : (k n : ℕ) (ps : List ℕ) (es : Rows Fix) → Below ps → Each (At b) (leaves k n ps es) → Linked noPage (following b) ps
   unfolding leaves
   linked-leaves k n [] es h a = tt
   linked-leaves k n (p ∷ ps) es h a =
@@ -75,23 +73,23 @@ module _ (b : List ℕ) where
   linked-freeLeaves [] h a = tt
   linked-freeLeaves (p ∷ ps) h a = (omega (arith, h .0), ap next (a .0) ∙ page-fields kindFree (firstOf noPage ps) noCell [] .2, linked-freeLeaves ps (h .1) (a .1))
 
-  kinds-leaves : (k n : ℕ) (ps : List ℕ) (es : Rows Place) → Each (At b) (leaves k n ps es) → Kinds k ps
+  kinds-leaves : (k n : ℕ) (ps : List ℕ) (es : Rows Fix) → Each (At b) (leaves k n ps es) → Kinds k ps
   unfolding leaves
   kinds-leaves k n [] es a = tt
   kinds-leaves k n (p ∷ ps) es a = (ap kind (a .0) ∙ page-fields k (firstOf noPage ps) n (take pageEntries es) .1, kinds-leaves kindFurther n ps (drop pageEntries es) (a .1))
 
-  numbers-leaves : (k n : ℕ) (ps : List ℕ) (es : Rows Place) → Each (At b) (leaves k n ps es) → Each (λ p. cell (pageAt b p) ≡ n) ps
+  numbers-leaves : (k n : ℕ) (ps : List ℕ) (es : Rows Fix) → Each (At b) (leaves k n ps es) → Each (λ p. cell (pageAt b p) ≡ n) ps
   unfolding leaves
   numbers-leaves k n [] es a = tt
   numbers-leaves k n (p ∷ ps) es a = (ap cell (a .0) ∙ page-fields k (firstOf noPage ps) n (take pageEntries es) .3, numbers-leaves kindFurther n ps (drop pageEntries es) (a .1))
 
-  entries-leaves : (k n : ℕ) (ps : List ℕ) (es : Rows Place) → Each (At b) (leaves k n ps es) → length es ≤ pageEntries * length ps → es ≡ concat (map (λ p. entries (pageAt b p)) ps)
+  entries-leaves : (k n : ℕ) (ps : List ℕ) (es : Rows Fix) → Each (At b) (leaves k n ps es) → length es ≤ pageEntries * length ps → es ≡ concat (map (λ p. entries (pageAt b p)) ps)
   unfolding leaves concat
   entries-leaves k n [] [] a h = refl
   entries-leaves k n [] (e ∷ es) a h = absurd (omega arith)
   entries-leaves k n (p ∷ ps) es a h =
       sym (take-append-drop pageEntries es)
-      ∙ ap₂ (λ (x y : Rows Place). x ++ y)
+      ∙ ap₂ (λ (x y : Rows Fix). x ++ y)
       (sym (ap entries (a .0) ∙ entries-pageOf k (firstOf noPage ps) n (take pageEntries es) (rw length-take (omega arith))))
       (entries-leaves kindFurther n ps (drop pageEntries es) (a .1) (rw length-drop (omega arith)))
 

@@ -16,13 +16,13 @@ use Rattle.lists.proofs.MapLaws.{map-injective}
 use Rattle.page.specs.Page.{entries}
 use Rattle.page.specs.Buffer.{pageAt, chainFrom}
 use Rattle.rules.specs.Store.{Report as StoreReport, Line as StoreLine, Cell, Store}
-use Rattle.rules.specs.WellFormed.{WellFormed}
+use Rattle.rules.specs.WellFormed.{WellFormed, PagesOnce}
+use Rattle.desk.specs.declared.CutList.{CutList}
 use Rattle.desk.specs.declared.Desk.{Desk}
 use Rattle.desk.specs.Layout.{slotted, cutListOf, slotOf, directoryOf, gridOf, reportOf, waitingOf, lineWith, lineOf, memoOf, onOf, deskOf, Laid}
-use Rattle.desk.specs.Views.{linesIn}
+use Rattle.desk.specs.Views.{cutsIn, linesIn}
 use Rattle.desk.specs.Sound.{Sound}
 use Rattle.desk.proofs.LinesLaws.{lines-laid}
-use Rattle.desk.proofs.PagesLaws.{PagesOnce}
 use Rattle.desk.proofs.ReadLaws.{CellRead, cells-read, free-read, Paged, pages-enough}
 
 -- ---- the desk's lists, by their counts
@@ -34,6 +34,11 @@ take-slotted n z l = take-append-seam l _
 pub take-cuts : (l : List ℕ) → take (cutListOf l .n) (cutListOf l .at) ≡ l
 unfolding cutListOf
 take-cuts l = take-slotted _ _ l
+
+-- the cuts that are laid out are read back
+pub cuts-laid : {c : CutList} {l : List ℕ} → c ≡ cutListOf l → cutsIn c ≡ l
+unfolding cutsIn
+cuts-laid {c} {l} e = ap (λ (x : CutList). take (x .n) (x .at)) e ∙ take-cuts l
 
 pub take-slots : (l : List Cell) → take (directoryOf l .n) (directoryOf l .slots) ≡ map slotOf l
 unfolding directoryOf

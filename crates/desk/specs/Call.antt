@@ -18,6 +18,9 @@ pub record Before : Type 0 where
   pub bytes : List ℕ
   pub buffer : List ℕ
 
+abbrev pub handed : Desk → List ℕ → List ℕ → List ℕ → Before
+handed desk pages bytes buffer = record { desk = desk; pages = pages; bytes = bytes; buffer = buffer }
+
 -- what it answers, and what desk, pages and answer buffer then hold
 pub record After : Type 0 where
   pub number : ℕ
@@ -25,6 +28,9 @@ pub record After : Type 0 where
   pub desk : Desk
   pub pages : List ℕ
   pub buffer : List ℕ
+
+abbrev pub left : ℕ → ℕ → Desk → List ℕ → List ℕ → After
+left number count desk pages buffer = record { number = number; count = count; desk = desk; pages = pages; buffer = buffer }
 
 -- "The answer carries the number and 0 .. Desk, pages, answer buffer and any other lent buffer keep every byte."
 unfoldable pub turnedDown : ℕ → Before → After

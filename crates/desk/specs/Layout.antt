@@ -6,7 +6,7 @@ use mathlib.Core.Path.{_≡_}
 use Prim.Native.Nat.{ℕ, _+_, _-_, _*_}
 use lib.Dec.{eqb}
 use lib.ListN.{length, take, drop, replicate}
-use Rattle.terms.specs.Terms.{Place, pages, pageEntries, noPage, maxOn}
+use Rattle.terms.specs.Terms.{Place, Fix, pages, pageEntries, noPage, maxOn}
 use Rattle.lists.specs.Chains.{firstOf}
 use Rattle.lists.specs.Parts.{tab}
 use Rattle.lists.specs.Rows.{Row, Rows, find}
@@ -108,7 +108,7 @@ abbrev pub Leaf : Type 0
 Leaf = Row (List ℕ)
 
 -- a chain's pages: "kind (.. 2 first of a cell, 3 further), next page (65,535 for none), cell .., then up to 32 entries", "every page but the last full"
-unfoldable pub leaves : ℕ → ℕ → List ℕ → Rows Place → List Leaf
+unfoldable pub leaves : ℕ → ℕ → List ℕ → Rows Fix → List Leaf
 leaves kind cell [] es = []
 leaves kind cell (p ∷ ps) es =
     record { key = p; val = pageOf kind (firstOf noPage ps) cell (take pageEntries es) } ∷ leaves kindFurther cell ps (drop pageEntries es)

@@ -1,10 +1,12 @@
 -- The parts of a desk in any condition, each as far as its count says: what a store would have there.
+use mathlib.Core.Bool.{cond}
 use mathlib.Core.List.{List, [], _∷_, map}
 use Prim.Native.Nat.{ℕ, _+_, _*_}
+use lib.Dec.{eqb}
 use lib.ListN.{length, getD, take}
 use Rattle.lists.specs.Rows.{Row, Rows}
 use Rattle.rules.specs.Limits.{maxCells}
-use Rattle.rules.specs.Grid.{Rect, Cuts}
+use Rattle.rules.specs.Grid.{Axis, eastward, northward, Rect, Cuts}
 use Rattle.desk.specs.declared.CutList.{CutList}
 use Rattle.desk.specs.declared.Slot.{Slot}
 use Rattle.desk.specs.declared.Directory.{Directory}
@@ -12,6 +14,7 @@ use Rattle.desk.specs.declared.Line.{Line}
 use Rattle.desk.specs.declared.On.{On}
 use Rattle.desk.specs.declared.Desk.{Desk}
 use Rattle.desk.specs.declared.Parts.{Parts}
+use Rattle.desk.specs.declared.Rectangle.{Rectangle}
 use Rattle.desk.specs.Layout.{slotted, noSlot, lineFields}
 
 -- the cuts of one direction, and of both
@@ -31,6 +34,14 @@ directoryWith l = record { n = length l; slots = slotted maxCells noSlot l }
 -- a slot's edges as a rectangle
 abbrev pub edgesOf : Slot → Rect
 edgesOf s = record { easts = record { low = s .west; high = s .east }; norths = record { low = s .south; high = s .north } }
+
+-- a range's rectangle
+abbrev pub rectOf : Rectangle → Rect
+rectOf a = record { easts = record { low = a .west; high = a .east }; norths = record { low = a .south; high = a .north } }
+
+-- a direction as a number: 0 east, else north
+unfoldable pub axisOf : ℕ → Axis
+axisOf a = cond (eqb a 0) eastward northward
 
 -- the line at its place in the memo's array
 abbrev pub lineIn : List ℕ → ℕ → Line

@@ -9,8 +9,8 @@ ghost use Rattle.desk.specs.Views.{linesIn, partsOf, deskWith};
 // The cuts of one direction, rising.
 #[repr(C)]
 pub struct CutList {
-    pub n: usize,
-    pub at: [u16; 15],
+    pub n: u16,
+    pub at: [u16; Desk::MAX_CUTS],
 }
 
 // A cell of the directory: its number, its edges and the first page of its chain.
@@ -27,8 +27,8 @@ pub struct Slot {
 // The directory, in the order of the round, its front first.
 #[repr(C)]
 pub struct Directory {
-    pub n: usize,
-    pub slots: [Slot; 64],
+    pub n: u16,
+    pub slots: [Slot; Desk::MAX_CELLS],
 }
 
 // What a split or a join changes.
@@ -53,8 +53,8 @@ pub struct Report {
 // The waiting reports, by rising radio: one more than may wait between two calls.
 #[repr(C)]
 pub struct Waiting {
-    pub n: usize,
-    pub rows: [Report; 128],
+    pub n: u16,
+    pub rows: [Report; Desk::WAITING_SLOTS],
 }
 
 // A memo line; `placed` is 1 where it has a place, and 0, with the place zero, where it has none.
@@ -66,18 +66,19 @@ pub struct Line {
     pub north: u16,
 }
 
-// The memo, by rising radio: the fields of its lines one after the other, for an array of numbers can be lent and one of lines cannot. One line more than there may be between two calls.
+// The memo, by rising radio: the fields of its lines one after the other, for an array of numbers can be lent and one of lines cannot. One line more than there
+// may be between two calls.
 #[repr(C)]
 pub struct Memo {
-    pub n: usize,
-    pub words: [u16; 5755],
+    pub n: u16,
+    pub words: [u16; Desk::MEMO_WORDS],
 }
 
 // The radios on, rising.
 #[repr(C)]
 pub struct On {
-    pub n: usize,
-    pub radios: [u16; 512],
+    pub n: u16,
+    pub radios: [u16; Desk::MAX_ON],
 }
 
 #[repr(C)]
@@ -94,10 +95,32 @@ pub struct Parts {
     pub grid: Grid,
     pub waiting: Waiting,
     // how many lines the memo has
-    pub lines: usize,
+    pub lines: u16,
     pub on: On,
     pub tally: u16,
 }
+
+// What a call answers: 0 or the number of the check that turned it down, and what it counted.
+#[repr(C)]
+pub struct Answer {
+    pub number: u16,
+    pub count: u16,
+}
+
+// A range's rectangle.
+pub struct Rectangle {
+    pub west: u16,
+    pub east: u16,
+    pub south: u16,
+    pub north: u16,
+}
+
+// The directions, and how many there are.
+pub const EAST: u8 = 0;
+
+pub const NORTH: u8 = 1;
+
+pub const DIRECTIONS: u8 = 2;
 
 impl Parts {
     // The desk of these parts and the memo's array.
@@ -126,16 +149,19 @@ impl Desk {
 
     pub const MAX_CUTS: usize = 15;
 
-    pub const MAX_ON: usize = 512;
+    pub const MAX_ON: usize = terms::MAX_ON;
 
     pub const MAX_WAITING: usize = 127;
+
+    // One more than may wait between two calls: the report that a call brings.
+    pub const WAITING_SLOTS: usize = Desk::MAX_WAITING + 1;
 
     pub const MAX_LINES: usize = 1150;
 
     pub const LINE_FIELDS: usize = 5;
 
     // The fields of one line more than that.
-    pub const MEMO_WORDS: usize = 5755;
+    pub const MEMO_WORDS: usize = Desk::LINE_FIELDS * (Desk::MAX_LINES + 1);
 
     pub const FULL_BOX: usize = 8;
 
@@ -157,7 +183,7 @@ impl Desk {
             north: 0,
             first: 0,
         };
-        let mut slots = [no_slot; 64];
+        let mut slots = [no_slot; Desk::MAX_CELLS];
         slots[0] = Slot {
             number: 0,
             west: 0,
@@ -168,8 +194,14 @@ impl Desk {
         };
         Desk {
             grid: Grid {
-                easts: CutList { n: 0, at: [0; 15] },
-                norths: CutList { n: 0, at: [0; 15] },
+                easts: CutList {
+                    n: 0,
+                    at: [0; Desk::MAX_CUTS],
+                },
+                norths: CutList {
+                    n: 0,
+                    at: [0; Desk::MAX_CUTS],
+                },
                 cells: Directory { n: 1, slots },
                 free: 1,
             },
@@ -180,15 +212,15 @@ impl Desk {
                     east: 0,
                     north: 0,
                     new: 0,
-                }; 128],
+                }; Desk::WAITING_SLOTS],
             },
             memo: Memo {
                 n: 0,
-                words: [0; 5755],
+                words: [0; Desk::MEMO_WORDS],
             },
             on: On {
                 n: 0,
-                radios: [0; 512],
+                radios: [0; Desk::MAX_ON],
             },
             tally: 0,
         }

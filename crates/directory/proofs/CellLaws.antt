@@ -1,6 +1,7 @@
 -- The directory's slots: the search for the cell of a place, and what a shift and a store in the array do to the list.
 use mathlib.Core.Bool.{Bool, true, false}
 use mathlib.Core.List.{List, [], _∷_, _++_}
+use mathlib.Core.Option.{none, some}
 use mathlib.Core.Path.{_≡_, refl, sym, ap, ap₂, _∙_}
 use Prim.Native.Nat.{ℕ, _+_, _-_, _≤_, _<_}
 use native.Mathlib.Nat.{not-suc-le-zero}
@@ -22,8 +23,7 @@ use Rattle.desk.specs.declared.Directory.{Directory}
 use Rattle.desk.specs.Layout.{slotted, noSlot}
 use Rattle.desk.specs.Views.{slotsIn, directoryWith, edgesOf}
 use Rattle.waiting.proofs.SlotsLaws.{length-removeAt, close-slotted, push-slotted}
-use Rattle.directory.specs.declared.FoundCell.the-variants.{At, Nowhere}
-use Rattle.directory.specs.Directory.{WholeDirectory, slotAt, foundAt}
+use Rattle.directory.specs.Directory.{WholeDirectory, slotAt}
 
 -- ---- a place in a cell
 
@@ -63,10 +63,10 @@ pub pass-start : (d : Directory) (p : Place) → length (d .slots) ≡ maxCells 
 pass-start d p l h = record { size = length-slots d l h; others = λ k b. absurd (not-suc-le-zero b) }
 
 module _ {d : Directory} {p : Place} {i : ℕ} (m : Passed d p i) where
-  pub pass-found : {t : Bool} → i < d .n → t ≡ inside (edgesOf (getD (d .slots) i noSlot)) p → t ≡ true → At i ≡ foundAt (slotAt (slotsIn d) p)
+  pub pass-found : {t : Bool} → i < d .n → t ≡ inside (edgesOf (getD (d .slots) i noSlot)) p → t ≡ true → some i ≡ slotAt (slotsIn d) p
   unfolding slotAt
   pass-found h e t =
-      sym (ap foundAt (firstAt-found (λ s. inside (edgesOf s) p) (slotsIn d) i noSlot (omega (arith, m .size)) (ap (λ (s : Slot). inside (edgesOf s) p) (slots-at d i h) ∙ sym e ∙ t) (m .others)))
+      sym (firstAt-found (λ s. inside (edgesOf s) p) (slotsIn d) i noSlot (omega (arith, m .size)) (ap (λ (s : Slot). inside (edgesOf s) p) (slots-at d i h) ∙ sym e ∙ t) (m .others))
 
   pub pass-turn : {t : Bool} → i < d .n → t ≡ inside (edgesOf (getD (d .slots) i noSlot)) p → t ≡ false → Passed d p (i + 1)
   pass-turn h e f = record {
@@ -76,9 +76,9 @@ module _ {d : Directory} {p : Place} {i : ℕ} (m : Passed d p i) where
         (λ q. m .others k (omega (arith, eqb-false k i q)));
   }
 
-  pub pass-end : d .n ≤ i → Nowhere ≡ foundAt (slotAt (slotsIn d) p)
+  pub pass-end : d .n ≤ i → none ≡ slotAt (slotsIn d) p
   unfolding slotAt
-  pass-end h = sym (ap foundAt (firstAt-absent (λ s. inside (edgesOf s) p) (slotsIn d) noSlot (λ k b. m .others k (omega (arith, m .size)))))
+  pass-end h = sym (firstAt-absent (λ s. inside (edgesOf s) p) (slotsIn d) noSlot (λ k b. m .others k (omega (arith, m .size))))
 
 -- ---- stores
 

@@ -1,7 +1,7 @@
 -- A store's cells and cuts in the desk's arrays: what the functions of this crate are asked, and what they answer, in the store's words.
 use mathlib.Core.Bool.{Bool}
 use mathlib.Core.List.{List, [], _∷_, _++_, map}
-use mathlib.Core.Option.{some}
+use mathlib.Core.Option.{Option, none, some}
 use mathlib.Core.Path.{_≡_, refl, sym, ap, _∙_, subst}
 use Prim.Native.Nat.{ℕ, zero, suc, _≤_, _<_}
 use native.Mathlib.Nat.{not-suc-le-zero, le-of-suc-le-suc}
@@ -13,7 +13,7 @@ use borrow.Author.Tests.{ltb-true}
 use Rattle.terms.specs.Terms.{Place}
 use Rattle.lists.specs.Parts.{removeAt}
 use Rattle.lists.specs.Tests.{Each, firstAt, best}
-use Rattle.lists.proofs.Cases.{by-cases, option-cases, none-some}
+use Rattle.lists.proofs.Cases.{by-cases, none-some, some-injective}
 use Rattle.lists.proofs.MapLaws.{map-removeAt}
 use Rattle.lists.proofs.TestsLaws.{both-left, each-map, each-over-map, firstAt-some, best-holds}
 use Rattle.rules.specs.Limits.{maxCells}
@@ -22,7 +22,7 @@ use Rattle.rules.specs.Store.{Cell, cellAt}
 use Rattle.rules.specs.Cut.{Cut}
 use Rattle.rules.specs.Flush.{unusedNumber}
 use Rattle.rules.specs.Carry.{mostOf, boxToFlush}
-use Rattle.rules.proofs.Parts.{Edged, Tiling}
+use Rattle.rules.specs.Parts.{Edged, Tiling}
 use Rattle.rules.proofs.TilingLaws.{GoodCut}
 use Rattle.rules.proofs.CutLaws.{due-some}
 use Rattle.desk.specs.declared.CutList.{CutList}
@@ -30,12 +30,12 @@ use Rattle.desk.specs.declared.Slot.{Slot}
 use Rattle.desk.specs.declared.Directory.{Directory}
 use Rattle.desk.specs.Layout.{slotted, noSlot, slotOf, directoryOf, cutListOf}
 use Rattle.desk.specs.Views.{slotsIn, directoryWith, edgesOf}
-use Rattle.desk.proofs.UniqueLaws.{take-slots}
-use Rattle.boxes.proofs.BoxLaws.{cuts-laid, Boxed, boxed-place, each-boxed}
+use Rattle.desk.proofs.UniqueLaws.{take-slots, cuts-laid}
+use Rattle.boxes.proofs.BoxLaws.{Boxed, boxed-place, each-boxed}
 use Rattle.waiting.proofs.SlotsLaws.{getD-mapped}
 use Rattle.directory.specs.declared.FoundCell.{FoundCell}
 use Rattle.directory.specs.declared.FoundCell.the-variants.{At, Nowhere}
-use Rattle.directory.specs.Directory.{WholeDirectory, slotAt, foundAt, Numbered, unusedOf}
+use Rattle.directory.specs.Directory.{Stands, WholeDirectory, slotAt, foundAt, Numbered, unusedOf}
 use Rattle.directory.specs.Cuts.{WholeCuts, CutReady}
 use Rattle.directory.proofs.CellLaws.{slots-at}
 
@@ -86,21 +86,19 @@ module _ {d : Directory} (cells : List Cell) (laid : d ≡ directoryOf cells) wh
 
 -- ---- a cell and its slot
 
+-- what the answer says
+module _ {o : FoundCell} {at : Option ℕ} (told : foundAt o ≡ at) where
+  means-at : {k : ℕ} → o ≡ At k → at ≡ some k
+  means-at e = sym told ∙ ap foundAt e
+
+  means-nowhere : o ≡ Nowhere → at ≡ none
+  means-nowhere e = sym told ∙ ap foundAt e
+
 -- what is found stands below the count, in a directory of any kind
-pub found-inside : (d : Directory) (p : Place) {o : FoundCell} {k : ℕ} → o ≡ foundAt (slotAt (slotsIn d) p) → o ≡ At k → k < d .n
+pub found-inside : (d : Directory) (p : Place) {o : FoundCell} {k : ℕ} → foundAt o ≡ slotAt (slotsIn d) p → o ≡ At k → k < d .n
 unfolding slotAt slotsIn
 found-inside d p {k = k} told e =
-    option-cases (firstAt (λ s. inside (edgesOf s) p) (take (d .n) (d .slots)))
-    (λ f. let t = rw f at told in let z : _≡_ {A = ℕ} 0 1 = cc in absurd (omega arith))
-    (λ i f. let t = rw f at told in let z : i ≡ k = cc in
-    omega (arith, z, firstAt-some (λ s. inside (edgesOf s) p) (take (d .n) (d .slots)) i noSlot f .0, length-take (d .n) (d .slots)))
-
-pub record Stands (d : Directory) (cells : List Cell) (c : Cell) (k : ℕ) : Type 0 where
-  pub inside : k < length cells
-  pub split : cells ≡ take k cells ++ (c ∷ drop (suc k) cells)
-  pub slot : getD (slotsIn d) k noSlot ≡ slotOf c
-  -- what `cells.slots[k]` reads
-  pub element : getD (d .slots) k noSlot ≡ slotOf c
+    omega (arith, firstAt-some (λ s. inside (edgesOf s) p) (take (d .n) (d .slots)) k noSlot (means-at told e) .0, length-take (d .n) (d .slots))
 
 found-split : (cells : List Cell) (p : Place) (c : Cell) → cellAt cells p ≡ some c → (k : ℕ) × (slotAt (map slotOf cells) p ≡ some k) × (k < length cells) × (cells ≡ take k cells ++ (c ∷ drop (suc k) cells))
 unfolding cellAt slotAt firstAt
@@ -122,16 +120,16 @@ module _ {d : Directory} (cells : List Cell) (laid : d ≡ directoryOf cells) wh
 
   -- the cell of a place is found, and nothing else
   module _ (p : Place) (c : Cell) (here : cellAt cells p ≡ some c) where
-    pub found-some : (k : ℕ) × (foundAt (slotAt (slotsIn d) p) ≡ At k) × Stands d cells c k
+    pub found-some : (k : ℕ) × (slotAt (slotsIn d) p ≡ some k) × Stands d cells c k
     found-some =
         let r = found-split cells p c here in
-        (r .0, ap (λ (l : List Slot). foundAt (slotAt l p)) (directory-slots cells laid) ∙ ap foundAt (r .1), stands (r .0) c (r .2) (r .3))
+        (r .0, ap (λ (l : List Slot). slotAt l p) (directory-slots cells laid) ∙ r .1, stands (r .0) c (r .2) (r .3))
 
-    pub found-cell : {o : FoundCell} {k : ℕ} → o ≡ foundAt (slotAt (slotsIn d) p) → o ≡ At k → Stands d cells c k
-    found-cell {k = k} told e = let r = found-some in let f = r .1 in let z : r .0 ≡ k = cc in rw (← z) (r .2)
+    pub found-cell : {o : FoundCell} {k : ℕ} → foundAt o ≡ slotAt (slotsIn d) p → o ≡ At k → Stands d cells c k
+    found-cell told e = let r = found-some in let z = some-injective (sym (r .1) ∙ means-at told e) in rw (← z) (r .2)
 
-    pub found-not : {P : Type 0} {o : FoundCell} → o ≡ foundAt (slotAt (slotsIn d) p) → o ≡ Nowhere → P
-    found-not told e = let r = found-some in let f = r .1 in let z : _≡_ {A = ℕ} 0 1 = cc in absurd (omega arith)
+    pub found-not : {P : Type 0} {o : FoundCell} → foundAt o ≡ slotAt (slotsIn d) p → o ≡ Nowhere → P
+    found-not told e = none-some (sym (means-nowhere told e) ∙ found-some .1)
 
 -- ---- the cuts of one direction
 

@@ -1,18 +1,21 @@
 -- The directory in the desk's array: what is asked of it (01, "What the desk holds", "Split").
 use mathlib.Core.Bool.{Bool}
-use mathlib.Core.List.{List, map}
+use mathlib.Core.List.{List, _∷_, _++_, map}
 use mathlib.Core.Option.{Option, none, some}
 use mathlib.Core.Path.{_≡_}
-use Prim.Native.Nat.{ℕ, _<_}
+use Prim.Native.Nat.{ℕ, suc, _<_}
 use lib.Dec.{eqb, ltb}
+use lib.ListN.{length, take, drop, getD}
 use Rattle.terms.specs.Terms.{Place}
 use Rattle.lists.specs.Parts.{tab}
 use Rattle.lists.specs.Sums.{count}
 use Rattle.lists.specs.Tests.{Each, firstAt}
 use Rattle.rules.specs.Limits.{maxCells}
 use Rattle.rules.specs.Grid.{inside}
+use Rattle.rules.specs.Store.{Cell}
 use Rattle.desk.specs.declared.Slot.{Slot}
 use Rattle.desk.specs.declared.Directory.{Directory}
+use Rattle.desk.specs.Layout.{noSlot, slotOf}
 use Rattle.desk.specs.Views.{slotsIn, directoryWith, edgesOf}
 use Rattle.directory.specs.declared.FoundCell.{FoundCell}
 use Rattle.directory.specs.declared.FoundCell.the-variants.{At, Nowhere}
@@ -25,9 +28,10 @@ WholeDirectory d = d ≡ directoryWith (slotsIn d)
 unfoldable pub slotAt : List Slot → Place → Option ℕ
 slotAt l p = firstAt (λ s. inside (edgesOf s) p) l
 
-abbrev pub foundAt : Option ℕ → FoundCell
-foundAt none = Nowhere
-foundAt (some k) = At k
+-- the value of each case of an answer: where the cell stands in the directory, or none
+abbrev pub foundAt : FoundCell → Option ℕ
+foundAt (At k) = some k
+foundAt Nowhere = none
 
 -- "numbers from 0 to 63"
 abbrev pub Numbered : List Slot → Type 0
@@ -44,3 +48,11 @@ orZero (some n) = n
 -- "the smallest unused number"
 unfoldable pub unusedOf : List Slot → ℕ
 unusedOf l = orZero (firstAt (λ n. eqb (count n (map (λ s. s .number) l)) 0) (tab maxCells (λ n. n)))
+
+-- a cell stands at place k of the round, and its slot there in the directory
+pub record Stands (d : Directory) (cells : List Cell) (c : Cell) (k : ℕ) : Type 0 where
+  pub inside : k < length cells
+  pub split : cells ≡ take k cells ++ (c ∷ drop (suc k) cells)
+  pub slot : getD (slotsIn d) k noSlot ≡ slotOf c
+  -- what `cells.slots[k]` reads
+  pub element : getD (d .slots) k noSlot ≡ slotOf c

@@ -42,9 +42,9 @@ fn holds(slot: Slot, east: u16, north: u16) -> bool
 // Where the cell of a place stands; its number and its edges are in the slot there.
 pub fn cell_at(cells: Directory, east: u16, north: u16) -> FoundCell
     requires { ⌜ cells .n ≤ maxCells ⌝ }
-    ensures { λ r. ⌜ r ≡ foundAt (slotAt (slotsIn cells) (record { east = east; north = north })) ⌝ }
+    ensures { λ r. ⌜ foundAt r ≡ slotAt (slotsIn cells) (record { east = east; north = north }) ⌝ }
 {
-    let n = cells.n;
+    let n = cells.n as usize;
     let mut i: usize = 0;
     while i < n {
         let slot = cells.slots[i];
@@ -64,7 +64,8 @@ pub fn taken_out(cells: Directory, at: usize) -> Directory
     ensures { λ r. ⌜ r ≡ directoryWith (removeAt (slotsIn cells) at) ⌝ }
 {
     let mut d = cells;
-    let last = d.n - 1;
+    let left = d.n - 1;
+    let last = left as usize;
     let mut i = at;
     while i < last {
         let j = i + 1;
@@ -80,7 +81,7 @@ pub fn taken_out(cells: Directory, at: usize) -> Directory
         north: 0,
         first: 0,
     };
-    d.n = last;
+    d.n = left;
     d
 }
 
@@ -91,7 +92,8 @@ pub fn put_last(cells: Directory, slot: Slot) -> Directory
 {
     let mut d = cells;
     let n = d.n;
-    d.slots[n] = slot;
+    let last = n as usize;
+    d.slots[last] = slot;
     d.n = n + 1;
     d
 }
@@ -116,7 +118,7 @@ fn used_numbers(cells: Directory) -> [bool; Desk::MAX_CELLS]
     requires { ⌜ (cells .n ≤ maxCells) × Numbered (slotsIn cells) ⌝ }
     ensures { λ r. ⌜ r ≡ usedNumbers (slotsIn cells) ⌝ }
 {
-    let n = cells.n;
+    let n = cells.n as usize;
     let mut used = [false; Desk::MAX_CELLS];
     let mut i: usize = 0;
     while i < n {
@@ -182,7 +184,7 @@ fn cut_opened(cuts: CutList, place: usize, at: u16) -> CutList
 {
     let mut c = cuts;
     let n = c.n;
-    let mut i = n;
+    let mut i = n as usize;
     while place < i {
         let j = i - 1;
         let x = c.at[j];

@@ -14,28 +14,30 @@ use Rattle.rules.specs.Sweep.{tick}
 use Rattle.rules.specs.Flush.{raised}
 use Rattle.rules.specs.Records.{signOn, report, signOff}
 use Rattle.rules.specs.Carry.{wasNew, signedOn, reported, signedOff, waitingIn, allowedIn, carriedOut}
-use Rattle.rules.proofs.FlushLaws.{Staged}
 use Rattle.rules.proofs.StepLaws.{put-few, put-boxes, put-bounded, on-core, report-core, off-done}
 use Rattle.rules.specs.WellFormed.{WellFormed}
+use Rattle.rules.specs.Midway.{MidCall}
 use Rattle.desk.specs.declared.Waiting.{Waiting}
 use Rattle.desk.specs.declared.Memo.{Memo}
 use Rattle.desk.specs.declared.On.{On}
 use Rattle.desk.specs.declared.Desk.{Desk}
 use Rattle.desk.specs.Layout.{waitingOf, memoOf, onOf}
 use Rattle.desk.specs.Views.{radiosOf}
+use Rattle.desk.specs.Laid.{LaidDesk}
 use Rattle.memo.specs.Memo.{linesOf}
 use Rattle.waiting.specs.Waiting.{reportsOf}
 use Rattle.own_effect.specs.declared.SignedOn.{SignedOn}
 use Rattle.own_effect.proofs.StoreLaws.{on-gives, report-gives, off-gives, on-laid, report-laid, off-laid}
-use Rattle.records.proofs.AskedLaws.{SignsOn, Reports}
-use Rattle.effects.specs.Effects.{Stands, Effected, Followed, Left, AskedOn, AskedReport, AskedOff, Carries}
+use Rattle.records.specs.Asked.{SignsOn, Reports}
+use Rattle.effects.specs.Effects.{BeforeFlushDesk, AfterFlushAndTally, BeforeTallyDesk, BeforeSignOn, BeforeReport, BeforeSignOff, AfterRequest}
+use Rattle.effects.proofs.EffectLaws.{desk-laid}
 
 -- ---- the store then
 
 -- after a sign-on or a report: one more waits, in the memory cell of its place
 pub record Put (s : Store) (p : Place) : Type 0 where
   pub early : s .tally < sweepEvery
-  pub staged : Staged s (s .tally + 1)
+  pub mid : MidCall s (s .tally + 1)
   pub few : length (s .waiting) ≤ fullMemory
   pub others-few : (n : Box) → sameBox n (boxOf (s .cuts) p) ≡ false → waitingIn (s .cuts) (s .waiting) n < fullBox
 
@@ -45,7 +47,7 @@ on-put s w r p x =
     let f : Option Report → Option Report = λ _. some (record { place = p; new = true }) in
     record {
       early = w .tallied;
-      staged = record { core = on-core s w r p (x .first) (x .last) (x .placed) (x .off) (x .room); bounded = put-bounded s w r (x .first) f p true refl };
+      mid = record { core = on-core s w r p (x .first) (x .last) (x .placed) (x .off) (x .room); bounded = put-bounded s w r (x .first) f p true refl };
       few = put-few s w r (x .first) f p true refl;
       others-few = put-boxes s w r (x .first) f p true refl;
     }
@@ -57,17 +59,22 @@ report-put s w r p x =
     let b = wasNew (find (s .waiting) r) in
     record {
       early = w .tallied;
-      staged = record { core = report-core s w r p (x .first) (x .last) (x .placed) (x .on); bounded = put-bounded s w r (x .first) f p b refl };
+      mid = record { core = report-core s w r p (x .first) (x .last) (x .placed) (x .on); bounded = put-bounded s w r (x .first) f p b refl };
       few = put-few s w r (x .first) f p b refl;
       others-few = put-boxes s w r (x .first) f p b refl;
     }
 
-put-effect : {desk : Desk} {p : Place} {b : List ℕ} (s : Store) → Put s p → Stands s desk b → Effected desk p b
-put-effect s x h = record { store = s; early = x .early; staged = x .staged; few = x .few; others-few = x .others-few; stands = h }
+put-effect : {desk : Desk} {p : Place} {b : List ℕ} (s : Store) → Put s p → LaidDesk s desk b → BeforeFlushDesk desk p b
+put-effect s x h = record {
+  before = record { store = s; early = x .early; mid = x .mid; few = x .few; laid = h .in-waiting };
+  others-few = x .others-few;
+  on-is = h .on-is;
+  tally-is = h .tally-is;
+}
 
 -- ---- sign-on
 
-module _ {desk : Desk} {r : ℕ} {p : Place} {b : List ℕ} (x : AskedOn desk r p b) where
+module _ {desk : Desk} {r : ℕ} {p : Place} {b : List ℕ} (x : BeforeSignOn desk r p b) where
   abbrev s : Store
   s = x .sound .store
 
@@ -75,34 +82,36 @@ module _ {desk : Desk} {r : ℕ} {p : Place} {b : List ℕ} (x : AskedOn desk r 
     abbrev signed : Desk
     signed = record { grid = desk .grid; waiting = o .waiting; memo = desk .memo; on = o .on; tally = desk .tally }
 
-    pub on-effect : Effected signed p b
+    pub on-effect : BeforeFlushDesk signed p b
     unfolding put-effect
-    on-effect = put-effect (signedOn r p s) (on-put s (x .sound .well) r p (x .signs)) (record { held = on-gives s desk (x .sound .held) r p o own; laid = on-laid s b (x .sound .laid) r p })
+    on-effect =
+        put-effect (signedOn r p s) (on-put s (x .sound .well) r p (x .signs))
+        (desk-laid (signedOn r p s) (on-gives s desk (x .sound .held) r p o own) (on-laid s b (x .sound .laid) r p))
 
-    pub on-carries : {d : Desk} {b′ : List ℕ} → ((y : Effected signed p b) → Followed (y .store) p d b′) → Carries s (signOn r p) d b′
+    pub on-carries : {d : Desk} {b′ : List ℕ} → ((y : BeforeFlushDesk signed p b) → AfterFlushAndTally (y .before .store) p d b′) → AfterRequest s (signOn r p) d b′
     unfolding on-effect put-effect carriedOut allowedIn
-    on-carries l = let f : Followed (signedOn r p s) p _ _ = l on-effect in record { pick = f .pick; permitted = f .permitted; stands = f .stands }
+    on-carries l = let f : AfterFlushAndTally (signedOn r p s) p _ _ = l on-effect in record { pick = f .pick; permitted = f .permitted; laid = f .laid }
 
 -- ---- report
 
-module _ {desk : Desk} {r : ℕ} {p : Place} {b : List ℕ} (x : AskedReport desk r p b) where
+module _ {desk : Desk} {r : ℕ} {p : Place} {b : List ℕ} (x : BeforeReport desk r p b) where
   module _ (waiting : Waiting) (own : waiting ≡ waitingOf (alter (λ w. some (record { place = p; new = wasNew w })) r (reportsOf (desk .waiting)))) where
     abbrev told : Desk
     told = record { grid = desk .grid; waiting = waiting; memo = desk .memo; on = desk .on; tally = desk .tally }
 
-    pub report-effect : Effected told p b
+    pub report-effect : BeforeFlushDesk told p b
     unfolding put-effect
     report-effect =
         put-effect (reported r p (x .sound .store)) (report-put (x .sound .store) (x .sound .well) r p (x .reports))
-        (record { held = report-gives (x .sound .store) desk (x .sound .held) r p own; laid = report-laid (x .sound .store) b (x .sound .laid) r p })
+        (desk-laid (reported r p (x .sound .store)) (report-gives (x .sound .store) desk (x .sound .held) r p own) (report-laid (x .sound .store) b (x .sound .laid) r p))
 
-    pub report-carries : {d : Desk} {b′ : List ℕ} → ((y : Effected told p b) → Followed (y .store) p d b′) → Carries (x .sound .store) (report r p) d b′
+    pub report-carries : {d : Desk} {b′ : List ℕ} → ((y : BeforeFlushDesk told p b) → AfterFlushAndTally (y .before .store) p d b′) → AfterRequest (x .sound .store) (report r p) d b′
     unfolding report-effect put-effect carriedOut allowedIn
-    report-carries l = let f : Followed (reported r p (x .sound .store)) p _ _ = l report-effect in record { pick = f .pick; permitted = f .permitted; stands = f .stands }
+    report-carries l = let f : AfterFlushAndTally (reported r p (x .sound .store)) p _ _ = l report-effect in record { pick = f .pick; permitted = f .permitted; laid = f .laid }
 
 -- ---- sign-off
 
-module _ {desk : Desk} {r : ℕ} {b : List ℕ} (x : AskedOff desk r b) where
+module _ {desk : Desk} {r : ℕ} {b : List ℕ} (x : BeforeSignOff desk r b) where
   module _ {waiting : Waiting} {memo : Memo} {on : On}
       (own : (waiting ≡ waitingOf (alter (λ _. none) r (reportsOf (desk .waiting))))
       × (memo ≡ memoOf (cond (wasNew (find (reportsOf (desk .waiting)) r)) (linesOf (desk .memo)) (alter (raised none) r (linesOf (desk .memo)))))
@@ -114,14 +123,22 @@ module _ {desk : Desk} {r : ℕ} {b : List ℕ} (x : AskedOff desk r b) where
     unfolding signedOff
     early = x .sound .well .tallied
 
-    pub off-left : Left signed-off b
-    off-left = record {
-      store = signedOff r (x .sound .store);
-      early = early;
-      done = off-done (x .sound .store) (x .sound .well) r (x .signs .first) (x .signs .last) (x .signs .on);
-      stands = record { held = off-gives (x .sound .store) desk (x .sound .held) r own; laid = off-laid (x .sound .store) b (x .sound .laid) r };
-    }
+    pub off-tallies : BeforeTallyDesk signed-off b
+    off-tallies =
+        let s = x .sound .store in
+        let h : LaidDesk (signedOff r s) signed-off b = desk-laid (signedOff r s) (off-gives s desk (x .sound .held) r own) (off-laid s b (x .sound .laid) r) in
+        record {
+          before = record {
+            store = signedOff r s;
+            early = early;
+            roomy = off-done s (x .sound .well) r (x .signs .first) (x .signs .last) (x .signs .on);
+            laid = h .in-waiting .in-memo;
+            tally-is = h .tally-is;
+          };
+          waiting-is = h .in-waiting .waiting-is;
+          on-is = h .on-is;
+        }
 
-    pub off-carries : {d : Desk} {b′ : List ℕ} → ((y : Left signed-off b) → Stands (tick (y .store)) d b′) → Carries (x .sound .store) (signOff r) d b′
-    unfolding off-left carriedOut allowedIn
-    off-carries l = record { pick = 0; permitted = refl; stands = l off-left }
+    pub off-carries : {d : Desk} {b′ : List ℕ} → ((y : BeforeTallyDesk signed-off b) → LaidDesk (tick (y .before .store)) d b′) → AfterRequest (x .sound .store) (signOff r) d b′
+    unfolding off-tallies carriedOut allowedIn
+    off-carries l = record { pick = 0; permitted = refl; laid = l off-tallies }

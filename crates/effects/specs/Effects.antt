@@ -2,65 +2,57 @@
 use mathlib.Core.Bool.{true, false}
 use mathlib.Core.List.{List, []}
 use mathlib.Core.Path.{_≡_}
-use Prim.Native.Nat.{ℕ, _+_, _≤_, _<_}
-use lib.ListN.{length}
+use Prim.Native.Nat.{ℕ, _<_}
 use Rattle.terms.specs.Terms.{Place}
-use Rattle.rules.specs.Limits.{fullBox, fullMemory, sweepEvery}
+use Rattle.rules.specs.Limits.{fullBox}
 use Rattle.rules.specs.Grid.{Box, sameBox, boxOf}
 use Rattle.rules.specs.Store.{Store}
 use Rattle.rules.specs.Sweep.{tick}
 use Rattle.rules.specs.Records.{Request}
 use Rattle.rules.specs.Carry.{waitingIn, flushDue, afterReport, allowedIf, allowedIn, carriedOut}
-use Rattle.rules.proofs.FlushLaws.{Staged}
-use Rattle.rules.proofs.StepLaws.{Done}
 use Rattle.desk.specs.declared.Desk.{Desk}
-use Rattle.desk.specs.Layout.{deskOf, Laid}
+use Rattle.desk.specs.Layout.{waitingOf, onOf}
+use Rattle.desk.specs.Laid.{LaidDesk}
 use Rattle.desk.specs.Sound.{Sound}
-use Rattle.records.proofs.AskedLaws.{SignsOn, Reports, SignsOff}
+use Rattle.records.specs.Asked.{SignsOn, Reports, SignsOff}
+use Rattle.tally.specs.Tally.{BeforeTally}
+use Rattle.flush.specs.Flush.{BeforeFlush}
 
--- desk and pages lay out a store
-pub record Stands (s : Store) (desk : Desk) (bytes : List ℕ) : Type 0 where
-  pub held : desk ≡ deskOf s
-  pub laid : Laid s bytes
-
--- after a sign-on's or a report's own effect: no memory cell but that of its place is full
-pub record Effected (desk : Desk) (p : Place) (bytes : List ℕ) : Type 0 where
-  pub store : Store
-  pub early : store .tally < sweepEvery
-  pub staged : Staged store (store .tally + 1)
-  pub few : length (store .waiting) ≤ fullMemory
-  pub others-few : (n : Box) → sameBox n (boxOf (store .cuts) p) ≡ false → waitingIn (store .cuts) (store .waiting) n < fullBox
-  pub stands : Stands store desk bytes
+-- the whole desk before the flush that a report at p makes due: no memory cell but that of p is full
+pub record BeforeFlushDesk (desk : Desk) (p : Place) (bytes : List ℕ) : Type 0 where
+  pub before : BeforeFlush (desk .grid) (desk .waiting) (desk .memo) bytes
+  pub others-few : (n : Box) → sameBox n (boxOf (before .store .cuts) p) ≡ false → waitingIn (before .store .cuts) (before .store .waiting) n < fullBox
+  pub on-is : desk .on ≡ onOf (before .store .on)
+  pub tally-is : desk .tally ≡ before .store .tally
 
 -- flushed where due, and tallied
-pub record Followed (s : Store) (p : Place) (desk : Desk) (bytes : List ℕ) : Type 0 where
+pub record AfterFlushAndTally (s : Store) (p : Place) (desk : Desk) (bytes : List ℕ) : Type 0 where
   pub pick : ℕ
   pub permitted : allowedIf pick (flushDue s p) s ≡ true
-  pub stands : Stands (tick (afterReport pick p s)) desk bytes
+  pub laid : LaidDesk (tick (afterReport pick p s)) desk bytes
 
--- after a sign-off's own effect
-pub record Left (desk : Desk) (bytes : List ℕ) : Type 0 where
-  pub store : Store
-  pub early : store .tally < sweepEvery
-  pub done : Done store (store .tally + 1)
-  pub stands : Stands store desk bytes
+-- the whole desk before the tally
+pub record BeforeTallyDesk (desk : Desk) (bytes : List ℕ) : Type 0 where
+  pub before : BeforeTally (desk .grid) (desk .memo) (desk .tally) bytes
+  pub waiting-is : desk .waiting ≡ waitingOf (before .store .waiting)
+  pub on-is : desk .on ≡ onOf (before .store .on)
 
--- ---- on a sound store
+-- ---- a record on a sound store, once the checks have passed it
 
-pub record AskedOn (desk : Desk) (r : ℕ) (p : Place) (bytes : List ℕ) : Type 0 where
+pub record BeforeSignOn (desk : Desk) (r : ℕ) (p : Place) (bytes : List ℕ) : Type 0 where
   pub sound : Sound desk bytes
   pub signs : SignsOn (sound .store) r p
 
-pub record AskedReport (desk : Desk) (r : ℕ) (p : Place) (bytes : List ℕ) : Type 0 where
+pub record BeforeReport (desk : Desk) (r : ℕ) (p : Place) (bytes : List ℕ) : Type 0 where
   pub sound : Sound desk bytes
   pub reports : Reports (sound .store) r p
 
-pub record AskedOff (desk : Desk) (r : ℕ) (bytes : List ℕ) : Type 0 where
+pub record BeforeSignOff (desk : Desk) (r : ℕ) (bytes : List ℕ) : Type 0 where
   pub sound : Sound desk bytes
   pub signs : SignsOff (sound .store) r
 
 -- the request is carried out, with a neighbour that 01 allows
-pub record Carries (s : Store) (q : Request) (desk : Desk) (bytes : List ℕ) : Type 0 where
+pub record AfterRequest (s : Store) (q : Request) (desk : Desk) (bytes : List ℕ) : Type 0 where
   pub pick : ℕ
   pub permitted : allowedIn pick q s ≡ true
-  pub stands : Stands (carriedOut pick q s [] .store) desk bytes
+  pub laid : LaidDesk (carriedOut pick q s [] .store) desk bytes

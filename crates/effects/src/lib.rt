@@ -2,7 +2,8 @@
 ghost use Rattle.rules.specs.Sweep.{tick};
 ghost use Rattle.rules.specs.Records.{signOn, report, signOff};
 ghost use Rattle.desk.specs.Views.{deskWith};
-ghost use Rattle.effects.specs.Effects.{Stands, Effected, Followed, Left, AskedOn, AskedReport, AskedOff, Carries};
+ghost use Rattle.desk.specs.Laid.{LaidDesk};
+ghost use Rattle.effects.specs.Effects.{BeforeFlushDesk, AfterFlushAndTally, BeforeTallyDesk, BeforeSignOn, BeforeReport, BeforeSignOff, AfterRequest};
 use desk::Desk;
 use desk::Parts;
 
@@ -10,21 +11,18 @@ use desk::Parts;
 
 // The desk with what the tally changes.
 fn ticked(parts: Parts, words: &mut [u16; Desk::MEMO_WORDS], pages: &mut [u8]) -> Parts
-    requires { ⌜ Left (deskWith parts (now words)) (now pages) ⌝ }
-    ensures { λ r. ⌜ ((x : Left (deskWith parts (now (words .entry))) (now (pages .entry))) → Stands (tick (x .store)) (deskWith r (now (words .exit))) (now (pages .exit))) ⌝ }
+    requires { ⌜ BeforeTallyDesk (deskWith parts (now words)) (now pages) ⌝ }
+    ensures { λ r. ⌜ ((x : BeforeTallyDesk (deskWith parts (now (words .entry))) (now (pages .entry)))
+        → LaidDesk (tick (x .before .store)) (deskWith r (now (words .exit))) (now (pages .exit))) ⌝ }
 {
     let grid = parts.grid;
-    let waiting = parts.waiting;
-    let on = parts.on;
     let done = tally::tick(pages, grid, words, parts.lines, parts.tally);
     let shape = done.grid;
-    Parts {
-        grid: shape,
-        waiting,
-        lines: done.lines,
-        on,
-        tally: done.tally,
-    }
+    let mut next = parts;
+    next.grid = shape;
+    next.lines = done.lines;
+    next.tally = done.tally;
+    next
 }
 
 // "After sign-on or report": the memory cell that is due is flushed, and the record is counted.
@@ -35,22 +33,19 @@ fn followed(
     east: u16,
     north: u16,
 ) -> Parts
-    requires { ⌜ Effected (deskWith parts (now words)) (record { east = east; north = north }) (now pages) ⌝ }
-    ensures { λ r. ⌜ ((x : Effected (deskWith parts (now (words .entry))) (record { east = east; north = north }) (now (pages .entry))) → Followed (x .store) (record { east = east; north = north }) (deskWith r (now (words .exit))) (now (pages .exit))) ⌝ }
+    requires { ⌜ BeforeFlushDesk (deskWith parts (now words)) (record { east = east; north = north }) (now pages) ⌝ }
+    ensures { λ r. ⌜ ((x : BeforeFlushDesk (deskWith parts (now (words .entry))) (record { east = east; north = north }) (now (pages .entry)))
+        → AfterFlushAndTally (x .before .store) (record { east = east; north = north }) (deskWith r (now (words .exit))) (now (pages .exit))) ⌝ }
 {
     let grid = parts.grid;
     let waiting = parts.waiting;
-    let on = parts.on;
     let after = flush::after_report(pages, grid, waiting, words, parts.lines, east, north);
     let shape = after.grid;
     let left = after.waiting;
-    let flushed = Parts {
-        grid: shape,
-        waiting: left,
-        lines: after.lines,
-        on,
-        tally: parts.tally,
-    };
+    let mut flushed = parts;
+    flushed.grid = shape;
+    flushed.waiting = left;
+    flushed.lines = after.lines;
     ticked(flushed, words, pages)
 }
 
@@ -65,27 +60,23 @@ pub fn sign_on(
     east: u16,
     north: u16,
 ) -> Parts
-    requires { ⌜ AskedOn (deskWith parts (now words)) radio (record { east = east; north = north }) (now pages) ⌝ }
-    ensures { λ r. ⌜ ((x : AskedOn (deskWith parts (now (words .entry))) radio (record { east = east; north = north }) (now (pages .entry))) → Carries (x .sound .store) (signOn radio (record { east = east; north = north })) (deskWith r (now (words .exit))) (now (pages .exit))) ⌝ }
+    requires { ⌜ BeforeSignOn (deskWith parts (now words)) radio (record { east = east; north = north }) (now pages) ⌝ }
+    ensures { λ r. ⌜ ((x : BeforeSignOn (deskWith parts (now (words .entry))) radio (record { east = east; north = north }) (now (pages .entry)))
+        → AfterRequest (x .sound .store) (signOn radio (record { east = east; north = north })) (deskWith r (now (words .exit))) (now (pages .exit))) ⌝ }
 {
-    let grid = parts.grid;
     let waiting = parts.waiting;
     let on = parts.on;
     let own = own_effect::signed_on(waiting, on, radio, east, north);
     let reports = own.waiting;
     let radios = own.on;
-    let signed = Parts {
-        grid,
-        waiting: reports,
-        lines: parts.lines,
-        on: radios,
-        tally: parts.tally,
-    };
+    let mut signed = parts;
+    signed.waiting = reports;
+    signed.on = radios;
     followed(signed, words, pages, east, north)
 }
 
-// "Report replaces a waiting report of that radio, keeping its mark new; otherwise it waits unmarked." After most reports nothing more is due: these are counted, and the
-// parts are handed to no further function, for each that takes them copies them.
+// "Report replaces a waiting report of that radio, keeping its mark new; otherwise it waits unmarked." After most reports nothing more is due: these are
+// counted, and the parts are handed to no further function, for each that takes them copies them.
 pub fn reported(
     parts: Parts,
     words: &mut [u16; Desk::MEMO_WORDS],
@@ -94,29 +85,19 @@ pub fn reported(
     east: u16,
     north: u16,
 ) -> Parts
-    requires { ⌜ AskedReport (deskWith parts (now words)) radio (record { east = east; north = north }) (now pages) ⌝ }
-    ensures { λ r. ⌜ ((x : AskedReport (deskWith parts (now (words .entry))) radio (record { east = east; north = north }) (now (pages .entry))) → Carries (x .sound .store) (report radio (record { east = east; north = north })) (deskWith r (now (words .exit))) (now (pages .exit))) ⌝ }
+    requires { ⌜ BeforeReport (deskWith parts (now words)) radio (record { east = east; north = north }) (now pages) ⌝ }
+    ensures { λ r. ⌜ ((x : BeforeReport (deskWith parts (now (words .entry))) radio (record { east = east; north = north }) (now (pages .entry)))
+        → AfterRequest (x .sound .store) (report radio (record { east = east; north = north })) (deskWith r (now (words .exit))) (now (pages .exit))) ⌝ }
 {
     let tally = parts.tally;
     let reports = own_effect::reported(parts.waiting, radio, east, north);
     let grid = parts.grid;
-    let on = parts.on;
+    let mut told = parts;
+    told.waiting = reports;
     if flush::is_quiet(grid.easts, grid.norths, reports, tally, east, north) {
-        return Parts {
-            grid,
-            waiting: reports,
-            lines: parts.lines,
-            on,
-            tally: tally + 1,
-        };
+        told.tally = tally + 1;
+        return told;
     }
-    let told = Parts {
-        grid,
-        waiting: reports,
-        lines: parts.lines,
-        on,
-        tally,
-    };
     followed(told, words, pages, east, north)
 }
 
@@ -127,21 +108,18 @@ pub fn sign_off(
     pages: &mut [u8],
     radio: u16,
 ) -> Parts
-    requires { ⌜ AskedOff (deskWith parts (now words)) radio (now pages) ⌝ }
-    ensures { λ r. ⌜ ((x : AskedOff (deskWith parts (now (words .entry))) radio (now (pages .entry))) → Carries (x .sound .store) (signOff radio) (deskWith r (now (words .exit))) (now (pages .exit))) ⌝ }
+    requires { ⌜ BeforeSignOff (deskWith parts (now words)) radio (now pages) ⌝ }
+    ensures { λ r. ⌜ ((x : BeforeSignOff (deskWith parts (now (words .entry))) radio (now (pages .entry)))
+        → AfterRequest (x .sound .store) (signOff radio) (deskWith r (now (words .exit))) (now (pages .exit))) ⌝ }
 {
-    let grid = parts.grid;
     let waiting = parts.waiting;
     let on = parts.on;
     let own = own_effect::signed_off(waiting, words, parts.lines, on, radio);
     let reports = own.waiting;
     let radios = own.on;
-    let left = Parts {
-        grid,
-        waiting: reports,
-        lines: own.lines,
-        on: radios,
-        tally: parts.tally,
-    };
-    ticked(left, words, pages)
+    let mut signed = parts;
+    signed.waiting = reports;
+    signed.lines = own.lines;
+    signed.on = radios;
+    ticked(signed, words, pages)
 }

@@ -1,7 +1,7 @@
 -- One report after the other: what the next ones have room for, and what they leave.
 use mathlib.Core.Bool.{true, false}
 use mathlib.Core.List.{List, [], _∷_}
-use mathlib.Core.Option.{Option, some}
+use mathlib.Core.Option.{Option, none, some}
 use mathlib.Core.Path.{_≡_, refl, sym, ap, _∙_, subst}
 use Prim.Native.Nat.{ℕ, _+_, _≤_, _<_}
 use native.Mathlib.Omega.{arith}
@@ -10,7 +10,7 @@ use lib.Dec.{eqb}
 use lib.ListN.{length, getD, set, drop, length-set, drop-of-length-le}
 use lib.Seq.{drop-cons}
 use borrow.Author.Tests.{eq-eqb, ne-eqb}
-use Rattle.terms.specs.Terms.{Place, maxOn}
+use Rattle.terms.specs.Terms.{Place, Fix, maxOn}
 use Rattle.lists.specs.Rows.{Row, Rows, Rising, find, alter, insert}
 use Rattle.lists.specs.Tests.{one-if, isSome, firstAt}
 use Rattle.lists.proofs.Cases.{by-cases, option-cases}
@@ -18,8 +18,8 @@ use Rattle.lists.proofs.RowsLaws.{rising-less, rising-alter, rising-above, leng
 use Rattle.lists.proofs.TestsLaws.{each-zip, firstAt-some, one-if-le}
 use Rattle.entries.specs.declared.Entry.{Entry}
 use Rattle.entries.specs.declared.Entries.{Entries}
-use Rattle.entries.specs.declared.Lookup.the-variants.{Found, Missing}
-use Rattle.entries.specs.Entries.{placeOf, rowsOf, lookupOf, noRow, rowOf as entryRow}
+use Rattle.entries.specs.declared.Lookup.the-variants.{Found}
+use Rattle.entries.specs.Entries.{placeOf, rowsOf, standsAt, noRow, rowOf as entryRow}
 use Rattle.entries.proofs.TableLaws.{insert-found}
 use Rattle.rules.specs.Limits.{fullMemory}
 use Rattle.rules.specs.Store.{Line, Report as StoreReport}
@@ -37,7 +37,7 @@ use Rattle.enter.specs.Enter.{Held, heldIn, workOf, Room, Enterable, Ent
 -- ---- what a lookup says
 
 -- a radio stands somewhere in the table where an entry of it is found
-first-found : (r : ℕ) (l : Rows Place) → isSome (find l r) ≡ isSome (firstAt (λ x. eqb r (x .key)) l)
+first-found : (r : ℕ) (l : Rows Fix) → isSome (find l r) ≡ isSome (firstAt (λ x. eqb r (x .key)) l)
 unfolding find firstAt
 first-found r [] = refl
 first-found r (x ∷ xs) =
@@ -45,17 +45,14 @@ first-found r (x ∷ xs) =
     (λ t. rw t)
     (λ t. rw t (first-found r xs ∙ option-cases (firstAt (λ y. eqb r (y .key)) xs) (λ e. rw e) (λ i e. rw e)))
 
-module _ (r : ℕ) (l : Rows Place) where
-  lookup-missing : lookupOf r l ≡ Missing → isSome (find l r) ≡ false
-  unfolding lookupOf
-  lookup-missing = rw (first-found r l) (option-cases (firstAt (λ x. eqb r (x .key)) l) (λ e. rw e (λ _. refl)) (λ i e. rw e (λ h. cc)))
+module _ (r : ℕ) (l : Rows Fix) where
+  lookup-missing : standsAt r l ≡ none → isSome (find l r) ≡ false
+  unfolding standsAt
+  lookup-missing e = first-found r l ∙ ap isSome e
 
-  lookup-found : {i : ℕ} → lookupOf r l ≡ Found i → (isSome (find l r) ≡ true) × (i < length l)
-  unfolding lookupOf
-  lookup-found {i} =
-      rw (first-found r l) (option-cases (firstAt (λ x. eqb r (x .key)) l)
-      (λ e. rw e (λ h. let z : _≡_ {A = ℕ} 0 1 = cc in absurd (omega arith)))
-      (λ k e. rw e (λ h. let z : k ≡ i = cc in (refl, rw (← z) (firstAt-some (λ x. eqb r (x .key)) l k noRow e .0)))))
+  lookup-found : {i : ℕ} → standsAt r l ≡ some i → (isSome (find l r) ≡ true) × (i < length l)
+  unfolding standsAt
+  lookup-found {i} e = (first-found r l ∙ ap isSome e, firstAt-some (λ x. eqb r (x .key)) l i noRow e .0)
 
 -- ---- the reports that come next
 
@@ -143,7 +140,7 @@ module _ (table : Entries) (lines : ℕ) (words : List ℕ) (e : Report) (ready 
   abbrev from : Held
   from = heldIn table lines words
 
-  abbrev rows : Rows Place
+  abbrev rows : Rows Fix
   rows = rowsOf table
 
   abbrev entry : Entry
@@ -152,7 +149,7 @@ module _ (table : Entries) (lines : ℕ) (words : List ℕ) (e : Report) (ready 
   abbrev place : Place
   place = record { east = e .east; north = e .north }
 
-  module _ (lacks : lookupOf (e .radio) rows ≡ Missing) where
+  module _ (lacks : standsAt (e .radio) rows ≡ none) where
     grows : length (insert (e .radio) place rows) ≡ length rows + 1
     grows =
         omega (
@@ -166,8 +163,8 @@ module _ (table : Entries) (lines : ℕ) (words : List ℕ) (e : Report) (ready 
     unfolding enterEach enter
     missing-fits = omega (arith, ready .counted, ready .room .entries-fit, grows)
 
-    pub still-missing : {x : Entry} → x ≡ entry → lookupOf (x .radio) rows ≡ Missing
-    still-missing q = ap (λ (y : Entry). lookupOf (y .radio) rows) q ∙ lacks
+    pub still-missing : {x : Entry} → x ≡ entry → standsAt (x .radio) rows ≡ none
+    still-missing q = ap (λ (y : Entry). standsAt (y .radio) rows) q ∙ lacks
 
     pub adds : {x : Entry} {t : Entries} {m : Memo} → x ≡ entry → rowsOf t ≡ insert (x .radio) (placeOf x) rows → t .n ≡ table .n + 1
         → m ≡ memoOf (alter (entered false (waits e .new) (waits e .place)) (e .radio) (linesOf (memoIn lines words))) → Entered from (rowOf e ∷ []) (record { table = t; memo = m })
@@ -178,7 +175,7 @@ module _ (table : Entries) (lines : ℕ) (words : List ℕ) (e : Report) (ready 
       memo = rw (lookup-missing (e .radio) rows lacks) k;
     }
 
-  module _ {at : ℕ} (has : lookupOf (e .radio) rows ≡ Found at) where
+  module _ {at : ℕ} (has : standsAt (e .radio) rows ≡ some at) where
     pub found-inside : at < table .n
     found-inside = omega (arith, ready .counted, lookup-found (e .radio) rows has .1)
 
@@ -187,7 +184,7 @@ module _ (table : Entries) (lines : ℕ) (words : List ℕ) (e : Report) (ready 
     unfolding enterEach enter
     moves {t = t} q a n k =
         let b : rowsOf t ≡ set rows at (entryRow entry) = a ∙ ap (λ (y : Entry). set rows at (entryRow y)) q in
-        let i : rowsOf t ≡ insert (e .radio) place rows = insert-found table entry (ready .room .rows-rise) (sym has) refl b in
+        let i : rowsOf t ≡ insert (e .radio) place rows = insert-found table entry (ready .room .rows-rise) {o = Found at} (sym has) refl b in
         record {
           table = i;
           count = omega (arith, n, ready .counted, ap length b, length-set rows at (entryRow entry), ap length i);

@@ -11,22 +11,24 @@ use Rattle.terms.specs.Terms.{maxOn}
 use Rattle.lists.specs.Rows.{Rows, find}
 use Rattle.lists.specs.Sums.{filter}
 use Rattle.lists.specs.Tests.{one-if}
-use Rattle.lists.proofs.AmongLaws.{Among, sum-among}
+use Rattle.lists.specs.Among.{Among}
+use Rattle.lists.proofs.AmongLaws.{sum-among}
 use Rattle.lists.proofs.RowsLaws.{rising-filter}
 use Rattle.lists.proofs.SumsLaws.{sum-cons, sum-le, length-sum, length-middle}
 use Rattle.lists.proofs.TestsLaws.{each-every, one-if-le}
 use Rattle.entries.specs.Entries.{rowsOf}
 use Rattle.rules.specs.Limits.{maxCuts, fullMemory, sweepEvery}
 use Rattle.rules.specs.Grid.{eastward, northward, inside, Cuts, Box, cornerOf}
-use Rattle.rules.specs.Store.{Report, Line, Cell, Store}
+use Rattle.rules.specs.Store.{Report, Line, Cell, Store, missedOf}
 use Rattle.rules.specs.Sweep.{stale, sweptMemo, swept}
 use Rattle.rules.specs.Flush.{Work, enterEach, inBox, flushedInto, cellOfBox}
 use Rattle.rules.specs.WellFormed.{staleIn}
-use Rattle.rules.proofs.Parts.{missedOf, Bounded, Core}
+use Rattle.rules.specs.Parts.{Bounded, Core}
+use Rattle.rules.specs.Midway.{MidCall}
 use Rattle.rules.proofs.BooksLaws.{clean-swept, stale-sweep-sum, memo-total, entries-total, missed-few}
 use Rattle.rules.proofs.RoundLaws.{bounded-total}
 use Rattle.rules.proofs.TilingLaws.{cellAt-split, some-cell}
-use Rattle.rules.proofs.FlushLaws.{Staged, books-before, books-swept, books-flushed, clean-flushed, waiting-flushed}
+use Rattle.rules.proofs.FlushLaws.{books-before, books-swept, books-flushed, clean-flushed, waiting-flushed}
 use Rattle.desk.specs.declared.CutList.{CutList}
 use Rattle.desk.specs.declared.Waiting.{Waiting}
 use Rattle.desk.specs.Layout.{lineSlots, cutListOf, waitingOf, memoOf}
@@ -36,7 +38,7 @@ use Rattle.memo.proofs.MemoLaws.{lines-are, whole-is}
 use Rattle.boxes.specs.declared.BoxAt.{BoxAt}
 use Rattle.boxes.specs.Boxes.{boxIn}
 use Rattle.waiting.specs.Waiting.{reportsOf}
-use Rattle.boxes.proofs.BoxLaws.{cuts-laid}
+use Rattle.desk.proofs.UniqueLaws.{cuts-laid}
 use Rattle.waiting.proofs.WaitingLaws.{reports-laid, count-laid}
 use Rattle.enter.specs.Enter.{Held, workOf, Room, Enterable, Entered}
 
@@ -123,7 +125,7 @@ module _ (s : Store) (d : Cell) (m : BoxAt) (easts norths : CutList) (waiting : 
   the-work : workOf from ≡ record { entries = swept (s .memo) d .entries; memo = sweptMemo (s .memo) (d .entries) }
   the-work = λ i. record { entries = rows i; memo = lines-are (sweptMemo (s .memo) (d .entries)) held i }
 
-  pub enter-asks : {c : ℕ} → Staged s c → c ≤ sweepEvery → cellOfBox s (boxIn m) ≡ some d → length (s .waiting) ≤ fullMemory → from .table .n ≡ length (swept (s .memo) d .entries)
+  pub enter-asks : {c : ℕ} → MidCall s c → c ≤ sweepEvery → cellOfBox s (boxIn m) ≡ some d → length (s .waiting) ≤ fullMemory → from .table .n ≡ length (swept (s .memo) d .entries)
       → (easts .n ≤ maxCuts) × (norths .n ≤ maxCuts) × (waiting .n ≤ fullMemory) × Enterable from entering
   unfolding cellOfBox
   enter-asks {c} g late home few many =

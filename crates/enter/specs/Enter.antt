@@ -8,9 +8,8 @@ use Rattle.lists.specs.Rows.{Rows, Rising, find}
 use Rattle.lists.specs.Tests.{Each}
 use Rattle.entries.specs.declared.Entries.{Entries}
 use Rattle.entries.specs.Entries.{rowsOf}
-use Rattle.rules.specs.Store.{Report}
+use Rattle.rules.specs.Store.{Report, missedOf}
 use Rattle.rules.specs.Flush.{Work, enterEach}
-use Rattle.rules.proofs.Parts.{missedOf}
 use Rattle.desk.specs.Layout.{lineSlots, memoOf}
 use Rattle.desk.specs.declared.Memo.{Memo}
 use Rattle.memo.specs.Memo.{memoIn, linesOf, Whole, mostMissed}

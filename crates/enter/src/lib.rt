@@ -1,17 +1,18 @@
-// Enter the waiting reports of a memory cell: each goes into the swept cell's table, and the memo takes its place, with a miss more where an older entry lies elsewhere.
+// Enter the waiting reports of a memory cell: each goes into the swept cell's table, and the memo takes its place, with a miss more where an older entry lies
+// elsewhere.
 ghost use mathlib.Core.Bool.{false};
 ghost use mathlib.Core.List.{[], _∷_};
+ghost use mathlib.Core.Option.{none, some};
 ghost use mathlib.Core.Path.{_≡_};
 ghost use Prim.Native.Nat.{_<_, _≤_};
-ghost use Rattle.lists.specs.Rows.{Rising, find, alter};
+ghost use Rattle.lists.specs.Rows.{alter};
 ghost use Rattle.lists.specs.Sums.{filter};
-ghost use Rattle.entries.specs.Entries.{rowsOf, lookupOf};
+ghost use Rattle.entries.specs.Entries.{rowsOf, standsAt};
 ghost use Rattle.rules.specs.Limits.{fullMemory, maxCuts};
 ghost use Rattle.rules.specs.Flush.{inBox, entered};
-ghost use Rattle.rules.proofs.Parts.{missedOf};
-ghost use Rattle.desk.specs.Layout.{lineSlots, memoOf};
+ghost use Rattle.desk.specs.Layout.{memoOf};
 ghost use Rattle.desk.specs.Views.{cutsBy};
-ghost use Rattle.memo.specs.Memo.{memoIn, linesOf, Whole, mostMissed};
+ghost use Rattle.memo.specs.Memo.{memoIn, linesOf, RoomyMemo, MissFits};
 ghost use Rattle.boxes.specs.Boxes.{boxIn};
 ghost use Rattle.waiting.specs.Waiting.{waits, rowOf, reportsOf};
 ghost use Rattle.enter.specs.Enter.{heldIn, Enterable, Entered};
@@ -36,10 +37,12 @@ fn entry_of(report: Report) -> Entry
     }
 }
 
-// The memo as an entry is added: "if not marked new, add 1 to the missed count (made as 1 if absent); any memo line takes the new place". The answer is how many lines there are then.
-fn memo_added<'a>(words: &'a mut [u16; Desk::MEMO_WORDS], n: usize, report: Report) -> usize
-    requires { ⌜ Whole (memoIn n (now words)) × (n < lineSlots) × Rising 0 (linesOf (memoIn n (now words))) × (missedOf (find (linesOf (memoIn n (now words))) (report .radio)) < mostMissed) ⌝ }
-    ensures { λ r. ⌜ memoIn r (now (words .exit)) ≡ memoOf (alter (entered false (waits report .new) (waits report .place)) (report .radio) (linesOf (memoIn n (now (words .entry))))) ⌝ }
+// The memo as an entry is added: "if not marked new, add 1 to the missed count (made as 1 if absent); any memo line takes the new place". The answer is how
+// many lines there are then.
+fn memo_added<'a>(words: &'a mut [u16; Desk::MEMO_WORDS], n: u16, report: Report) -> u16
+    requires { ⌜ RoomyMemo (memoIn n (now words)) × MissFits (report .radio) (memoIn n (now words)) ⌝ }
+    ensures { λ r. ⌜ memoIn r (now (words .exit))
+        ≡ memoOf (alter (entered false (waits report .new) (waits report .place)) (report .radio) (linesOf (memoIn n (now (words .entry))))) ⌝ }
 {
     if report.new == 0 {
         return memo::raised(words, n, report.radio, report.east, report.north);
@@ -52,10 +55,10 @@ fn memo_added<'a>(words: &'a mut [u16; Desk::MEMO_WORDS], n: usize, report: Repo
 fn added<'a>(
     table: Entries,
     words: &'a mut [u16; Desk::MEMO_WORDS],
-    lines: usize,
+    lines: u16,
     report: Report,
 ) -> Swept
-    requires { ⌜ Enterable (heldIn table lines (now words)) (rowOf report ∷ []) × (lookupOf (report .radio) (rowsOf table) ≡ Lookup.Missing) ⌝ }
+    requires { ⌜ Enterable (heldIn table lines (now words)) (rowOf report ∷ []) × (standsAt (report .radio) (rowsOf table) ≡ none) ⌝ }
     ensures { λ r. ⌜ Entered (heldIn table lines (now (words .entry))) (rowOf report ∷ []) (heldIn (r .table) (r .lines) (now (words .exit))) ⌝ }
 {
     Swept {
@@ -68,11 +71,11 @@ fn added<'a>(
 fn moved<'a>(
     table: Entries,
     words: &'a mut [u16; Desk::MEMO_WORDS],
-    lines: usize,
+    lines: u16,
     at: usize,
     report: Report,
 ) -> Swept
-    requires { ⌜ Enterable (heldIn table lines (now words)) (rowOf report ∷ []) × (lookupOf (report .radio) (rowsOf table) ≡ Lookup.Found at) ⌝ }
+    requires { ⌜ Enterable (heldIn table lines (now words)) (rowOf report ∷ []) × (standsAt (report .radio) (rowsOf table) ≡ some at) ⌝ }
     ensures { λ r. ⌜ Entered (heldIn table lines (now (words .entry))) (rowOf report ∷ []) (heldIn (r .table) (r .lines) (now (words .exit))) ⌝ }
 {
     memo::placed(words, lines, report.radio, report.east, report.north);
@@ -86,7 +89,7 @@ fn moved<'a>(
 fn enter_report<'a>(
     table: Entries,
     words: &'a mut [u16; Desk::MEMO_WORDS],
-    lines: usize,
+    lines: u16,
     report: Report,
 ) -> Swept
     requires { ⌜ Enterable (heldIn table lines (now words)) (rowOf report ∷ []) ⌝ }
@@ -106,13 +109,15 @@ pub fn enter_all<'a>(
     m: BoxAt,
     table: Entries,
     words: &'a mut [u16; Desk::MEMO_WORDS],
-    lines: usize,
+    lines: u16,
 ) -> Swept
-    requires { ⌜ (easts .n ≤ maxCuts) × (norths .n ≤ maxCuts) × (waiting .n ≤ fullMemory) × Enterable (heldIn table lines (now words)) (filter (inBox (cutsBy easts norths) (boxIn m)) (reportsOf waiting)) ⌝ }
-    ensures { λ r. ⌜ Entered (heldIn table lines (now (words .entry))) (filter (inBox (cutsBy easts norths) (boxIn m)) (reportsOf waiting)) (heldIn (r .table) (r .lines) (now (words .exit))) ⌝ }
+    requires { ⌜ (easts .n ≤ maxCuts) × (norths .n ≤ maxCuts) × (waiting .n ≤ fullMemory)
+        × Enterable (heldIn table lines (now words)) (filter (inBox (cutsBy easts norths) (boxIn m)) (reportsOf waiting)) ⌝ }
+    ensures { λ r. ⌜ Entered (heldIn table lines (now (words .entry))) (filter (inBox (cutsBy easts norths) (boxIn m)) (reportsOf waiting))
+        (heldIn (r .table) (r .lines) (now (words .exit))) ⌝ }
 {
     let reports = box_reports::gathered(easts, norths, waiting, m);
-    let n = reports.n;
+    let n = reports.n as usize;
     let mut all = table;
     let mut notes = lines;
     let mut i: usize = 0;

@@ -2,7 +2,7 @@
 use mathlib.Core.Bool.{true, false}
 use mathlib.Core.List.{List}
 use mathlib.Core.Option.{Option, none, some}
-use mathlib.Core.Path.{_≡_, refl, sym, ap, ap₂, _∙_, subst}
+use mathlib.Core.Path.{_≡_, refl, sym, ap₂, _∙_, subst}
 use Prim.Native.Nat.{ℕ, _+_, _≤_, _<_}
 use native.Mathlib.Omega.{arith}
 use lib.Dec.{ltb}
@@ -14,7 +14,8 @@ use Rattle.rules.specs.Limits.{maxCuts, fullBox, fullMemory, sweepEvery}
 use Rattle.rules.specs.Grid.{Cuts, Box, sameBox, boxOf}
 use Rattle.rules.specs.Store.{Report}
 use Rattle.rules.specs.Carry.{boxToFlush, waitingIn, flushDue, afterReport}
-use Rattle.rules.proofs.StepLaws.{Done, after-tally, report-done}
+use Rattle.rules.specs.Midway.{MidCallRoomy}
+use Rattle.rules.proofs.StepLaws.{after-tally, report-done}
 use Rattle.desk.specs.declared.Grid.{Grid}
 use Rattle.desk.specs.declared.Waiting.{Waiting}
 use Rattle.desk.specs.declared.Memo.{Memo}
@@ -24,94 +25,89 @@ use Rattle.box_due.specs.declared.BoxDue.{BoxDue}
 use Rattle.box_due.specs.declared.BoxDue.the-variants.{Flush, Nothing}
 use Rattle.boxes.specs.Boxes.{boxIn}
 use Rattle.box_due.specs.Due.{dueOf}
+use Rattle.box_due.proofs.DueLaws.{means-flush, means-nothing}
 use Rattle.waiting.specs.Waiting.{reportsOf}
 use Rattle.waiting.proofs.WaitingLaws.{reports-laid}
 use Rattle.boxes.proofs.BoxLaws.{Boxed}
 use Rattle.directory.proofs.DirectoryLaws.{boxed-due, boxed-counts}
-use Rattle.tally.specs.Tally.{Tallied}
-use Rattle.flush.specs.Flush.{Reported, Flushes, After, quiet}
-use Rattle.flush.proofs.FlushLaws.{holds-easts, holds-norths, holds-cuts, few-easts, few-norths, few-wait}
-
--- ---- the memory cell that is due
-
-due-none : (o : Option Box) → dueOf o ≡ Nothing → o ≡ none
-due-none none e = refl
-due-none (some n) e = let z : _≡_ {A = ℕ} 0 1 = cc in absurd (omega arith)
-
-due-some : (o : Option Box) (m : BoxAt) → dueOf o ≡ Flush m → o ≡ some (boxIn m)
-due-some none m e = let z : _≡_ {A = ℕ} 0 1 = cc in absurd (omega arith)
-due-some (some n) m e = let z : record { east = n .east; north = n .north } ≡ m = cc in ap (λ (k : BoxAt). some (boxIn k)) z
+use Rattle.tally.specs.Tally.{BeforeTally}
+use Rattle.flush.specs.Flush.{BoxOf, BeforeFlush, AfterFlush, AfterDueFlush, quiet}
+use Rattle.flush.proofs.FlushLaws.{laid-easts, laid-norths, laid-cuts, few-easts, few-norths, few-wait}
 
 -- ---- whether nothing follows
 
-module _ (o : Option Box) (c : ℕ) {d : BoxDue} (told : d ≡ dueOf o) where
+module _ (o : Option Box) (c : ℕ) {d : BoxDue} (told : dueOf d ≡ o) where
   pub quiet-not : (m : BoxAt) → d ≡ Flush m → false ≡ quiet o c
   unfolding quiet
-  quiet-not m e = rw (due-some o m (sym told ∙ e)) refl
+  quiet-not m e = rw (means-flush told m e) refl
 
   pub quiet-early : d ≡ Nothing → ltb c sweepEvery ≡ quiet o c
   unfolding quiet
-  quiet-early e = rw (due-none o (sym told ∙ e)) refl
+  quiet-early e = rw (means-nothing told e) refl
 
-pub quiet-due : (o : Option Box) (c : ℕ) → quiet o c ≡ true → (Nothing ≡ dueOf o) × (c < sweepEvery)
+pub quiet-due : (o : Option Box) (c : ℕ) → quiet o c ≡ true → (o ≡ none) × (c < sweepEvery)
 unfolding quiet
 quiet-due none c e = (refl, ltb-true c sweepEvery e)
 quiet-due (some m) c e = let z : _≡_ {A = ℕ} 0 1 = cc in absurd (omega arith)
 
 -- ---- the flush
 
-module _ {grid : Grid} {waiting : Waiting} {memo : Memo} {b : List ℕ} (x : Reported grid waiting memo b) where
+module _ {grid : Grid} {waiting : Waiting} {memo : Memo} {b : List ℕ} (x : BeforeFlush grid waiting memo b) where
   -- what `box_due` asks
   pub due-asks : (waiting .n ≤ fullMemory) × (grid .easts .n ≤ maxCuts) × (grid .norths .n ≤ maxCuts)
   due-asks = (few-wait x, few-easts x, few-norths x)
 
-  module _ (p : Place) {o : BoxDue}
-      (told : o ≡ dueOf (boxToFlush (cutsBy (grid .easts) (grid .norths)) (waitingIn (cutsBy (grid .easts) (grid .norths)) (reportsOf waiting)) (length (reportsOf waiting)) p)) where
-    due-told : o ≡ dueOf (flushDue (x .store) p)
-    unfolding flushDue
-    due-told =
-        told
-        ∙ ap₂ (λ (c : Cuts) (w : Rows Report). dueOf (boxToFlush c (waitingIn c w) (length w) p)) (holds-cuts (x .holds)) (reports-laid (x .waiting-is))
+  due-told : (p : Place)
+      → boxToFlush (cutsBy (grid .easts) (grid .norths)) (waitingIn (cutsBy (grid .easts) (grid .norths)) (reportsOf waiting)) (length (reportsOf waiting)) p ≡ flushDue (x .store) p
+  unfolding flushDue
+  due-told p = ap₂ (λ (c : Cuts) (w : Rows Report). boxToFlush c (waitingIn c w) (length w) p) (laid-cuts (x .laid .in-memo)) (reports-laid (x .laid .waiting-is))
 
-    -- none is
-    pub after-nothing : o ≡ Nothing → After (x .store) p grid waiting memo b
-    unfolding afterReport
-    after-nothing e =
-        let z : flushDue (x .store) p ≡ none = due-none (flushDue (x .store) p) (sym due-told ∙ e) in
-        record { pick = 0; permitted = rw z refl; holds = rw z (x .holds); waiting-is = rw z (x .waiting-is) }
+  -- none is
+  pub after-none : (p : Place)
+      → boxToFlush (cutsBy (grid .easts) (grid .norths)) (waitingIn (cutsBy (grid .easts) (grid .norths)) (reportsOf waiting)) (length (reportsOf waiting)) p ≡ none
+      → AfterDueFlush (x .store) p grid waiting memo b
+  unfolding afterReport
+  after-none p e =
+      let z : flushDue (x .store) p ≡ none = sym (due-told p) ∙ e in
+      record { pick = 0; permitted = rw z refl; laid = rw z (x .laid) }
+
+  module _ (p : Place) {o : BoxDue}
+      (told : dueOf o ≡ boxToFlush (cutsBy (grid .easts) (grid .norths)) (waitingIn (cutsBy (grid .easts) (grid .norths)) (reportsOf waiting)) (length (reportsOf waiting)) p) where
+    pub after-nothing : o ≡ Nothing → AfterDueFlush (x .store) p grid waiting memo b
+    after-nothing e = after-none p (means-nothing told e)
 
     -- m is: `flush` may be called, and what it leaves
     module _ (m : BoxAt) (e : o ≡ Flush m) where
       due-is : flushDue (x .store) p ≡ some (boxIn m)
-      due-is = due-some (flushDue (x .store) p) m (sym due-told ∙ e)
+      due-is = means-flush (told ∙ due-told p) m e
 
       due-boxed : Boxed (x .store .cuts) (boxIn m)
       unfolding flushDue
       due-boxed = boxed-due (x .store .cuts) (waitingIn (x .store .cuts) (x .store .waiting)) (length (x .store .waiting)) p (boxIn m) due-is
 
-      pub flush-asks : Reported grid waiting memo b × (m .east ≤ grid .easts .n) × (m .north ≤ grid .norths .n)
-      flush-asks = let k = boxed-counts (holds-easts (x .holds)) (holds-norths (x .holds)) due-boxed in (x, k .0, k .1)
+      pub flush-asks : BeforeFlush grid waiting memo b × BoxOf (grid .easts) (grid .norths) m
+      flush-asks = let k = boxed-counts (laid-easts (x .laid .in-memo)) (laid-norths (x .laid .in-memo)) due-boxed in (x, (k .0, k .1))
 
       pub after-flush : {g : Grid} {w : Waiting} {lines : Memo} {b′ : List ℕ}
-          → ((y : Reported grid waiting memo b) → Flushes (y .store) (boxIn m) g w lines b′) → After (x .store) p g w lines b′
+          → ((y : BeforeFlush grid waiting memo b) → AfterFlush (y .store) (boxIn m) g w lines b′) → AfterDueFlush (x .store) p g w lines b′
       unfolding afterReport
       after-flush {g = g} {w = w} {lines = lines} {b′ = b′} f =
           let k = f x in
-          record { pick = k .pick; permitted = rw due-is (k .permitted); holds = rw due-is (k .holds); waiting-is = rw due-is (k .waiting-is) }
+          record { pick = k .pick; permitted = rw due-is (k .permitted); laid = rw due-is (k .laid) }
 
 -- ---- on to the tally
 
 -- what `tick` asks, where no memory cell but that of p was full
-abbrev pub after-tallied : {grid : Grid} {waiting : Waiting} {memo : Memo} {b : List ℕ} (x : Reported grid waiting memo b) (p : Place) (tally : ℕ) {g : Grid} {w : Waiting} {lines : Memo} {b′ : List ℕ}
+abbrev pub after-tallied : {grid : Grid} {waiting : Waiting} {memo : Memo} {b : List ℕ} (x : BeforeFlush grid waiting memo b) (p : Place) (tally : ℕ) {g : Grid} {w : Waiting} {lines : Memo} {b′ : List ℕ}
     → ((n : Box) → sameBox n (boxOf (x .store .cuts) p) ≡ false → waitingIn (x .store .cuts) (x .store .waiting) n < fullBox)
-    → After (x .store) p g w lines b′ → tally ≡ x .store .tally → Tallied g lines tally b′
+    → AfterDueFlush (x .store) p g w lines b′ → tally ≡ x .store .tally → BeforeTally g lines tally b′
 after-tallied x p tally others-few a e =
     let s = x .store in
     let same = after-tally (a .pick) p s in
     record {
       store = afterReport (a .pick) p s;
       early = omega (arith, same, x .early);
-      done = subst (λ (c : ℕ). Done (afterReport (a .pick) p s) (c + 1)) (sym same) (report-done (a .pick) p s (s .tally + 1) (x .staged .core) (x .staged .bounded) (omega (arith, x .early)) (x .few) others-few);
-      holds = a .holds;
+      roomy = subst (λ (c : ℕ). MidCallRoomy (afterReport (a .pick) p s) (c + 1)) (sym same) (report-done (a .pick) p s (s .tally + 1) (x .mid .core) (x .mid .bounded) (omega (arith, x .early)) (x .few) others-few);
+      laid = a .laid .in-memo;
       tally-is = e ∙ sym same;
     }

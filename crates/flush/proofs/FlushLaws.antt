@@ -1,7 +1,7 @@
 -- A flush: the cell of m is found, swept, and takes the reports of m; what is left at hand is the middle of a flush, and the reports of m wait no longer.
 use mathlib.Core.Bool.{true, not}
 use mathlib.Core.List.{List}
-use mathlib.Core.Option.{some}
+use mathlib.Core.Option.{Option, some}
 use mathlib.Core.Path.{_≡_, refl, sym, ap, _∙_}
 use Prim.Native.Nat.{ℕ, _+_, _≤_}
 use native.Mathlib.Omega.{arith}
@@ -10,7 +10,7 @@ use lib.Seq.{length-take-le}
 use Rattle.terms.specs.Terms.{Place, maxOn, pages}
 use Rattle.lists.specs.Rows.{Rows}
 use Rattle.lists.specs.Sums.{filter}
-use Rattle.lists.proofs.AmongLaws.{Among}
+use Rattle.lists.specs.Among.{Among}
 use Rattle.entries.specs.Entries.{rowsOf}
 use Rattle.page.specs.Buffer.{pagesOf}
 use Rattle.rules.specs.Limits.{maxCells, maxCuts, fullMemory}
@@ -18,18 +18,20 @@ use Rattle.rules.specs.Grid.{eastward, northward, inside, Cuts, Box, cornerOf}
 use Rattle.rules.specs.Store.{Report, Cell, Store, cellAt}
 use Rattle.rules.specs.Sweep.{sweptMemo, swept}
 use Rattle.rules.specs.Flush.{Flushed, flushedInto, inBox, cellOfBox, flush, allowedFlush}
+use Rattle.rules.specs.Midway.{MidFlush}
 use Rattle.rules.proofs.CutLaws.{reshaped-waiting}
-use Rattle.rules.proofs.FlushLaws.{Ready, ready, waiting-flushed}
+use Rattle.rules.proofs.FlushLaws.{ready, waiting-flushed}
 use Rattle.rules.proofs.TilingLaws.{cellAt-split, home-some}
 use Rattle.desk.specs.declared.Grid.{Grid}
 use Rattle.desk.specs.declared.Waiting.{Waiting}
 use Rattle.desk.specs.declared.Memo.{Memo}
 use Rattle.desk.specs.Layout.{cutListOf, gridOf, waitingOf}
 use Rattle.desk.specs.Views.{cutsBy, slotsIn}
+use Rattle.desk.specs.Laid.{LaidGrid, LaidMemo}
 use Rattle.boxes.specs.declared.BoxAt.{BoxAt}
 use Rattle.boxes.specs.Boxes.{boxIn}
 use Rattle.waiting.specs.Waiting.{reportsOf, WholeWaiting}
-use Rattle.boxes.proofs.BoxLaws.{cuts-laid}
+use Rattle.desk.proofs.UniqueLaws.{cuts-laid}
 use Rattle.waiting.proofs.WaitingLaws.{reports-laid, whole-laid, count-laid}
 use Rattle.directory.specs.declared.FoundCell.{FoundCell}
 use Rattle.directory.specs.declared.FoundCell.the-variants.{At, Nowhere}
@@ -41,98 +43,100 @@ use Rattle.sweep.specs.declared.Swept.{Swept}
 use Rattle.memo.specs.Memo.{memoIn}
 use Rattle.enter.specs.Enter.{Held, heldIn, Enterable, Entered}
 use Rattle.enter.proofs.RoomLaws.{enter-asks, enter-gives}
-use Rattle.cell_last.specs.Loose.{Midway, Lays}
-use Rattle.reshape.specs.Reshape.{Reshapes}
-use Rattle.cell_last.proofs.MovedLaws.{lays-same}
+use Rattle.cell_last.specs.Settling.{HandFits, BeforeReshape}
+use Rattle.reshape.specs.Reshape.{AfterReshape}
+use Rattle.cell_last.proofs.MovedLaws.{grid-same}
 use Rattle.tally.specs.declared.Hand.{Hand}
-use Rattle.tally.specs.Tally.{Holds, AtPlace, InHand}
-use Rattle.tally.proofs.HandLaws.{holds-lays, holds-cells, among-place}
-use Rattle.flush.specs.Flush.{Reported, Homed, Flushes}
+use Rattle.tally.specs.Tally.{BeforeSweepAt, InHand}
+use Rattle.tally.proofs.HandLaws.{laid-cells, among-place}
+use Rattle.flush.specs.Flush.{FewCuts, BoxOf, BeforeFlush, BeforeEnter, AfterFlush}
 
 -- ---- the cell of m
 
 -- it is looked for by its corner
-pub home-found : (grid : Grid) (m : BoxAt) (corner : Corner) {r : FoundCell} → placeOf corner ≡ cornerOf (cutsBy (grid .easts) (grid .norths)) (boxIn m)
-    → r ≡ foundAt (slotAt (slotsIn (grid .cells)) (placeOf corner)) → r ≡ foundAt (slotAt (slotsIn (grid .cells)) (cornerOf (cutsBy (grid .easts) (grid .norths)) (boxIn m)))
-home-found grid m corner e f = f ∙ ap (λ (p : Place). foundAt (slotAt (slotsIn (grid .cells)) p)) e
+pub home-found : (grid : Grid) (m : BoxAt) (corner : Corner) {at : Option ℕ} → placeOf corner ≡ cornerOf (cutsBy (grid .easts) (grid .norths)) (boxIn m)
+    → at ≡ slotAt (slotsIn (grid .cells)) (placeOf corner) → at ≡ slotAt (slotsIn (grid .cells)) (cornerOf (cutsBy (grid .easts) (grid .norths)) (boxIn m))
+home-found grid m corner e f = f ∙ ap (λ (p : Place). slotAt (slotsIn (grid .cells)) p) e
 
 home-is : (s : Store) (m : Box) {d : Cell} → cellAt (s .cells) (cornerOf (s .cuts) m) ≡ some d → cellOfBox s m ≡ some d
 unfolding cellOfBox
 home-is s m e = e
 
-module _ {s : Store} {grid : Grid} {memo : Memo} {b : List ℕ} (h : Holds s grid memo b) where
-  pub holds-easts : grid .easts ≡ cutListOf (s .cuts .easts)
+module _ {s : Store} {grid : Grid} {memo : Memo} {b : List ℕ} (h : LaidMemo s grid memo b) where
+  pub laid-easts : grid .easts ≡ cutListOf (s .cuts .easts)
   unfolding gridOf
-  holds-easts = ap (λ (g : Grid). g .easts) (h .grid-is)
+  laid-easts = ap (λ (g : Grid). g .easts) (h .in-grid .grid-is)
 
-  pub holds-norths : grid .norths ≡ cutListOf (s .cuts .norths)
+  pub laid-norths : grid .norths ≡ cutListOf (s .cuts .norths)
   unfolding gridOf
-  holds-norths = ap (λ (g : Grid). g .norths) (h .grid-is)
+  laid-norths = ap (λ (g : Grid). g .norths) (h .in-grid .grid-is)
 
-  pub holds-cuts : cutsBy (grid .easts) (grid .norths) ≡ s .cuts
-  holds-cuts = λ i. record { easts = cuts-laid holds-easts i; norths = cuts-laid holds-norths i }
+  pub laid-cuts : cutsBy (grid .easts) (grid .norths) ≡ s .cuts
+  laid-cuts = λ i. record { easts = cuts-laid laid-easts i; norths = cuts-laid laid-norths i }
 
-module _ {grid : Grid} {waiting : Waiting} {memo : Memo} {b : List ℕ} (x : Reported grid waiting memo b) where
+module _ {grid : Grid} {waiting : Waiting} {memo : Memo} {b : List ℕ} (x : BeforeFlush grid waiting memo b) where
   pub few-easts : grid .easts .n ≤ maxCuts
-  few-easts = omega (arith, cuts-count (x .store .cuts .easts) (holds-easts (x .holds)), x .staged .core .tiling .few-cuts eastward)
+  few-easts = omega (arith, cuts-count (x .store .cuts .easts) (laid-easts (x .laid .in-memo)), x .mid .core .tiling .few-cuts eastward)
 
   pub few-norths : grid .norths .n ≤ maxCuts
-  few-norths = omega (arith, cuts-count (x .store .cuts .norths) (holds-norths (x .holds)), x .staged .core .tiling .few-cuts northward)
+  few-norths = omega (arith, cuts-count (x .store .cuts .norths) (laid-norths (x .laid .in-memo)), x .mid .core .tiling .few-cuts northward)
 
   pub few-wait : waiting .n ≤ fullMemory
-  few-wait = omega (arith, count-laid waiting (x .store .waiting) (x .waiting-is), x .few)
+  few-wait = omega (arith, count-laid waiting (x .store .waiting) (x .laid .waiting-is), x .few)
 
   -- what `home_of` asks
-  pub home-asks : (m : BoxAt) → m .east ≤ grid .easts .n → m .north ≤ grid .norths .n
-      → (grid .easts .n ≤ maxCuts) × (grid .norths .n ≤ maxCuts) × (m .east ≤ grid .easts .n) × (m .north ≤ grid .norths .n) × (grid .cells .n ≤ maxCells)
-  home-asks m e n = (few-easts, few-norths, e, n, omega (arith, directory-count (x .store .cells) (holds-cells (x .holds)), x .staged .core .tiling .few-cells))
+  pub home-asks : (m : BoxAt) → BoxOf (grid .easts) (grid .norths) m
+      → FewCuts (grid .easts) (grid .norths) × BoxOf (grid .easts) (grid .norths) m × (grid .cells .n ≤ maxCells)
+  home-asks m k = ((few-easts, few-norths), k, omega (arith, directory-count (x .store .cells) (laid-cells (x .laid .in-memo)), x .mid .core .tiling .few-cells))
 
-  module _ (m : BoxAt) {o : FoundCell} (told : o ≡ foundAt (slotAt (slotsIn (grid .cells)) (cornerOf (cutsBy (grid .easts) (grid .norths)) (boxIn m)))) where
-    found-told : o ≡ foundAt (slotAt (slotsIn (grid .cells)) (cornerOf (x .store .cuts) (boxIn m)))
-    found-told = told ∙ ap (λ (c : Cuts). foundAt (slotAt (slotsIn (grid .cells)) (cornerOf c (boxIn m)))) (holds-cuts (x .holds))
+  corner-told : (m : BoxAt)
+      → slotAt (slotsIn (grid .cells)) (cornerOf (cutsBy (grid .easts) (grid .norths)) (boxIn m))
+      ≡ slotAt (slotsIn (grid .cells)) (cornerOf (x .store .cuts) (boxIn m))
+  corner-told m = ap (λ (c : Cuts). slotAt (slotsIn (grid .cells)) (cornerOf c (boxIn m))) (laid-cuts (x .laid .in-memo))
 
+  module _ (m : BoxAt) {o : FoundCell} (told : foundAt o ≡ slotAt (slotsIn (grid .cells)) (cornerOf (cutsBy (grid .easts) (grid .norths)) (boxIn m))) where
     -- it is found: each memory cell has one
-    pub homed : {at : ℕ} → o ≡ At at → Homed grid at waiting memo (boxIn m) b
+    pub homed : {at : ℕ} → o ≡ At at → BeforeEnter grid at waiting memo (boxIn m) b
     homed e =
-        let h = home-some (x .store .cuts) (x .store .cells) (boxIn m) (x .staged .core .tiling) in
+        let h = home-some (x .store .cuts) (x .store .cells) (boxIn m) (x .mid .core .tiling) in
         record {
-          reported = x;
+          before = x;
           cell = h .0;
           home = home-is (x .store) (boxIn m) (h .1);
-          stands = found-cell (x .store .cells) (holds-cells (x .holds)) (cornerOf (x .store .cuts) (boxIn m)) (h .0) (h .1) found-told e;
+          stands = found-cell (x .store .cells) (laid-cells (x .laid .in-memo)) (cornerOf (x .store .cuts) (boxIn m)) (h .0) (h .1) (told ∙ corner-told m) e;
         }
 
     pub homed-not : {P : Type 0} → o ≡ Nowhere → P
     homed-not e =
-        let h = home-some (x .store .cuts) (x .store .cells) (boxIn m) (x .staged .core .tiling) in
-        found-not (x .store .cells) (holds-cells (x .holds)) (cornerOf (x .store .cuts) (boxIn m)) (h .0) (h .1) found-told e
+        let h = home-some (x .store .cuts) (x .store .cells) (boxIn m) (x .mid .core .tiling) in
+        found-not (x .store .cells) (laid-cells (x .laid .in-memo)) (cornerOf (x .store .cuts) (boxIn m)) (h .0) (h .1) (told ∙ corner-told m) e
 
   -- what `cleared` asks
   pub clear-asks : (waiting .n ≤ fullMemory) × WholeWaiting waiting × (grid .easts .n ≤ maxCuts) × (grid .norths .n ≤ maxCuts)
-  clear-asks = (few-wait, whole-laid waiting (x .store .waiting) (x .waiting-is), few-easts, few-norths)
+  clear-asks = (few-wait, whole-laid waiting (x .store .waiting) (x .laid .waiting-is), few-easts, few-norths)
 
 -- ---- d swept, with the reports of m
 
-module _ {grid : Grid} {at : ℕ} {waiting : Waiting} {memo : Memo} (m : BoxAt) {b : List ℕ} (x : Homed grid at waiting memo (boxIn m) b) where
+module _ {grid : Grid} {at : ℕ} {waiting : Waiting} {memo : Memo} (m : BoxAt) {b : List ℕ} (x : BeforeEnter grid at waiting memo (boxIn m) b) where
   abbrev store : Store
-  store = x .reported .store
+  store = x .before .store
 
   abbrev into : Flushed
   into = flushedInto (boxIn m) store (x .cell)
 
-  abbrev pub home-place : AtPlace grid at memo b
+  abbrev pub home-place : BeforeSweepAt grid at memo b
   home-place = record {
     store = store;
     c = store .tally + 1;
-    staged = x .reported .staged;
-    late = omega (arith, x .reported .early);
-    holds = x .reported .holds;
+    mid = x .before .mid;
+    late = omega (arith, x .before .early);
+    laid = x .before .laid .in-memo;
     cell = x .cell;
     stands = x .stands;
   }
 
   -- `swept_at` has swept it
-  module _ (hand : Hand) (ws : List ℕ) (given : (y : AtPlace grid at memo b) → InHand (swept (y .store .memo) (y .cell)) (sweptMemo (y .store .memo) (y .cell .entries)) hand ws) where
+  module _ (hand : Hand) (ws : List ℕ) (given : (y : BeforeSweepAt grid at memo b) → InHand (swept (y .store .memo) (y .cell)) (sweptMemo (y .store .memo) (y .cell .entries)) hand ws) where
     abbrev from : Held
     from = heldIn (hand .table) (hand .lines) ws
 
@@ -145,16 +149,16 @@ module _ {grid : Grid} {at : ℕ} {waiting : Waiting} {memo : Memo} (m : BoxAt) 
     -- what `enter_all` asks
     pub entered-asks : (grid .easts .n ≤ maxCuts) × (grid .norths .n ≤ maxCuts) × (waiting .n ≤ fullMemory) × Enterable from entering
     entered-asks =
-        let r = x .reported in
-        enter-asks store (x .cell) m (grid .easts) (grid .norths) waiting from (holds-easts (r .holds)) (holds-norths (r .holds)) (r .waiting-is) (cell-swept .rows) (cell-swept .memo-is)
-        (r .staged) (omega (arith, r .early)) (x .home) (r .few) (cell-swept .count)
+        let r = x .before in
+        enter-asks store (x .cell) m (grid .easts) (grid .norths) waiting from (laid-easts (r .laid .in-memo)) (laid-norths (r .laid .in-memo)) (r .laid .waiting-is) (cell-swept .rows) (cell-swept .memo-is)
+        (r .mid) (omega (arith, r .early)) (x .home) (r .few) (cell-swept .count)
 
     -- what it leaves
     pub entered-gives : (r : Swept) {ws′ : List ℕ} → Entered from entering (heldIn (r .table) (r .lines) ws′) → InHand (into .cell) (into .store .memo) (record { chain = hand .chain; table = r .table; lines = r .lines }) ws′
     unfolding flushedInto swept
     entered-gives r {ws′} e =
-        let y = x .reported in
-        let k = enter-gives store (x .cell) m (grid .easts) (grid .norths) waiting from (holds-easts (y .holds)) (holds-norths (y .holds)) (y .waiting-is) (cell-swept .rows) (cell-swept .memo-is) (heldIn (r .table) (r .lines) ws′) e in
+        let y = x .before in
+        let k = enter-gives store (x .cell) m (grid .easts) (grid .norths) waiting from (laid-easts (y .laid .in-memo)) (laid-norths (y .laid .in-memo)) (y .laid .waiting-is) (cell-swept .rows) (cell-swept .memo-is) (heldIn (r .table) (r .lines) ws′) e in
         record {
           bound = cell-swept .bound;
           chained = cell-swept .chained;
@@ -173,20 +177,20 @@ module _ {grid : Grid} {at : ℕ} {waiting : Waiting} {memo : Memo} (m : BoxAt) 
   unfolding cellOfBox
   home-inside = cellAt-split (store .cells) (cornerOf (store .cuts) (boxIn m)) (x .cell) (x .home) .1
 
-  into-lays : Lays (into .store) grid b
+  into-laid : LaidGrid (into .store) grid b
   unfolding flushedInto
-  into-lays = lays-same store (into .store) refl refl refl (holds-lays (x .reported .holds))
+  into-laid = grid-same store (into .store) refl refl refl (x .before .laid .in-memo .in-grid)
 
-  into-ready : Ready into (x .cell) (among .before) (among .after) (store .memo) (length (filter (inBox (store .cuts) (boxIn m)) (store .waiting))) (store .tally + 1)
+  into-ready : MidFlush into (x .cell) (among .before) (among .after) (store .memo) (length (filter (inBox (store .cuts) (boxIn m)) (store .waiting))) (store .tally + 1)
   into-ready =
-      let r = x .reported in
-      let k = r .staged .core in
-      ready (boxIn m) store (x .cell) k among home-inside (store .tally + 1) (r .staged .bounded) (omega (arith, r .early))
+      let r = x .before in
+      let k = r .mid .core in
+      ready (boxIn m) store (x .cell) k among home-inside (store .tally + 1) (r .mid .bounded) (omega (arith, r .early))
       (omega (arith, waiting-flushed (boxIn m) store (x .cell) k among home-inside, r .few))
 
   -- `entered` has entered the reports
-  module _ (hand : Hand) (ws : List ℕ) (given : (y : Homed grid at waiting memo (boxIn m) b) → InHand (flushedInto (boxIn m) (y .reported .store) (y .cell) .cell) (flushedInto (boxIn m) (y .reported .store) (y .cell) .store .memo) hand ws) where
-    midway : Midway grid at (pagesOf (hand .chain)) (rowsOf (hand .table)) (memoIn (hand .lines) ws) b
+  module _ (hand : Hand) (ws : List ℕ) (given : (y : BeforeEnter grid at waiting memo (boxIn m) b) → InHand (flushedInto (boxIn m) (y .before .store) (y .cell) .cell) (flushedInto (boxIn m) (y .before .store) (y .cell) .store .memo) hand ws) where
+    midway : BeforeReshape grid at (pagesOf (hand .chain)) (rowsOf (hand .table)) (memoIn (hand .lines) ws) b
     midway =
         let i = given x in
         record {
@@ -197,46 +201,43 @@ module _ {grid : Grid} {at : ℕ} {waiting : Waiting} {memo : Memo} (m : BoxAt) 
           lines = store .memo;
           n = length (filter (inBox (store .cuts) (boxIn m)) (store .waiting));
           c = store .tally + 1;
-          ready = into-ready;
-          late = omega (arith, x .reported .early);
+          mid = into-ready;
+          late = omega (arith, x .before .early);
           place = sym (length-take-le at (store .cells) (omega (arith, x .stands .inside)));
-          held = into-lays .held;
           chained = i .chained;
           entered = i .rows;
-          noted = i .memo-is;
-          laid = into-lays .laid;
+          laid = record { in-grid = into-laid; memo-is = i .memo-is };
         }
 
     -- what `reshape` asks
-    pub reshape-asks : (hand .chain .n ≤ pages) × (hand .table .n ≤ maxOn) × (hand .table .n ≡ length (rowsOf (hand .table))) × Midway grid at (pagesOf (hand .chain)) (rowsOf (hand .table)) (memoIn (hand .lines) ws) b
-    reshape-asks = let i = given x in (i .bound, i .few, i .count ∙ ap length (sym (i .rows)), midway)
+    pub reshape-asks : HandFits (hand .chain) (hand .table) × (hand .table .n ≡ length (rowsOf (hand .table))) × BeforeReshape grid at (pagesOf (hand .chain)) (rowsOf (hand .table)) (memoIn (hand .lines) ws) b
+    reshape-asks = let i = given x in ((i .bound, i .few), i .count ∙ ap length (sym (i .rows)), midway)
 
     -- what it leaves
     reshape-gives : {g : Grid} {lines : Memo} {b′ : List ℕ}
-        → ((y : Midway grid at (pagesOf (hand .chain)) (rowsOf (hand .table)) (memoIn (hand .lines) ws) b) → Reshapes (y .flushed) g lines b′) → Reshapes into g lines b′
+        → ((y : BeforeReshape grid at (pagesOf (hand .chain)) (rowsOf (hand .table)) (memoIn (hand .lines) ws) b) → AfterReshape (y .flushed) g lines b′) → AfterReshape into g lines b′
     unfolding midway
     reshape-gives f = f midway
 
   waiting-left : waitingOf (filter (λ v. not (inBox (cutsBy (grid .easts) (grid .norths)) (boxIn m) v)) (reportsOf waiting)) ≡ waitingOf (into .store .waiting)
   unfolding flushedInto
   waiting-left =
-      rw (reports-laid (x .reported .waiting-is)) (ap (λ (c : Cuts). waitingOf (filter (λ v. not (inBox c (boxIn m) v)) (store .waiting))) (holds-cuts (x .reported .holds)))
+      rw (reports-laid (x .before .laid .waiting-is)) (ap (λ (c : Cuts). waitingOf (filter (λ v. not (inBox c (boxIn m) v)) (store .waiting))) (laid-cuts (x .before .laid .in-memo)))
 
-  flush-gives : {g : Grid} {w : Waiting} {lines : Memo} {b′ : List ℕ} → Reshapes into g lines b′
-      → w ≡ waitingOf (filter (λ v. not (inBox (cutsBy (grid .easts) (grid .norths)) (boxIn m) v)) (reportsOf waiting)) → Flushes store (boxIn m) g w lines b′
+  flush-gives : {g : Grid} {w : Waiting} {lines : Memo} {b′ : List ℕ} → AfterReshape into g lines b′
+      → w ≡ waitingOf (filter (λ v. not (inBox (cutsBy (grid .easts) (grid .norths)) (boxIn m) v)) (reportsOf waiting)) → AfterFlush store (boxIn m) g w lines b′
   unfolding flush allowedFlush
   flush-gives {g = g} {w = w} {lines = lines} {b′ = b′} z e = record {
     pick = z .pick;
     permitted = rw (x .home) (z .permitted);
-    holds = rw (x .home) (record { grid-is = z .lays .held; memo-is = z .noted; laid = z .lays .laid });
-    waiting-is = rw (x .home) (e ∙ waiting-left ∙ ap waitingOf (sym (reshaped-waiting (z .pick) into)));
+    laid = rw (x .home) (record { in-memo = z .laid; waiting-is = e ∙ waiting-left ∙ ap waitingOf (sym (reshaped-waiting (z .pick) into)) });
   }
 
 -- the whole, in the words of the calls
-pub flush-returns : {grid : Grid} {waiting : Waiting} {memo : Memo} {b : List ℕ} (x : Reported grid waiting memo b) (m : BoxAt) {o : FoundCell} {at : ℕ}
-    → o ≡ foundAt (slotAt (slotsIn (grid .cells)) (cornerOf (cutsBy (grid .easts) (grid .norths)) (boxIn m))) → o ≡ At at
-    → (hand : Hand) (ws : List ℕ) → ((y : Homed grid at waiting memo (boxIn m) b) → InHand (flushedInto (boxIn m) (y .reported .store) (y .cell) .cell) (flushedInto (boxIn m) (y .reported .store) (y .cell) .store .memo) hand ws)
-    → {g : Grid} {w : Waiting} {lines : Memo} {b′ : List ℕ} → ((y : Midway grid at (pagesOf (hand .chain)) (rowsOf (hand .table)) (memoIn (hand .lines) ws) b) → Reshapes (y .flushed) g lines b′)
-    → w ≡ waitingOf (filter (λ v. not (inBox (cutsBy (grid .easts) (grid .norths)) (boxIn m) v)) (reportsOf waiting)) → Flushes (x .store) (boxIn m) g w lines b′
+pub flush-returns : {grid : Grid} {waiting : Waiting} {memo : Memo} {b : List ℕ} (x : BeforeFlush grid waiting memo b) (m : BoxAt) {o : FoundCell} {at : ℕ}
+    → foundAt o ≡ slotAt (slotsIn (grid .cells)) (cornerOf (cutsBy (grid .easts) (grid .norths)) (boxIn m)) → o ≡ At at
+    → (hand : Hand) (ws : List ℕ) → ((y : BeforeEnter grid at waiting memo (boxIn m) b) → InHand (flushedInto (boxIn m) (y .before .store) (y .cell) .cell) (flushedInto (boxIn m) (y .before .store) (y .cell) .store .memo) hand ws)
+    → {g : Grid} {w : Waiting} {lines : Memo} {b′ : List ℕ} → ((y : BeforeReshape grid at (pagesOf (hand .chain)) (rowsOf (hand .table)) (memoIn (hand .lines) ws) b) → AfterReshape (y .flushed) g lines b′)
+    → w ≡ waitingOf (filter (λ v. not (inBox (cutsBy (grid .easts) (grid .norths)) (boxIn m) v)) (reportsOf waiting)) → AfterFlush (x .store) (boxIn m) g w lines b′
 unfolding homed
 flush-returns x m told e hand ws given f w = let y = homed x m told e in flush-gives m y (reshape-gives m y hand ws given f) w

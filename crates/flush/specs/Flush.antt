@@ -1,4 +1,4 @@
--- What a flush finds and leaves of the desk's parts and the pages in the middle of a call, and whether anything follows a report (01, "Flush", "How a record is carried out").
+-- What a flush finds and leaves of the desk's parts and the pages, and whether anything follows a report (01, "Flush", "How a record is carried out").
 use mathlib.Core.Bool.{Bool, true, false}
 use mathlib.Core.List.{List}
 use mathlib.Core.Option.{Option, none, some}
@@ -7,52 +7,60 @@ use Prim.Native.Nat.{ℕ, _+_, _≤_, _<_}
 use lib.Dec.{ltb}
 use lib.ListN.{length}
 use Rattle.terms.specs.Terms.{Place}
-use Rattle.rules.specs.Limits.{fullMemory, sweepEvery}
+use Rattle.rules.specs.Limits.{maxCuts, fullMemory, sweepEvery}
 use Rattle.rules.specs.Grid.{Box}
 use Rattle.rules.specs.Store.{Cell, Store}
 use Rattle.rules.specs.Flush.{cellOfBox, flush, allowedFlush}
 use Rattle.rules.specs.Carry.{flushDue, afterReport, allowedIf}
-use Rattle.rules.proofs.FlushLaws.{Staged}
+use Rattle.rules.specs.Midway.{MidCall}
+use Rattle.desk.specs.declared.CutList.{CutList}
 use Rattle.desk.specs.declared.Grid.{Grid}
 use Rattle.desk.specs.declared.Waiting.{Waiting}
 use Rattle.desk.specs.declared.Memo.{Memo}
-use Rattle.desk.specs.Layout.{waitingOf}
-use Rattle.directory.proofs.DirectoryLaws.{Stands}
-use Rattle.tally.specs.Tally.{Holds}
+use Rattle.desk.specs.Laid.{LaidWaiting}
+use Rattle.boxes.specs.declared.BoxAt.{BoxAt}
+use Rattle.directory.specs.Directory.{Stands}
+
+-- ---- what is asked of numbers in the desk
+
+-- "at most 15 east cuts and 15 north cuts"
+abbrev pub FewCuts : CutList → CutList → Type 0
+FewCuts easts norths = (easts .n ≤ maxCuts) × (norths .n ≤ maxCuts)
+
+-- a memory cell of these cuts
+abbrev pub BoxOf : CutList → CutList → BoxAt → Type 0
+BoxOf easts norths m = (m .east ≤ easts .n) × (m .north ≤ norths .n)
 
 -- ---- a flush
 
--- after a sign-on's or a report's own effect: the parts hold, and the bound at the tally to come; as many wait as there is room for
-pub record Reported (grid : Grid) (waiting : Waiting) (memo : Memo) (bytes : List ℕ) : Type 0 where
+-- a sign-on's or a report's own effect is done, and a memory cell may be due: as many wait as there is room for
+pub record BeforeFlush (grid : Grid) (waiting : Waiting) (memo : Memo) (bytes : List ℕ) : Type 0 where
   pub store : Store
   pub early : store .tally < sweepEvery
-  pub staged : Staged store (store .tally + 1)
+  pub mid : MidCall store (store .tally + 1)
   pub few : length (store .waiting) ≤ fullMemory
-  pub holds : Holds store grid memo bytes
-  pub waiting-is : waiting ≡ waitingOf (store .waiting)
+  pub laid : LaidWaiting store grid waiting memo bytes
 
--- the cell of m is found at place `at` of the round
-pub record Homed (grid : Grid) (at : ℕ) (waiting : Waiting) (memo : Memo) (m : Box) (bytes : List ℕ) : Type 0 where
-  pub reported : Reported grid waiting memo bytes
+-- the reports of m are to be entered in its cell, found at place `at` of the round
+pub record BeforeEnter (grid : Grid) (at : ℕ) (waiting : Waiting) (memo : Memo) (m : Box) (bytes : List ℕ) : Type 0 where
+  pub before : BeforeFlush grid waiting memo bytes
   pub cell : Cell
-  pub home : cellOfBox (reported .store) m ≡ some cell
-  pub stands : Stands (grid .cells) (reported .store .cells) cell at
+  pub home : cellOfBox (before .store) m ≡ some cell
+  pub stands : Stands (grid .cells) (before .store .cells) cell at
 
 -- m is flushed, with a neighbour that 01 allows where d is joined
-pub record Flushes (s : Store) (m : Box) (grid : Grid) (waiting : Waiting) (memo : Memo) (bytes : List ℕ) : Type 0 where
+pub record AfterFlush (s : Store) (m : Box) (grid : Grid) (waiting : Waiting) (memo : Memo) (bytes : List ℕ) : Type 0 where
   pub pick : ℕ
   pub permitted : allowedFlush pick m s ≡ true
-  pub holds : Holds (flush pick m s) grid memo bytes
-  pub waiting-is : waiting ≡ waitingOf (flush pick m s .waiting)
+  pub laid : LaidWaiting (flush pick m s) grid waiting memo bytes
 
 -- ---- "After sign-on or report"
 
 -- the memory cell that is due is flushed
-pub record After (s : Store) (p : Place) (grid : Grid) (waiting : Waiting) (memo : Memo) (bytes : List ℕ) : Type 0 where
+pub record AfterDueFlush (s : Store) (p : Place) (grid : Grid) (waiting : Waiting) (memo : Memo) (bytes : List ℕ) : Type 0 where
   pub pick : ℕ
   pub permitted : allowedIf pick (flushDue s p) s ≡ true
-  pub holds : Holds (afterReport pick p s) grid memo bytes
-  pub waiting-is : waiting ≡ waitingOf (afterReport pick p s .waiting)
+  pub laid : LaidWaiting (afterReport pick p s) grid waiting memo bytes
 
 -- nothing follows but that the record is counted: no memory cell is due, and c does not come to 16
 unfoldable pub quiet : Option Box → ℕ → Bool

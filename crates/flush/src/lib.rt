@@ -2,7 +2,7 @@
 ghost use mathlib.Core.Path.{_≡_};
 ghost use Prim.Native.Nat.{_+_, _<_, _≤_};
 ghost use lib.ListN.{length};
-ghost use Rattle.rules.specs.Limits.{maxCells, maxCuts, fullMemory, sweepEvery};
+ghost use Rattle.rules.specs.Limits.{maxCells, fullMemory, sweepEvery};
 ghost use Rattle.rules.specs.Grid.{cornerOf};
 ghost use Rattle.rules.specs.Flush.{flushedInto};
 ghost use Rattle.rules.specs.Carry.{waitingIn, boxToFlush};
@@ -12,7 +12,7 @@ ghost use Rattle.boxes.specs.Boxes.{boxIn};
 ghost use Rattle.waiting.specs.Waiting.{reportsOf};
 ghost use Rattle.directory.specs.Directory.{slotAt, foundAt};
 ghost use Rattle.tally.specs.Tally.{InHand};
-ghost use Rattle.flush.specs.Flush.{Reported, Homed, Flushes, After, quiet};
+ghost use Rattle.flush.specs.Flush.{FewCuts, BoxOf, BeforeFlush, BeforeEnter, AfterFlush, AfterDueFlush, quiet};
 use box_due::BoxDue;
 use boxes::BoxAt;
 use desk::CutList;
@@ -26,13 +26,13 @@ use tally::Hand;
 pub struct Emptied {
     pub grid: Grid,
     pub waiting: Waiting,
-    pub lines: usize,
+    pub lines: u16,
 }
 
 // Where the cell of m stands in the round.
 fn home_of(grid: Grid, m: BoxAt) -> FoundCell
-    requires { ⌜ (grid .easts .n ≤ maxCuts) × (grid .norths .n ≤ maxCuts) × (m .east ≤ grid .easts .n) × (m .north ≤ grid .norths .n) × (grid .cells .n ≤ maxCells) ⌝ }
-    ensures { λ r. ⌜ r ≡ foundAt (slotAt (slotsIn (grid .cells)) (cornerOf (cutsBy (grid .easts) (grid .norths)) (boxIn m))) ⌝ }
+    requires { ⌜ FewCuts (grid .easts) (grid .norths) × BoxOf (grid .easts) (grid .norths) m × (grid .cells .n ≤ maxCells) ⌝ }
+    ensures { λ r. ⌜ foundAt r ≡ slotAt (slotsIn (grid .cells)) (cornerOf (cutsBy (grid .easts) (grid .norths)) (boxIn m)) ⌝ }
 {
     let easts = grid.easts;
     let norths = grid.norths;
@@ -48,11 +48,13 @@ fn entered(
     at: usize,
     waiting: Waiting,
     words: &mut [u16; Desk::MEMO_WORDS],
-    lines: usize,
+    lines: u16,
     m: BoxAt,
 ) -> Hand
-    requires { ⌜ Homed grid at waiting (memoIn lines (now words)) (boxIn m) (now buffer) ⌝ }
-    ensures { λ r. ⌜ ((x : Homed grid at waiting (memoIn lines (now (words .entry))) (boxIn m) (now (buffer .entry))) → InHand (flushedInto (boxIn m) (x .reported .store) (x .cell) .cell) (flushedInto (boxIn m) (x .reported .store) (x .cell) .store .memo) r (now (words .exit))) ⌝ }
+    requires { ⌜ BeforeEnter grid at waiting (memoIn lines (now words)) (boxIn m) (now buffer) ⌝ }
+    ensures { λ r. ⌜ ((x : BeforeEnter grid at waiting (memoIn lines (now (words .entry))) (boxIn m) (now (buffer .entry)))
+        → InHand (flushedInto (boxIn m) (x .before .store) (x .cell) .cell) (flushedInto (boxIn m) (x .before .store) (x .cell) .store .memo) r
+        (now (words .exit))) ⌝ }
 {
     let d = tally::swept_at(buffer, grid, at, words, lines);
     let chain = d.chain;
@@ -74,11 +76,12 @@ pub fn flush(
     grid: Grid,
     waiting: Waiting,
     words: &mut [u16; Desk::MEMO_WORDS],
-    lines: usize,
+    lines: u16,
     m: BoxAt,
 ) -> Emptied
-    requires { ⌜ Reported grid waiting (memoIn lines (now words)) (now buffer) × (m .east ≤ grid .easts .n) × (m .north ≤ grid .norths .n) ⌝ }
-    ensures { λ r. ⌜ ((x : Reported grid waiting (memoIn lines (now (words .entry))) (now (buffer .entry))) → Flushes (x .store) (boxIn m) (r .grid) (r .waiting) (memoIn (r .lines) (now (words .exit))) (now (buffer .exit))) ⌝ }
+    requires { ⌜ BeforeFlush grid waiting (memoIn lines (now words)) (now buffer) × BoxOf (grid .easts) (grid .norths) m ⌝ }
+    ensures { λ r. ⌜ ((x : BeforeFlush grid waiting (memoIn lines (now (words .entry))) (now (buffer .entry)))
+        → AfterFlush (x .store) (boxIn m) (r .grid) (r .waiting) (memoIn (r .lines) (now (words .exit))) (now (buffer .exit))) ⌝ }
 {
     let FoundCell::At(at) = home_of(grid, m) else {
         // not reached: each memory cell of a store lies in a cell
@@ -109,12 +112,14 @@ pub fn after_report(
     grid: Grid,
     waiting: Waiting,
     words: &mut [u16; Desk::MEMO_WORDS],
-    lines: usize,
+    lines: u16,
     east: u16,
     north: u16,
 ) -> Emptied
-    requires { ⌜ Reported grid waiting (memoIn lines (now words)) (now buffer) ⌝ }
-    ensures { λ r. ⌜ ((x : Reported grid waiting (memoIn lines (now (words .entry))) (now (buffer .entry))) → After (x .store) (record { east = east; north = north }) (r .grid) (r .waiting) (memoIn (r .lines) (now (words .exit))) (now (buffer .exit))) ⌝ }
+    requires { ⌜ BeforeFlush grid waiting (memoIn lines (now words)) (now buffer) ⌝ }
+    ensures { λ r. ⌜ ((x : BeforeFlush grid waiting (memoIn lines (now (words .entry))) (now (buffer .entry)))
+        → AfterDueFlush (x .store) (record { east = east; north = north }) (r .grid) (r .waiting) (memoIn (r .lines) (now (words .exit)))
+        (now (buffer .exit))) ⌝ }
 {
     let easts = grid.easts;
     let norths = grid.norths;
@@ -137,8 +142,10 @@ pub fn is_quiet(
     east: u16,
     north: u16,
 ) -> bool
-    requires { ⌜ (waiting .n ≤ fullMemory) × (easts .n ≤ maxCuts) × (norths .n ≤ maxCuts) × (tally < sweepEvery) ⌝ }
-    ensures { λ r. ⌜ r ≡ quiet (boxToFlush (cutsBy easts norths) (waitingIn (cutsBy easts norths) (reportsOf waiting)) (length (reportsOf waiting)) (record { east = east; north = north })) (tally + 1) ⌝ }
+    requires { ⌜ (waiting .n ≤ fullMemory) × FewCuts easts norths × (tally < sweepEvery) ⌝ }
+    ensures { λ r. ⌜ r ≡ quiet
+        (boxToFlush (cutsBy easts norths) (waitingIn (cutsBy easts norths) (reportsOf waiting)) (length (reportsOf waiting))
+        (record { east = east; north = north })) (tally + 1) ⌝ }
 {
     match box_due::box_due(easts, norths, waiting, east, north) {
         BoxDue::Flush(_) => false,

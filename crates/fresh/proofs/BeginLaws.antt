@@ -7,7 +7,7 @@ use native.Mathlib.Omega.{arith}
 use lib.Dec.{eqb}
 use lib.ListN.{length, drop}
 use lib.Seq.{drop-at}
-use Rattle.terms.specs.Terms.{Place, pages, noPage, noCell}
+use Rattle.terms.specs.Terms.{Fix, pages, noPage, noCell}
 use Rattle.lists.specs.Parts.{part, put, tab}
 use Rattle.lists.specs.Rows.{Rows}
 use Rattle.lists.specs.Sums.{concat}
@@ -88,12 +88,12 @@ pub freed-end : {b : List ℕ} {p : ℕ} {c : List ℕ} → Freed b p c → p �
 freed-end {b} w e = w .list ∙ ap (λ (n : ℕ). put b pageBytes (freePages (n - 1))) e ∙ ap (put b pageBytes) (sym free-all)
 
 -- page 0, then the free pages
-pub all-written : (b : List ℕ) {c d : List ℕ} (es : Rows Place) → length b ≡ bufferBytes → c ≡ putPage b 0 (pageOf kindFirst noPage 0 (part es 0 0))
+pub all-written : (b : List ℕ) {c d : List ℕ} (es : Rows Fix) → length b ≡ bufferBytes → c ≡ putPage b 0 (pageOf kindFirst noPage 0 (part es 0 0))
     → d ≡ put c pageBytes (drop pageBytes freshPages) → d ≡ pagesOf fresh
 unfolding putPage
 all-written b {c} es l e f =
     let k = length-first in
-    put-then b 0 (pageOf kindFirst noPage 0 []) (freePages (pages - 1)) (e ∙ ap (λ (z : Rows Place). put b 0 (pageOf kindFirst noPage 0 z)) (part-zero es 0)) (f ∙ ap (put c pageBytes) free-all) (omega arith) (omega arith)
+    put-then b 0 (pageOf kindFirst noPage 0 []) (freePages (pages - 1)) (e ∙ ap (λ (z : Rows Fix). put b 0 (pageOf kindFirst noPage 0 z)) (part-zero es 0)) (f ∙ ap (put c pageBytes) free-all) (omega arith) (omega arith)
     ∙ ap (put b 0) (sym fresh-free)
     ∙ put-whole b freshPages (fresh-laid .size ∙ sym l)
     ∙ sym fresh-pages

@@ -11,6 +11,7 @@ ghost use Rattle.page.specs.Buffer.{bufferBytes};
 ghost use Rattle.rules.specs.Store.{fresh};
 ghost use Rattle.desk.specs.Layout.{pagesOf, freshPages};
 ghost use Rattle.fresh.specs.Begin.{Begins};
+use desk::Answer;
 use desk::Desk;
 use entries::Entries;
 use page::BUFFER_BYTES;
@@ -19,13 +20,6 @@ use terms::PAGES;
 
 // "The page buffer isn't 25,600 bytes."
 const WRONG_SIZE: u16 = 1;
-
-// What a call answers: 0 or the number of the check that turned it down, and what it counted.
-#[repr(C)]
-pub struct Answer {
-    pub number: u16,
-    pub count: u16,
-}
 
 pub struct Begun {
     pub desk: Desk,
@@ -75,7 +69,8 @@ fn write_pages(pages: &mut [u8])
 
 // Desk and pages are those of a fresh store, whatever they held; or the page buffer has another size, and every byte is kept.
 pub fn begin(desk: Desk, pages: &mut [u8]) -> Begun
-    ensures { λ r. ⌜ Begins (record { desk = desk; pages = now (pages .entry) }) (record { number = r .answer .number; count = r .answer .count; desk = r .desk; pages = now (pages .exit) }) ⌝ }
+    ensures { λ r. ⌜ Begins (record { desk = desk; pages = now (pages .entry) })
+        (record { number = r .answer .number; count = r .answer .count; desk = r .desk; pages = now (pages .exit) }) ⌝ }
 {
     if pages.len() != BUFFER_BYTES {
         return Begun {

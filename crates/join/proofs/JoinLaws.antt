@@ -7,7 +7,7 @@ use native.Mathlib.Omega.{arith}
 use native.Mathlib.Numerals.{add-one}
 use lib.ListN.{length, getD, drop}
 use lib.Seq.{drop-cons, drop-length}
-use Rattle.terms.specs.Terms.{Place, maxOn, noPage}
+use Rattle.terms.specs.Terms.{Fix, maxOn, noPage}
 use Rattle.lists.specs.Chains.{firstOf}
 use Rattle.lists.specs.Rows.{Row, Rows, Rising, insert, merge}
 use Rattle.lists.proofs.RowsLaws.{rising-above, rising-alter}
@@ -27,11 +27,11 @@ use Rattle.join.specs.Join.{joinedSlot}
 abbrev noEntry : Entry
 noEntry = record { radio = 0; east = 0; north = 0 }
 
-merge-nil : (m : Rows Place) → merge [] m ≡ m
+merge-nil : (m : Rows Fix) → merge [] m ≡ m
 unfolding merge
 merge-nil m = refl
 
-merge-cons : (x : Row Place) (l m : Rows Place) → merge (x ∷ l) m ≡ merge l (insert (x .key) (x .val) m)
+merge-cons : (x : Row Fix) (l m : Rows Fix) → merge (x ∷ l) m ≡ merge l (insert (x .key) (x .val) m)
 unfolding merge
 merge-cons x l m = refl
 
@@ -57,7 +57,7 @@ module _ {from into all : Entries} {i : ℕ} (m : Merging from into all i) where
 
   pub merge-turn : {r : Entries} → i < from .n → rowsOf r ≡ insert (getD (from .all) i noEntry .radio) (placeOf (getD (from .all) i noEntry)) (rowsOf all) → r .n ≤ all .n + 1 → length (r .all) ≡ maxOn → Merging from into r (i + 1)
   merge-turn {r} h e n s =
-      let x : Row Place = rowOf (getD (from .all) i noEntry) in
+      let x : Row Fix = rowOf (getD (from .all) i noEntry) in
       let here : x ≡ getD (rowsOf from) i noRow = rows-get from i h in
       let above : 0 < getD (rowsOf from) i noRow .key = each-getD (λ y. 0 < y .key) (rowsOf from) i noRow (rising-above 0 (rowsOf from) (m .from-rises)) (omega (arith, many)) in
       let next : drop i (rowsOf from) ≡ x ∷ drop (i + 1) (rowsOf from) = drop-cons (rowsOf from) i noRow (omega (arith, many)) ∙ rw (add-one, here) in
@@ -66,16 +66,16 @@ module _ {from into all : Entries} {i : ℕ} (m : Merging from into all i) where
         room = m .room;
         size = s;
         from-rises = m .from-rises;
-        rises = rw e (rising-alter (λ _. some (x .val)) 0 (x .key) (rowsOf all) (omega (arith, ap (λ (y : Row Place). y .key) here)) (m .rises));
+        rises = rw e (rising-alter (λ _. some (x .val)) 0 (x .key) (rowsOf all) (omega (arith, ap (λ (y : Row Fix). y .key) here)) (m .rises));
         few = omega (arith, m .few);
-        list = rw e (sym (merge-cons x (drop (i + 1) (rowsOf from)) (rowsOf all)) ∙ ap (λ (l : Rows Place). merge l (rowsOf all)) (sym next) ∙ m .list);
+        list = rw e (sym (merge-cons x (drop (i + 1) (rowsOf from)) (rowsOf all)) ∙ ap (λ (l : Rows Fix). merge l (rowsOf all)) (sym next) ∙ m .list);
       }
 
   module _ (h : i ≤ from .n) (k : from .n ≤ i) where
     pub merge-rows : rowsOf all ≡ merge (rowsOf from) (rowsOf into)
     merge-rows =
         let z : i ≡ length (rowsOf from) = omega (arith, many) in
-        sym (merge-nil (rowsOf all)) ∙ ap (λ (l : Rows Place). merge l (rowsOf all)) (sym (ap (λ (j : ℕ). drop j (rowsOf from)) z ∙ drop-length (rowsOf from))) ∙ m .list
+        sym (merge-nil (rowsOf all)) ∙ ap (λ (l : Rows Fix). merge l (rowsOf all)) (sym (ap (λ (j : ℕ). drop j (rowsOf from)) z ∙ drop-length (rowsOf from))) ∙ m .list
 
     pub merge-count : all .n ≡ length (merge (rowsOf from) (rowsOf into))
     merge-count = sym (length-rows all (omega (arith, m .size, m .few, m .room))) ∙ ap length merge-rows

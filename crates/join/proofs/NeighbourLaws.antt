@@ -9,7 +9,7 @@ use native.Mathlib.Omega.{arith}
 use lib.Dec.{eqb, leb}
 use lib.ListN.{length, getD, take, length-take, length-map, List·getD-map}
 use borrow.Author.Tests.{eq-eqb, leb-true, le-leb}
-use Rattle.terms.specs.Terms.{Place, pages, pageEntries, noPage}
+use Rattle.terms.specs.Terms.{Fix, pages, pageEntries, noPage}
 use Rattle.lists.specs.Chains.{firstOf}
 use Rattle.lists.specs.Rows.{Rows}
 use Rattle.lists.specs.Sums.{filter, count}
@@ -33,7 +33,7 @@ use Rattle.join.specs.declared.Neighbour.{Neighbour}
 use Rattle.join.specs.declared.Neighbour.the-variants.{At, Nobody}
 use Rattle.join.specs.declared.Side.{Side}
 use Rattle.join.specs.declared.Side.the-variants.{West, East, South, North}
-use Rattle.join.specs.Join.{before, below, besideOn, fewWith, mayJoin, nearest, foundAt}
+use Rattle.join.specs.Join.{before, below, besideOn, fewWith, mayJoin, nearest, neighbourOf}
 
 -- ---- the sides of a rectangle are where a rectangle lies beside it
 
@@ -97,13 +97,13 @@ neither : {A : Type 0} (o q : Option A) → orElse o q ≡ none → (o ≡ none)
 neither none q e = (refl, e)
 neither (some a) q e = none-some (sym e)
 
-found-is : (o : Option ℕ) (k : ℕ) → foundAt o ≡ At k → o ≡ some k
-found-is none k e = cc
-found-is (some j) k e = cc
+-- what the answer says
+module _ {o : Neighbour} {at : Option ℕ} (said : neighbourOf o ≡ at) where
+  means-at : {k : ℕ} → o ≡ At k → at ≡ some k
+  means-at e = sym said ∙ ap neighbourOf e
 
-nobody-is : (o : Option ℕ) → foundAt o ≡ Nobody → o ≡ none
-nobody-is none e = refl
-nobody-is (some j) e = cc
+  means-nobody : o ≡ Nobody → at ≡ none
+  means-nobody e = sym said ∙ ap neighbourOf e
 
 abbrev numbers : List Cell → List ℕ
 numbers cells = map (λ c. c .number) cells
@@ -129,7 +129,7 @@ named-at t (c ∷ cs) (suc k) z h e once =
 -- ---- a cell
 
 -- its entries on its first page
-first-page : (b : List ℕ) (cell : ℕ) (chain : List ℕ) (es : Rows Place) → Each (LaidAt b) (leaves kindFirst cell chain es) → 1 ≤ length chain → entryCount (pageAt b (firstOf noPage chain)) ≡ min pageEntries (length es)
+first-page : (b : List ℕ) (cell : ℕ) (chain : List ℕ) (es : Rows Fix) → Each (LaidAt b) (leaves kindFirst cell chain es) → 1 ≤ length chain → entryCount (pageAt b (firstOf noPage chain)) ≡ min pageEntries (length es)
 unfolding leaves
 first-page b cell [] es a h = absurd (omega arith)
 first-page b cell (p ∷ ps) es a h =
@@ -235,13 +235,13 @@ module _ (b : List ℕ) (d : Slot) (n : ℕ) (D : Cell) (edges : edgesOf d ≡ D
 
     -- ---- the answer
 
-    module _ {r : Neighbour} (said : r ≡ foundAt (nearest b slots d n)) where
+    module _ {r : Neighbour} (said : neighbourOf r ≡ nearest b slots d n) where
       pub neighbour-at : (k : ℕ) (z : Cell) → r ≡ At k → (k < length cells) × (joinable D (getD cells k z) ≡ true)
-      neighbour-at k z e = near-joinable k z (found-is (nearest b slots d n) k (sym said ∙ e))
+      neighbour-at k z e = near-joinable k z (means-at said e)
 
       -- it is the one with its number among those that may be joined
       pub neighbour-named : (k : ℕ) (z : Cell) → r ≡ At k → ((q : ℕ) → count q (map (λ c. c .number) cells) ≤ 1) → named (getD cells k z .number) (filter (joinable D) cells) ≡ some (getD cells k z)
       neighbour-named k z e once = let f = neighbour-at k z e in named-at (joinable D) cells k z (f .0) (f .1) once
 
       pub neighbour-none : r ≡ Nobody → filter (joinable D) cells ≡ []
-      neighbour-none e = none-joinable (nobody-is (nearest b slots d n) (sym said ∙ e))
+      neighbour-none e = none-joinable (means-nobody said e)

@@ -65,6 +65,7 @@ nearest b slots d n =
     orElse (firstAt (mayJoin b West d n) slots)
     (orElse (firstAt (mayJoin b East d n) slots) (orElse (firstAt (mayJoin b South d n) slots) (firstAt (mayJoin b North d n) slots)))
 
-abbrev pub foundAt : Option ℕ → Neighbour
-foundAt none = Nobody
-foundAt (some k) = At k
+-- the value of each case of an answer: where the neighbour stands, or none
+abbrev pub neighbourOf : Neighbour → Option ℕ
+neighbourOf (At k) = some k
+neighbourOf Nobody = none

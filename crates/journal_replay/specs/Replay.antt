@@ -61,6 +61,9 @@ pub record Found : Type 0 where
   pub pages : List ℕ
   pub out : List ℕ
 
+abbrev pub handed : Desk → List ℕ → List ℕ → Found
+handed desk pages out = record { desk = desk; pages = pages; out = out }
+
 -- the number that making a fresh store answers, what is then held, and how far journal and room are used
 pub record Held : Type 0 where
   pub number : ℕ
@@ -69,6 +72,9 @@ pub record Held : Type 0 where
   pub read : ℕ
   pub written : ℕ
   pub out : List ℕ
+
+abbrev pub left : ℕ → Desk → List ℕ → ℕ → ℕ → List ℕ → Held
+left number desk pages read written out = record { number = number; desk = desk; pages = pages; read = read; written = written; out = out }
 
 pub record Replays (journal : List ℕ) (x : Found) (y : Held) : Type 0 where
   -- 1: "The page buffer isn't 25,600 bytes."

@@ -11,9 +11,9 @@ ghost use Rattle.lists.specs.Words.{le};
 ghost use Rattle.rules.specs.Records.{lengthField, notAtHand};
 ghost use Rattle.rules.specs.Store.{fresh};
 ghost use Rattle.desk.specs.Layout.{deskOf, pagesOf};
-ghost use Rattle.journal_replay.specs.Replay.{answerBytes, listedBytes, Running, Replays};
+ghost use Rattle.journal_replay.specs.Replay.{answerBytes, listedBytes, Running, Replays, handed, left};
+use desk::Answer;
 use desk::Desk;
-use fresh::Answer;
 
 pub const ANSWER_BYTES: usize = 4;
 
@@ -64,8 +64,11 @@ pub fn next_record(journal: &[u8], at: usize, number: u16) -> usize
 
 // The next record is carried, and its answer stands after those before.
 fn step(run: Run, pages: &mut [u8], journal: &[u8], out: &mut [u8]) -> Run
-    requires { ⌜ Running (now journal) (run .desk) (now pages) (run .read) (now out) (run .written) × (run .read < length (now journal)) × (run .written + answerBytes ≤ length (now out)) ⌝ }
-    ensures { λ r. ⌜ Running (now (journal .entry)) (r .desk) (now (pages .exit)) (r .read) (now (out .exit)) (r .written) × (run .read < r .read) × (run .written ≤ r .written) × (drop (r .written) (now (out .exit)) ≡ drop (r .written) (now (out .entry))) ⌝ }
+    requires { ⌜ Running (now journal) (run .desk) (now pages) (run .read) (now out) (run .written)
+        × (run .read < length (now journal)) × (run .written + answerBytes ≤ length (now out)) ⌝ }
+    ensures { λ r. ⌜ Running (now (journal .entry)) (r .desk) (now (pages .exit)) (r .read) (now (out .exit)) (r .written)
+        × (run .read < r .read) × (run .written ≤ r .written)
+        × (drop (r .written) (now (out .exit)) ≡ drop (r .written) (now (out .entry))) ⌝ }
 {
     let at = run.read;
     let from = run.written;
@@ -84,7 +87,9 @@ fn step(run: Run, pages: &mut [u8], journal: &[u8], out: &mut [u8]) -> Run
 // The whole journal, on a fresh store, as long as there is room for an answer.
 fn carry_all(desk: Desk, pages: &mut [u8], journal: &[u8], out: &mut [u8]) -> Run
     requires { ⌜ (desk ≡ deskOf fresh) × (now pages ≡ pagesOf fresh) ⌝ }
-    ensures { λ r. ⌜ Running (now (journal .entry)) (r .desk) (now (pages .exit)) (r .read) (now (out .exit)) (r .written) × (r .written + answerBytes ≤ length (now (out .entry)) → r .read ≡ length (now (journal .entry))) × (drop (r .written) (now (out .exit)) ≡ drop (r .written) (now (out .entry))) ⌝ }
+    ensures { λ r. ⌜ Running (now (journal .entry)) (r .desk) (now (pages .exit)) (r .read) (now (out .exit)) (r .written)
+        × (r .written + answerBytes ≤ length (now (out .entry)) → r .read ≡ length (now (journal .entry)))
+        × (drop (r .written) (now (out .exit)) ≡ drop (r .written) (now (out .entry))) ⌝ }
 {
     let mut run = Run {
         desk,
@@ -102,7 +107,9 @@ fn carry_all(desk: Desk, pages: &mut [u8], journal: &[u8], out: &mut [u8]) -> Ru
 
 // A fresh store, and the journal carried on it: the answers stand at the front of `out`, and every other byte of it is kept.
 pub fn replay(desk: Desk, pages: &mut [u8], journal: &[u8], out: &mut [u8]) -> Replayed
-    ensures { λ r. ⌜ Replays (now (journal .entry)) (record { desk = desk; pages = now (pages .entry); out = now (out .entry) }) (record { number = r .number; desk = r .run .desk; pages = now (pages .exit); read = r .run .read; written = r .run .written; out = now (out .exit) }) ⌝ }
+    ensures { λ r. ⌜ Replays (now (journal .entry))
+        (handed desk (now (pages .entry)) (now (out .entry)))
+        (left (r .number) (r .run .desk) (now (pages .exit)) (r .run .read) (r .run .written) (now (out .exit))) ⌝ }
 {
     let begun = fresh::begin(desk, pages);
     let number = begun.answer.number;

@@ -2,17 +2,13 @@
 use mathlib.Core.Path.{_≡_, refl, ap, _∙_, subst}
 use mathlib.Core.List.{List, [], _∷_, _++_}
 use Prim.Native.Nat.{ℕ, _+_}
+use Rattle.lists.specs.Among.{Among}
 use Rattle.lists.specs.Sums.{sumBy}
 use Rattle.lists.specs.Tests.{Each}
 use Rattle.lists.proofs.SumsLaws.{sum-middle}
 use Rattle.lists.proofs.TestsLaws.{each-middle}
 
 module _ {A : Type 0} where
-  pub record Among (l : List A) (x : A) : Type 0 where
-    pub before : List A
-    pub after : List A
-    pub split : l ≡ before ++ (x ∷ after)
-
   abbrev pub among-head : (x : A) (l : List A) → Among (x ∷ l) x
   among-head x l = record { before = []; after = l; split = refl }
 

@@ -6,6 +6,7 @@ pub mod PartsLaws
 pub mod RowsLaws
 pub mod SearchLaws
 pub mod ShiftLaws
+pub mod SlotsLaws
 pub mod SortLaws
 pub mod SumsLaws
 pub mod TestsLaws

@@ -45,3 +45,11 @@ module _ {A B : Type 0} (f : A → B) where
       let e₀ : f x ≡ f y = cc in
       let e₁ : map f l ≡ map f m = cc in
       ap₂ _∷_ (h x y e₀) (map-injective h l m e₁)
+
+pub map-map : {A B C : Type 0} (g : B → C) (f : A → B) (l : List A) → map g (map f l) ≡ map (λ x. g (f x)) l
+map-map g f [] = refl
+map-map g f (x ∷ xs) = ap (λ (y : List _). g (f x) ∷ y) (map-map g f xs)
+
+pub map-same : {A : Type 0} (f : A → A) → ((x : A) → f x ≡ x) → (l : List A) → map f l ≡ l
+map-same f h [] = refl
+map-same f h (x ∷ xs) = ap₂ _∷_ (h x) (map-same f h xs)

@@ -1,3 +1,4 @@
+pub mod Among
 pub mod Chains
 pub mod Parts
 pub mod Rows

@@ -1,4 +1,5 @@
 -- The memo's array as rows: where a search of it ends, what stores in it do, and what a line put at its place makes of the rows.
+use mathlib.Core.Bool.{Bool, true, false}
 use mathlib.Core.Path.{_≡_, refl, sym, ap, ap₂, _∙_}
 use mathlib.Core.List.{List, [], _∷_, _++_, map}
 use mathlib.Core.Logic.{_≢_}
@@ -13,15 +14,18 @@ use Rattle.terms.specs.Terms.{Place}
 use Rattle.lists.specs.Parts.{part, put, insertAt}
 use Rattle.lists.specs.Rows.{Row, Rows, Rising, find, alter, rank}
 use Rattle.lists.specs.Sums.{concat, sumBy}
-use Rattle.lists.proofs.Cases.{by-cases, option-cases}
+use Rattle.lists.specs.Tests.{isSome}
+use Rattle.lists.proofs.Cases.{by-cases, false-true, option-cases, list-cases}
 use Rattle.lists.proofs.MapLaws.{map-set, map-insertAt}
 use Rattle.lists.proofs.PartsLaws.{length-part, drop-put}
 use Rattle.lists.proofs.ShiftLaws.{Opened, open-turn, open-end}
-use Rattle.lists.proofs.SumsLaws.{sum-const, sum-concat-map}
+use Rattle.lists.proofs.SumsLaws.{sum-const, sum-concat-map, sum-nil}
 use Rattle.lists.proofs.SearchLaws.{Between, between-start, between-up, between-down, find-rank, find-rank-none, rank-le, alter-insertAt, alter-set}
-use Rattle.rules.specs.Store.{Line as StoreLine}
+use Rattle.rules.specs.Store.{Store, Line as StoreLine, missedOf}
 use Rattle.rules.specs.Flush.{placed, raised}
-use Rattle.rules.proofs.Parts.{missedOf}
+use Rattle.rules.specs.WellFormed.{WellFormed, staleIn}
+use Rattle.rules.proofs.BooksLaws.{memo-total}
+use Rattle.rules.proofs.WellLaws.{well-core}
 use Rattle.desk.specs.declared.Line.{Line}
 use Rattle.desk.specs.declared.Memo.{Memo}
 use Rattle.desk.specs.Layout.{lineSlots, lineFields, fieldsOf, slotted, lineWith, lineOf, noLine, memoOf}
@@ -30,7 +34,7 @@ use Rattle.desk.proofs.LinesLaws.{lines-laid, words-laid, length-lines-in}
 use Rattle.desk.proofs.UniqueLaws.{take-memo}
 use Rattle.memo.specs.declared.Spot.{Spot}
 use Rattle.memo.specs.declared.Spot.the-variants.{Held, Open}
-use Rattle.memo.specs.Memo.{memoIn, lastOf, rowOf, noRow, linesOf, Plain, Whole, mostMissed, spotOf}
+use Rattle.memo.specs.Memo.{memoIn, lastOf, rowOf, noRow, linesOf, Plain, Whole, mostMissed, spotOf, spotIn}
 
 -- ---- lists
 
@@ -173,21 +177,21 @@ module _ (m : Memo) {r lo hi : ℕ} (s : Between (linesOf m) r noRow lo hi) (ins
 -- ---- where a radio stands
 
 module _ (m : Memo) (r : ℕ) {k : ℕ} (size : length (m .words) ≡ lineFields * lineSlots) (fits : m .n ≤ lineSlots) (rising : Rising 0 (linesOf m)) (at : k ≡ rank r (linesOf m)) where
-  pub spot-held : {x : Line} → x ≡ getD (linesIn (m .words)) k noLine → k < m .n → x .radio ≡ r → Held k ≡ spotOf r (linesOf m)
-  unfolding spotOf
+  pub spot-held : {x : Line} → x ≡ getD (linesIn (m .words)) k noLine → k < m .n → x .radio ≡ r → (k, true) ≡ spotIn r (linesOf m)
+  unfolding spotIn
   spot-held f h e =
       let l = length-lines m (omega (arith, length-lines-in lineSlots (m .words) size)) in
-      rw (find-rank 0 r (linesOf m) noRow rising (rw (← at) (omega arith)) (rw (← at) (sym (lines-radio m k h) ∙ sym (ap (λ (y : Line). y .radio) f) ∙ e))) (ap Held at)
+      rw (find-rank 0 r (linesOf m) noRow rising (rw (← at) (omega arith)) (rw (← at) (sym (lines-radio m k h) ∙ sym (ap (λ (y : Line). y .radio) f) ∙ e))) (ap (λ (j : ℕ). (j, true)) at)
 
-  pub spot-other : {x : Line} → x ≡ getD (linesIn (m .words)) k noLine → k < m .n → x .radio ≢ r → Open k ≡ spotOf r (linesOf m)
-  unfolding spotOf
-  spot-other f h n = rw (find-rank-none 0 r (linesOf m) noRow rising (rw (← at) (λ _ e. n (ap (λ (y : Line). y .radio) f ∙ lines-radio m k h ∙ e)))) (ap Open at)
+  pub spot-other : {x : Line} → x ≡ getD (linesIn (m .words)) k noLine → k < m .n → x .radio ≢ r → (k, false) ≡ spotIn r (linesOf m)
+  unfolding spotIn
+  spot-other f h n = rw (find-rank-none 0 r (linesOf m) noRow rising (rw (← at) (λ _ e. n (ap (λ (y : Line). y .radio) f ∙ lines-radio m k h ∙ e)))) (ap (λ (j : ℕ). (j, false)) at)
 
-  pub spot-past : m .n ≤ k → Open k ≡ spotOf r (linesOf m)
-  unfolding spotOf
+  pub spot-past : m .n ≤ k → (k, false) ≡ spotIn r (linesOf m)
+  unfolding spotIn
   spot-past h =
       let l = length-lines m (omega (arith, length-lines-in lineSlots (m .words) size)) in
-      rw (find-rank-none 0 r (linesOf m) noRow rising (rw (← at) (λ g _. absurd (omega arith)))) (ap Open at)
+      rw (find-rank-none 0 r (linesOf m) noRow rising (rw (← at) (λ g _. absurd (omega arith)))) (ap (λ (j : ℕ). (j, false)) at)
 
 -- a radio that has no line, and the place for it
 pub record Free (m : Memo) (r k : ℕ) : Type 0 where
@@ -203,22 +207,23 @@ pub record Lies (m : Memo) (r k : ℕ) : Type 0 where
   pub inside : k < m .n
   pub line : getD (linesIn (m .words)) k noLine ≡ lineWith r (val .missed) (val .last)
 
-spot-some : (r : ℕ) (l : Rows StoreLine) (v : StoreLine) → find l r ≡ some v → spotOf r l ≡ Held (rank r l)
-unfolding spotOf
-spot-some r l v f = rw f
+-- what the answer says
+module _ (r : ℕ) (l : Rows StoreLine) {k : ℕ} {o : Spot} (said : spotOf o ≡ spotIn r l) where
+  means-held : o ≡ Held k → (k ≡ rank r l) × (isSome (find l r) ≡ true)
+  unfolding spotIn
+  means-held e = let q = sym (ap spotOf e) ∙ said in (ap (λ (x : ℕ × Bool). x .0) q, sym (ap (λ (x : ℕ × Bool). x .1) q))
 
-spot-none : (r : ℕ) (l : Rows StoreLine) → find l r ≡ none → spotOf r l ≡ Open (rank r l)
-unfolding spotOf
-spot-none r l n = rw n
+  means-open : o ≡ Open k → (k ≡ rank r l) × (isSome (find l r) ≡ false)
+  unfolding spotIn
+  means-open e = let q = sym (ap spotOf e) ∙ said in (ap (λ (x : ℕ × Bool). x .0) q, sym (ap (λ (x : ℕ × Bool). x .1) q))
 
-module _ (m : Memo) (r : ℕ) {k : ℕ} {o : Spot} (whole : Whole m) (rising : Rising 0 (linesOf m)) (said : o ≡ spotOf r (linesOf m)) where
+module _ (m : Memo) (r : ℕ) {k : ℕ} {o : Spot} (whole : Whole m) (rising : Rising 0 (linesOf m)) (said : spotOf o ≡ spotIn r (linesOf m)) where
   pub lies : o ≡ Held k → Lies m r k
   lies e =
       let n = whole-count m whole in
       option-cases (find (linesOf m) r)
-      (λ f. let q = spot-none r (linesOf m) f in let z : _≡_ {A = ℕ} 0 1 = cc in absurd (omega arith))
-      (λ v f. let q = spot-some r (linesOf m) v f in
-      let p : k ≡ rank r (linesOf m) = cc in
+      (λ f. false-true (sym (ap isSome f) ∙ means-held r (linesOf m) said e .1))
+      (λ v f. let p = means-held r (linesOf m) said e .0 in
       let h = rank-find r (linesOf m) noRow v rising f in
       let i : k < m .n = omega (arith, h .0) in
       record { val = v; found = f; place = p; inside = i; line = whole-line m whole k i ∙ ap lineOf (ap (λ (j : ℕ). getD (linesOf m) j noRow) p ∙ h .1) })
@@ -227,10 +232,8 @@ module _ (m : Memo) (r : ℕ) {k : ℕ} {o : Spot} (whole : Whole m) (rising : R
   free e =
       let n = whole-count m whole in
       option-cases (find (linesOf m) r)
-      (λ f. let q = spot-none r (linesOf m) f in
-      let p : k ≡ rank r (linesOf m) = cc in
-      record { missing = f; place = p; inside = omega (arith, rank-le r (linesOf m)) })
-      (λ v f. let q = spot-some r (linesOf m) v f in let z : _≡_ {A = ℕ} 0 1 = cc in absurd (omega arith))
+      (λ f. let p = means-open r (linesOf m) said e .0 in record { missing = f; place = p; inside = omega (arith, rank-le r (linesOf m)) })
+      (λ v f. false-true (sym (means-open r (linesOf m) said e .1) ∙ ap isSome f))
 
 -- ---- plain lines
 
@@ -281,7 +284,7 @@ module _ (n : ℕ) (old : List ℕ) where
         (ap (drop (n + 1)) e ∙ open-rest k x q ∙ sym (drop-drop 1 n (linesIn old)) ∙ ap (drop 1) (whole-drop memo w) ∙ ap (λ (j : ℕ). drop 1 (replicate j noLine)) u)
 
   -- the line of a radio, or the place for it
-  module _ (r : ℕ) {k : ℕ} {o : Spot} (whole : Whole memo) (rising : Rising 0 rows) (said : o ≡ spotOf r rows) where
+  module _ (r : ℕ) {k : ℕ} {o : Spot} (whole : Whole memo) (rising : Rising 0 rows) (said : spotOf o ≡ spotIn r rows) where
     module _ (here : o ≡ Open k) where
       gap : Free memo r k
       gap = free memo r whole rising said here
@@ -347,3 +350,13 @@ module _ (l : Rows StoreLine) {x : Memo} (said : x ≡ memoOf l) where
 
   pub rising-is : Rising 0 l → Rising 0 (linesOf x)
   rising-is a = rw lines-are a
+
+-- ---- a well-formed store
+
+-- there is room for a line more
+pub well-memo : (s : Store) → WellFormed s → length (s .memo) < lineSlots
+well-memo s w =
+    let t = memo-total (well-core s w .books) in
+    list-cases (s .cells)
+    (λ e. omega (arith, t, ap (sumBy (staleIn (s .memo))) e, sum-nil (staleIn (s .memo))))
+    (λ c cs e. omega (arith, t, w .bounded 0 (omega (arith, ap length e)), w .tallied))

@@ -1,17 +1,18 @@
 -- The memo in the desk's array as rows by rising radio (01, "A sound store": "Memo lines by rising radio").
-use mathlib.Core.Bool.{cond}
+use mathlib.Core.Bool.{Bool, true, false, cond}
 use mathlib.Core.List.{List, map}
 use mathlib.Core.Option.{Option, none, some}
 use mathlib.Core.Path.{_≡_}
-use Prim.Native.Nat.{ℕ}
+use Prim.Native.Nat.{ℕ, _≤_, _<_}
 use lib.Dec.{eqb}
 use lib.ListN.{take}
 use Rattle.terms.specs.Terms.{Place}
-use Rattle.lists.specs.Rows.{Row, Rows, find, rank}
-use Rattle.rules.specs.Store.{Line as StoreLine}
+use Rattle.lists.specs.Rows.{Row, Rows, Rising, find, rank}
+use Rattle.lists.specs.Tests.{isSome}
+use Rattle.rules.specs.Store.{Line as StoreLine, missedOf}
 use Rattle.desk.specs.declared.Line.{Line}
 use Rattle.desk.specs.declared.Memo.{Memo}
-use Rattle.desk.specs.Layout.{lineOf, memoOf}
+use Rattle.desk.specs.Layout.{lineSlots, lineOf, memoOf}
 use Rattle.desk.specs.Views.{linesIn}
 use Rattle.memo.specs.declared.Spot.{Spot}
 use Rattle.memo.specs.declared.Spot.the-variants.{Held, Open}
@@ -50,12 +51,25 @@ Whole m = m ≡ memoOf (linesOf m)
 abbrev pub mostMissed : ℕ
 mostMissed = 65535
 
+-- the memo as a step of a call finds it: laid out so, by rising radio, and no more lines than there are slots
+abbrev pub GoodMemo : Memo → Type 0
+GoodMemo m = Whole m × (m .n ≤ lineSlots) × Rising 0 (linesOf m)
+
+-- the same, with a slot for a line more
+abbrev pub RoomyMemo : Memo → Type 0
+RoomyMemo m = Whole m × (m .n < lineSlots) × Rising 0 (linesOf m)
+
+-- a radio's missed count may grow by 1
+abbrev pub MissFits : ℕ → Memo → Type 0
+MissFits r m = missedOf (find (linesOf m) r) < mostMissed
+
 -- ---- where a radio stands
 
-abbrev spotAt : ℕ → Option StoreLine → Spot
-spotAt k none = Open k
-spotAt k (some l) = Held k
+-- the values of each case of a spot: how many lines are of radios below, and whether the radio has one
+abbrev pub spotOf : Spot → ℕ × Bool
+spotOf (Held k) = (k, true)
+spotOf (Open k) = (k, false)
 
 -- where the line of a radio stands, or would
-unfoldable pub spotOf : ℕ → Rows StoreLine → Spot
-spotOf r l = spotAt (rank r l) (find l r)
+unfoldable pub spotIn : ℕ → Rows StoreLine → ℕ × Bool
+spotIn r l = (rank r l, isSome (find l r))

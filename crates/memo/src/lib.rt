@@ -4,11 +4,10 @@ ghost use mathlib.Core.Path.{_≡_};
 ghost use Prim.Native.Nat.{_+_, _*_, _<_, _≤_};
 ghost use lib.ListN.{length};
 ghost use Rattle.lists.specs.Parts.{insertAt};
-ghost use Rattle.lists.specs.Rows.{Rising, find, rank, alter};
+ghost use Rattle.lists.specs.Rows.{Rising, rank, alter};
 ghost use Rattle.rules.specs.Flush.{placed, raised};
-ghost use Rattle.rules.proofs.Parts.{missedOf};
 ghost use Rattle.desk.specs.Layout.{lineSlots, lineFields, memoOf};
-ghost use Rattle.memo.specs.Memo.{memoIn, lastOf, rowOf, linesOf, Plain, Whole, mostMissed, spotOf};
+ghost use Rattle.memo.specs.Memo.{memoIn, lastOf, rowOf, linesOf, Plain, Whole, spotOf, spotIn, GoodMemo, RoomyMemo, MissFits};
 use desk::Desk;
 use desk::Line;
 
@@ -25,12 +24,12 @@ enum Spot {
 // ---- a place in the array
 
 // How many radios lie below `radio`, by binary search.
-fn rank<'a>(words: &'a [u16; Desk::MEMO_WORDS], n: usize, radio: u16) -> usize
+fn rank<'a>(words: &'a [u16; Desk::MEMO_WORDS], n: u16, radio: u16) -> usize
     requires { ⌜ (length (now words) ≡ lineFields * lineSlots) × (n ≤ lineSlots) × Rising 0 (linesOf (memoIn n (now words))) ⌝ }
     ensures { λ r. ⌜ (r ≡ rank radio (linesOf (memoIn n (now (words .entry))))) × (r ≤ n) ⌝ }
 {
     let mut low: usize = 0;
-    let mut high = n;
+    let mut high = n as usize;
     while low < high {
         let mid = low + (high - low) / 2;
         let x = desk::line_at(words, mid);
@@ -44,12 +43,12 @@ fn rank<'a>(words: &'a [u16; Desk::MEMO_WORDS], n: usize, radio: u16) -> usize
 }
 
 // Where the line of `radio` stands, or would.
-fn lookup<'a>(words: &'a [u16; Desk::MEMO_WORDS], n: usize, radio: u16) -> Spot
+fn lookup<'a>(words: &'a [u16; Desk::MEMO_WORDS], n: u16, radio: u16) -> Spot
     requires { ⌜ (length (now words) ≡ lineFields * lineSlots) × (n ≤ lineSlots) × Rising 0 (linesOf (memoIn n (now words))) ⌝ }
-    ensures { λ r. ⌜ r ≡ spotOf radio (linesOf (memoIn n (now (words .entry)))) ⌝ }
+    ensures { λ r. ⌜ spotOf r ≡ spotIn radio (linesOf (memoIn n (now (words .entry)))) ⌝ }
 {
     let at = rank(words, n, radio);
-    if at < n {
+    if at < n as usize {
         let x = desk::line_at(words, at);
         if x.radio == radio {
             return Spot::Held(at);
@@ -59,11 +58,11 @@ fn lookup<'a>(words: &'a [u16; Desk::MEMO_WORDS], n: usize, radio: u16) -> Spot
 }
 
 // The line at `at`; what stood there and after it stands one place further on, so there is one line more.
-fn opened<'a>(words: &'a mut [u16; Desk::MEMO_WORDS], n: usize, at: usize, line: Line)
+fn opened<'a>(words: &'a mut [u16; Desk::MEMO_WORDS], n: u16, at: usize, line: Line)
     requires { ⌜ Whole (memoIn n (now words)) × (at ≤ n) × (n < lineSlots) × Plain line ⌝ }
     ensures { λ _. ⌜ memoIn (n + 1) (now (words .exit)) ≡ memoOf (insertAt (linesOf (memoIn n (now (words .entry)))) at (rowOf line)) ⌝ }
 {
-    let mut i = n;
+    let mut i = n as usize;
     while at < i {
         let j = i - 1;
         let x = desk::line_at(words, j);
@@ -76,15 +75,10 @@ fn opened<'a>(words: &'a mut [u16; Desk::MEMO_WORDS], n: usize, at: usize, line:
 // ---- lines
 
 // "any memo line takes the new place"
-pub fn placed<'a>(
-    words: &'a mut [u16; Desk::MEMO_WORDS],
-    n: usize,
-    radio: u16,
-    east: u16,
-    north: u16,
-)
-    requires { ⌜ Whole (memoIn n (now words)) × (n ≤ lineSlots) × Rising 0 (linesOf (memoIn n (now words))) ⌝ }
-    ensures { λ _. ⌜ memoIn n (now (words .exit)) ≡ memoOf (alter (placed (some (record { east = east; north = north }))) radio (linesOf (memoIn n (now (words .entry))))) ⌝ }
+pub fn placed<'a>(words: &'a mut [u16; Desk::MEMO_WORDS], n: u16, radio: u16, east: u16, north: u16)
+    requires { ⌜ GoodMemo (memoIn n (now words)) ⌝ }
+    ensures { λ _. ⌜ memoIn n (now (words .exit))
+        ≡ memoOf (alter (placed (some (record { east = east; north = north }))) radio (linesOf (memoIn n (now (words .entry))))) ⌝ }
 {
     let Spot::Held(at) = lookup(words, n, radio) else {
         return;
@@ -101,8 +95,8 @@ pub fn placed<'a>(
 }
 
 // "add 1 to the missed count (made as 1 if absent)"; the line takes the place of `first`, which is the one made. The answer is how many lines there are then.
-fn counted<'a>(words: &'a mut [u16; Desk::MEMO_WORDS], n: usize, first: Line) -> usize
-    requires { ⌜ Whole (memoIn n (now words)) × (n < lineSlots) × Rising 0 (linesOf (memoIn n (now words))) × (missedOf (find (linesOf (memoIn n (now words))) (first .radio)) < mostMissed) × Plain first × (first .missed ≡ 1) ⌝ }
+fn counted<'a>(words: &'a mut [u16; Desk::MEMO_WORDS], n: u16, first: Line) -> u16
+    requires { ⌜ RoomyMemo (memoIn n (now words)) × MissFits (first .radio) (memoIn n (now words)) × Plain first × (first .missed ≡ 1) ⌝ }
     ensures { λ r. ⌜ memoIn r (now (words .exit)) ≡ memoOf (alter (raised (lastOf first)) (first .radio) (linesOf (memoIn n (now (words .entry))))) ⌝ }
 {
     let spot = lookup(words, n, first.radio);
@@ -129,13 +123,14 @@ fn counted<'a>(words: &'a mut [u16; Desk::MEMO_WORDS], n: usize, first: Line) ->
 // A miss more, and the place is this one.
 pub fn raised<'a>(
     words: &'a mut [u16; Desk::MEMO_WORDS],
-    n: usize,
+    n: u16,
     radio: u16,
     east: u16,
     north: u16,
-) -> usize
-    requires { ⌜ Whole (memoIn n (now words)) × (n < lineSlots) × Rising 0 (linesOf (memoIn n (now words))) × (missedOf (find (linesOf (memoIn n (now words))) radio) < mostMissed) ⌝ }
-    ensures { λ r. ⌜ memoIn r (now (words .exit)) ≡ memoOf (alter (raised (some (record { east = east; north = north }))) radio (linesOf (memoIn n (now (words .entry))))) ⌝ }
+) -> u16
+    requires { ⌜ RoomyMemo (memoIn n (now words)) × MissFits radio (memoIn n (now words)) ⌝ }
+    ensures { λ r. ⌜ memoIn r (now (words .exit))
+        ≡ memoOf (alter (raised (some (record { east = east; north = north }))) radio (linesOf (memoIn n (now (words .entry))))) ⌝ }
 {
     let first = Line {
         radio,
@@ -148,8 +143,8 @@ pub fn raised<'a>(
 }
 
 // A miss more, and the place is "none".
-pub fn raised_none<'a>(words: &'a mut [u16; Desk::MEMO_WORDS], n: usize, radio: u16) -> usize
-    requires { ⌜ Whole (memoIn n (now words)) × (n < lineSlots) × Rising 0 (linesOf (memoIn n (now words))) × (missedOf (find (linesOf (memoIn n (now words))) radio) < mostMissed) ⌝ }
+pub fn raised_none<'a>(words: &'a mut [u16; Desk::MEMO_WORDS], n: u16, radio: u16) -> u16
+    requires { ⌜ RoomyMemo (memoIn n (now words)) × MissFits radio (memoIn n (now words)) ⌝ }
     ensures { λ r. ⌜ memoIn r (now (words .exit)) ≡ memoOf (alter (raised none) radio (linesOf (memoIn n (now (words .entry))))) ⌝ }
 {
     let first = Line {

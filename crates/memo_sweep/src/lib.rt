@@ -2,10 +2,9 @@
 ghost use mathlib.Core.Bool.{true};
 ghost use mathlib.Core.Path.{_≡_};
 ghost use Prim.Native.Nat.{_≤_};
-ghost use Rattle.lists.specs.Rows.{Rising};
-ghost use Rattle.lists.specs.Tests.{one-if, isSome};
+ghost use Rattle.lists.specs.Tests.{isSome};
 ghost use Rattle.desk.specs.Layout.{lineSlots, memoOf};
-ghost use Rattle.memo.specs.Memo.{rowOf, memoIn, linesOf, Plain, Whole};
+ghost use Rattle.memo.specs.Memo.{rowOf, memoIn, linesOf, Plain, GoodMemo};
 ghost use Rattle.memo_sweep.specs.Lowering.{lowerIf, lineIf, lowerWhere, markOf, Unmarked};
 use desk::Desk;
 use desk::Line;
@@ -17,13 +16,6 @@ const LINES: usize = Desk::MAX_LINES + 1;
 pub const PLACES: usize = LINES + 1;
 
 pub const UNPLACED: u16 = 0;
-
-// 1 where the test holds.
-pub fn one_if(test: bool) -> usize
-    ensures { λ r. ⌜ (r ≡ one-if test) × (r ≤ 1) ⌝ }
-{
-    if test { 1 } else { 0 }
-}
 
 // "lower the missed count by 1; drop the line at 0": what is left of a line in its slot.
 fn lowered_line(x: Line, mark: bool) -> Line
@@ -62,13 +54,13 @@ fn line_stays(x: Line, mark: bool) -> bool
 }
 
 // Whether none of the first n lines is marked. It never leaves early, so that many marks are looked at at a time.
-fn none_marked<'a>(marks: &'a [bool; PLACES], n: usize) -> bool
+fn none_marked<'a>(marks: &'a [bool; PLACES], n: u16) -> bool
     requires { ⌜ n ≤ lineSlots ⌝ }
     ensures { λ r. ⌜ (r ≡ true → Unmarked (now (marks .entry)) n) × (Unmarked (now (marks .entry)) n → r ≡ true) ⌝ }
 {
     let mut so = true;
     let mut i: usize = 0;
-    while i < n {
+    while i < n as usize {
         so = so & !marks[i];
         i += 1;
     }
@@ -78,34 +70,32 @@ fn none_marked<'a>(marks: &'a [bool; PLACES], n: usize) -> bool
 // Each marked line has one miss less; those that stay, one after the other, in an array of their own, which then takes the memo's place. How many they are.
 fn written_anew<'a>(
     words: &'a mut [u16; Desk::MEMO_WORDS],
-    n: usize,
+    n: u16,
     marks: &'a [bool; PLACES],
-) -> usize
-    requires { ⌜ Whole (memoIn n (now words)) × (n ≤ lineSlots) × Rising 0 (linesOf (memoIn n (now words))) ⌝ }
-    ensures { λ r. ⌜ memoIn r (now (words .exit)) ≡ memoOf (lowerWhere (markOf (now (marks .entry)) (linesOf (memoIn n (now (words .entry))))) (linesOf (memoIn n (now (words .entry))))) ⌝ }
+) -> u16
+    requires { ⌜ GoodMemo (memoIn n (now words)) ⌝ }
+    ensures { λ r. ⌜ memoIn r (now (words .exit))
+        ≡ memoOf (lowerWhere (markOf (now (marks .entry)) (linesOf (memoIn n (now (words .entry))))) (linesOf (memoIn n (now (words .entry))))) ⌝ }
 {
     let mut left = [0u16; Desk::MEMO_WORDS];
     let mut k: usize = 0;
     let mut i: usize = 0;
-    while i < n {
+    while i < n as usize {
         let x = desk::line_at(words, i);
         let mark = marks[i];
         desk::put_line(&mut left, k, lowered_line(x, mark));
-        k = k + one_if(line_stays(x, mark));
+        k = k + lists::one_if(line_stays(x, mark));
         i += 1;
     }
     *words = left;
-    k
+    k as u16
 }
 
 // Each marked line has one miss less, and goes at 0. Where none is marked the memo is as it was: many cells have no stale entry.
-pub fn lowered<'a>(
-    words: &'a mut [u16; Desk::MEMO_WORDS],
-    n: usize,
-    marks: &'a [bool; PLACES],
-) -> usize
-    requires { ⌜ Whole (memoIn n (now words)) × (n ≤ lineSlots) × Rising 0 (linesOf (memoIn n (now words))) ⌝ }
-    ensures { λ r. ⌜ memoIn r (now (words .exit)) ≡ memoOf (lowerWhere (markOf (now (marks .entry)) (linesOf (memoIn n (now (words .entry))))) (linesOf (memoIn n (now (words .entry))))) ⌝ }
+pub fn lowered<'a>(words: &'a mut [u16; Desk::MEMO_WORDS], n: u16, marks: &'a [bool; PLACES]) -> u16
+    requires { ⌜ GoodMemo (memoIn n (now words)) ⌝ }
+    ensures { λ r. ⌜ memoIn r (now (words .exit))
+        ≡ memoOf (lowerWhere (markOf (now (marks .entry)) (linesOf (memoIn n (now (words .entry))))) (linesOf (memoIn n (now (words .entry))))) ⌝ }
 {
     if none_marked(marks, n) {
         return n;

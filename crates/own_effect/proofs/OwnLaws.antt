@@ -16,7 +16,7 @@ use Rattle.desk.specs.Layout.{memoOf}
 use Rattle.memo.specs.Memo.{linesOf, Whole}
 use Rattle.waiting.specs.declared.Waited.{Waited}
 use Rattle.waiting.specs.declared.Waited.the-variants.{Found, Missing}
-use Rattle.waiting.specs.Waiting.{reportsOf, waitedOf}
+use Rattle.waiting.specs.Waiting.{reportsOf, waitedOf, laidReport}
 use Rattle.waiting.proofs.WaitingLaws.{mark-found, mark-missing}
 
 -- a mark of 1 or 0, read back
@@ -24,7 +24,7 @@ mark-read : (b : Bool) {m : ℕ} → m ≡ one-if b → not (eqb m 0) ≡ b
 mark-read true e = rw e
 mark-read false e = rw e
 
-module _ (w : Waiting) (r : ℕ) {o : Waited} (told : o ≡ waitedOf r (find (reportsOf w) r)) where
+module _ (w : Waiting) (r : ℕ) {o : Waited} (told : waitedOf o ≡ laidReport r (find (reportsOf w) r)) where
   pub new-missing : o ≡ Missing → false ≡ wasNew (find (reportsOf w) r)
   new-missing e = sym (one-if-false (wasNew (find (reportsOf w) r)) (sym (mark-missing w r told e)))
 

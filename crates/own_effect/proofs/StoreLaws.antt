@@ -8,26 +8,24 @@ use native.Mathlib.Omega.{arith}
 use Rattle.terms.specs.Terms.{Place, maxOn}
 use Rattle.lists.specs.Rows.{Rows, Rising, find, alter, insert}
 use Rattle.rules.specs.Limits.{maxCells, fullMemory}
-use Rattle.rules.specs.Store.{Report as StoreReport, Line as StoreLine, Store}
+use Rattle.rules.specs.Store.{Report as StoreReport, Line as StoreLine, Store, withWaiting, withMemo, withOn, missedOf}
 use Rattle.rules.specs.Flush.{raised}
 use Rattle.rules.specs.Carry.{onCount, wasNew, signedOn, reported, signedOff}
 use Rattle.rules.specs.WellFormed.{WellFormed}
-use Rattle.rules.proofs.Parts.{missedOf}
 use Rattle.rules.proofs.WellLaws.{well-core}
 use Rattle.rules.proofs.BooksLaws.{missed-few}
 use Rattle.desk.specs.declared.Waiting.{Waiting}
 use Rattle.desk.specs.declared.Memo.{Memo}
 use Rattle.desk.specs.declared.On.{On}
 use Rattle.desk.specs.declared.Desk.{Desk}
-use Rattle.desk.specs.Layout.{lineSlots, gridOf, waitingOf, memoOf, onOf, deskOf, storeLeaves, Laid}
+use Rattle.desk.specs.Layout.{gridOf, waitingOf, memoOf, onOf, deskOf, storeLeaves, Laid}
 use Rattle.desk.specs.Views.{radiosOf}
-use Rattle.memo.specs.Memo.{linesOf, Whole, mostMissed}
-use Rattle.memo.proofs.MemoLaws.{lines-are, whole-is, count-is, rising-is}
-use Rattle.waiting.specs.Waiting.{reportsOf, WholeWaiting}
-use Rattle.waiting.specs.On.{WholeOn}
+use Rattle.memo.specs.Memo.{linesOf, RoomyMemo, MissFits}
+use Rattle.memo.proofs.MemoLaws.{lines-are, whole-is, count-is, rising-is, well-memo}
+use Rattle.waiting.specs.Waiting.{reportsOf, WholeWaiting, GoodWaiting, RoomyWaiting}
+use Rattle.waiting.specs.On.{WholeOn, GoodOn, RoomyOn}
 use Rattle.waiting.proofs.WaitingLaws.{reports-laid, whole-laid, count-laid}
 use Rattle.waiting.proofs.OnLaws.{radios-laid, whole-on-laid, count-on-laid}
-use Rattle.sweep.proofs.CellLaws.{well-memo}
 use Rattle.own_effect.specs.declared.SignedOn.{SignedOn}
 
 -- ---- room in the memo
@@ -39,7 +37,7 @@ well-missed s w r = omega (arith, missed-few (well-core s w .books) r, w .few-ce
 
 -- the store with other rows
 abbrev withRows : Store → Rows StoreReport → Rows StoreLine → Rows (Unit {0}) → Store
-withRows s l m o = record { cuts = s .cuts; cells = s .cells; free = s .free; waiting = l; memo = m; on = o; tally = s .tally }
+withRows s l m o = withWaiting l (withMemo m (withOn o s))
 
 module _ (s : Store) (d : Desk) (held : d ≡ deskOf s) where
   pub waiting-held : d .waiting ≡ waitingOf (s .waiting)
@@ -72,27 +70,21 @@ module _ (s : Store) (d : Desk) (held : d ≡ deskOf s) where
     on-rises : Rising 0 (radiosOf (d .on))
     on-rises = subst (Rising 0) (sym (radios-laid on-held)) (w .rising-on)
 
-    pub on-asks : onCount s < maxOn
-        → (d .waiting .n < fullMemory) × WholeWaiting (d .waiting) × Rising 0 (reportsOf (d .waiting)) × (d .on .n < maxOn) × WholeOn (d .on) × Rising 0 (radiosOf (d .on))
-    unfolding onCount
-    on-asks room = (waiting-few, waiting-whole, waiting-rises, omega (arith, count-on-laid (d .on) (s .on) on-held), on-whole, on-rises)
-
-    pub report-asks : (d .waiting .n < fullMemory) × WholeWaiting (d .waiting) × Rising 0 (reportsOf (d .waiting))
+    pub report-asks : RoomyWaiting (d .waiting)
     report-asks = (waiting-few, waiting-whole, waiting-rises)
 
+    pub on-asks : onCount s < maxOn
+        → RoomyWaiting (d .waiting) × RoomyOn (d .on)
+    unfolding onCount
+    on-asks room = (report-asks, (omega (arith, count-on-laid (d .on) (s .on) on-held), on-whole, on-rises))
+
     pub off-asks : (r : ℕ)
-        → (d .waiting .n ≤ fullMemory) × WholeWaiting (d .waiting) × Rising 0 (reportsOf (d .waiting)) × Whole (d .memo) × (d .memo .n < lineSlots) × Rising 0 (linesOf (d .memo)) × (missedOf (find (linesOf (d .memo)) r) < mostMissed) × (d .on .n ≤ maxOn) × WholeOn (d .on) × Rising 0 (radiosOf (d .on))
+        → GoodWaiting (d .waiting) × RoomyMemo (d .memo) × MissFits r (d .memo) × GoodOn (d .on)
     off-asks r = (
-      let h = waiting-few in omega arith,
-      waiting-whole,
-      waiting-rises,
-      whole-is (s .memo) memo-held,
-      omega (arith, count-is (s .memo) memo-held, well-memo s w),
-      rising-is (s .memo) memo-held (w .memo-rises),
+      ((let h = waiting-few in omega arith), waiting-whole, waiting-rises),
+      (whole-is (s .memo) memo-held, omega (arith, count-is (s .memo) memo-held, well-memo s w), rising-is (s .memo) memo-held (w .memo-rises)),
       rw (lines-are (s .memo) memo-held) (let h = well-missed s w r in omega arith),
-      omega (arith, count-on-laid (d .on) (s .on) on-held, w .few-on),
-      on-whole,
-      on-rises,
+      (omega (arith, count-on-laid (d .on) (s .on) on-held, w .few-on), on-whole, on-rises),
     )
 
   -- ---- what is given

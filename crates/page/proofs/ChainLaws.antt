@@ -18,8 +18,7 @@ use Rattle.lists.proofs.ChainsLaws.{walk-end, walk-step}
 use Rattle.lists.proofs.PartsLaws.{length-part}
 use Rattle.lists.proofs.TestsLaws.{both-left, both-right, both-intro}
 use Rattle.page.specs.Page.{pageBytes, next}
-use Rattle.page.specs.Buffer.{pageAt, there, chainFrom, boundEnd, endFrom}
-use Rattle.page.specs.declared.ChainEnd.the-variants.{Ended, PastBound, NotThere}
+use Rattle.page.specs.Buffer.{pageAt, there, chainFrom, boundEnd, endFrom, atNone, pastBound, notThere}
 
 -- ---- what is there
 
@@ -54,12 +53,12 @@ page-slice b p h = let e : pageBytes * p + pageBytes - pageBytes * p ≡ pageByt
 -- ---- one step, at any fuel
 
 module _ (b : List ℕ) (p : ℕ) where
-  pub chain-ended : (fuel : ℕ) → p ≡ noPage → (chainFrom fuel b p ≡ []) × (endFrom fuel b p ≡ Ended)
+  pub chain-ended : (fuel : ℕ) → p ≡ noPage → (chainFrom fuel b p ≡ []) × (endFrom fuel b p ≡ atNone)
   unfolding chainFrom endFrom
   chain-ended zero e = (refl, rw (eq-eqb p noPage e))
   chain-ended (suc fuel) e = (rw (eq-eqb p noPage e), rw (eq-eqb p noPage e))
 
-  pub chain-not-there : (fuel : ℕ) → p ≢ noPage → there b p ≡ false → (chainFrom (suc fuel) b p ≡ []) × (endFrom (suc fuel) b p ≡ NotThere p)
+  pub chain-not-there : (fuel : ℕ) → p ≢ noPage → there b p ≡ false → (chainFrom (suc fuel) b p ≡ []) × (endFrom (suc fuel) b p ≡ notThere p)
   unfolding chainFrom endFrom
   chain-not-there fuel n t = (rw (ne-eqb p noPage n, t), rw (ne-eqb p noPage n, t))
 
@@ -94,15 +93,15 @@ module _ (b : List ℕ) where
     pub all-there : Each (λ q. there b q ≡ true) (chainFrom fuel b p)
     pub few : length (chainFrom fuel b p) ≤ fuel
 
-  ended-out : (p : ℕ) → endFrom 0 b p ≡ Ended → p ≡ noPage
+  ended-out : (p : ℕ) → endFrom 0 b p ≡ atNone → p ≡ noPage
   ended-out p e =
       by-cases (eqb p noPage) (eqb-true p noPage)
-      (λ t. let h : PastBound ≡ Ended = rw (chain-out b p .1, t) at e in let z : _≡_ {A = ℕ} 0 1 = cc in absurd (omega arith))
+      (λ t. let h : pastBound ≡ atNone = rw (chain-out b p .1, t) at e in let z : _≡_ {A = ℕ} 0 1 = cc in absurd (omega arith))
 
-  ended-there : (fuel p : ℕ) → p ≢ noPage → endFrom (suc fuel) b p ≡ Ended → there b p ≡ true
+  ended-there : (fuel p : ℕ) → p ≢ noPage → endFrom (suc fuel) b p ≡ atNone → there b p ≡ true
   ended-there fuel p n e =
       by-cases (there b p) (λ t. t)
-      (λ t. let h : NotThere p ≡ Ended = sym (chain-not-there b p fuel n t .1) ∙ e in let z : _≡_ {A = ℕ} 0 1 = cc in absurd (omega arith))
+      (λ t. let h : notThere p ≡ atNone = sym (chain-not-there b p fuel n t .1) ∙ e in let z : _≡_ {A = ℕ} 0 1 = cc in absurd (omega arith))
 
   chained-end : (fuel p : ℕ) → p ≡ noPage → Chained fuel p
   chained-end fuel p e =
@@ -122,7 +121,7 @@ module _ (b : List ℕ) where
         few = rw c (omega arith);
       }
 
-  pub ended-chained : (fuel p : ℕ) → endFrom fuel b p ≡ Ended → Chained fuel p
+  pub ended-chained : (fuel p : ℕ) → endFrom fuel b p ≡ atNone → Chained fuel p
   ended-chained zero p e = chained-end 0 p (ended-out p e)
   ended-chained (suc fuel) p e =
       by-cases (eqb p noPage)
@@ -131,7 +130,7 @@ module _ (b : List ℕ) where
 
   -- and a linked chain of pages that are there is read back
   pub linked-read : (fuel : ℕ) (l : List ℕ) → Linked noPage following l → Each (λ q. there b q ≡ true) l → length l ≤ fuel
-      → (chainFrom fuel b (firstOf noPage l) ≡ l) × (endFrom fuel b (firstOf noPage l) ≡ Ended)
+      → (chainFrom fuel b (firstOf noPage l) ≡ l) × (endFrom fuel b (firstOf noPage l) ≡ atNone)
   linked-read fuel [] k t h = chain-ended b noPage fuel refl
   linked-read zero (p ∷ l) k t h = absurd (not-suc-le-zero h)
   linked-read (suc fuel) (p ∷ l) k t h =

@@ -5,7 +5,7 @@ use Prim.Native.Nat.{ℕ, zero, suc, _+_, _-_, _*_, _≤_, _<_}
 use native.Mathlib.Nat.{add-assoc, add-zero, zero-add, not-suc-le-zero, le-of-suc-le-suc}
 use native.Mathlib.Omega.{arith}
 use lib.ListN.{length, getD, length-append, length-replicate, replicate}
-use Rattle.terms.specs.Terms.{Place, fieldBytes, pageEntries}
+use Rattle.terms.specs.Terms.{Fix, fieldBytes, pageEntries}
 use Rattle.lists.specs.Rows.{Row, Rows}
 use Rattle.lists.specs.Words.{le, word}
 use Rattle.lists.proofs.PartsLaws.{tab-of, length-tab}
@@ -15,11 +15,11 @@ use Rattle.entries.specs.Entries.{noRow}
 
 -- ---- lengths
 
-pub length-entryOf : (e : Row Place) → length (entryOf e) ≡ entryBytes
+pub length-entryOf : (e : Row Fix) → length (entryOf e) ≡ entryBytes
 unfolding entryOf
 length-entryOf e = simp (length-append, length-le)
 
-pub length-entriesOf : (es : Rows Place) → length (entriesOf es) ≡ entryBytes * length es
+pub length-entriesOf : (es : Rows Fix) → length (entriesOf es) ≡ entryBytes * length es
 unfolding entriesOf
 length-entriesOf [] = refl
 length-entriesOf (e ∷ es) = simp (length-append, length-entryOf, length-entriesOf es) (omega arith)
@@ -28,11 +28,11 @@ pub length-headOf : (u k n c : ℕ) → length (headOf u k n c) ≡ headBytes
 unfolding headOf
 length-headOf u k n c = simp (length-append, length-le)
 
-pub length-pageOf : (k n c : ℕ) (es : Rows Place) → length es ≤ pageEntries → length (pageOf k n c es) ≡ pageBytes
+pub length-pageOf : (k n c : ℕ) (es : Rows Fix) → length es ≤ pageEntries → length (pageOf k n c es) ≡ pageBytes
 unfolding pageOf
 length-pageOf k n c es h = simp (length-append, length-headOf, length-entriesOf, length-replicate) (omega arith)
 
-pub entriesOf-snoc : (es : Rows Place) (e : Row Place) → entriesOf (es ++ (e ∷ [])) ≡ entriesOf es ++ entryOf e
+pub entriesOf-snoc : (es : Rows Fix) (e : Row Fix) → entriesOf (es ++ (e ∷ [])) ≡ entriesOf es ++ entryOf e
 unfolding entriesOf
 entriesOf-snoc [] e = append-nil (entryOf e)
 entriesOf-snoc (x ∷ es) e = rw (entriesOf-snoc es e, append-assoc)
@@ -53,7 +53,7 @@ head-fields u k n c r =
       field-behind u _ 4 ∙ field-behind k _ 2 ∙ field-behind n _ 0 ∙ word-le 2 c _ (omega arith),
     )
 
-pub page-fields : (k n c : ℕ) (es : Rows Place)
+pub page-fields : (k n c : ℕ) (es : Rows Fix)
     → (used (pageOf k n c es) ≡ headBytes + entryBytes * length es) × (kind (pageOf k n c es) ≡ k) × (next (pageOf k n c es) ≡ n) × (cell (pageOf k n c es) ≡ c)
 unfolding pageOf
 page-fields k n c es = head-fields (headBytes + entryBytes * length es) k n c (entriesOf es ++ replicate (pageBytes - headBytes - entryBytes * length es) 0)
@@ -68,12 +68,12 @@ pub length-entries : (b : List ℕ) → length (entries b) ≡ count b
 unfolding entries
 length-entries b = length-tab (count b) (entryAt b)
 
-entry-fields : (e : Row Place) → (word fieldBytes (entryOf e) 0 ≡ e .key) × (word fieldBytes (entryOf e) 2 ≡ e .val .east) × (word fieldBytes (entryOf e) 4 ≡ e .val .north)
+entry-fields : (e : Row Fix) → (word fieldBytes (entryOf e) 0 ≡ e .key) × (word fieldBytes (entryOf e) 2 ≡ e .val .east) × (word fieldBytes (entryOf e) 4 ≡ e .val .north)
 unfolding entryOf le word
 entry-fields e = (omega arith, omega arith, omega arith)
 
 -- a field of an entry stands at six times its index
-entries-field : (es : Rows Place) (z : List ℕ) (i k : ℕ) → i < length es → k + fieldBytes ≤ entryBytes
+entries-field : (es : Rows Fix) (z : List ℕ) (i k : ℕ) → i < length es → k + fieldBytes ≤ entryBytes
     → word fieldBytes (entriesOf es ++ z) (entryBytes * i + k) ≡ word fieldBytes (entryOf (getD es i noRow)) k
 unfolding entriesOf
 entries-field [] z i k h b = absurd (not-suc-le-zero h)
@@ -84,13 +84,13 @@ entries-field (e ∷ es) z (suc i) k h b =
     let q : entryBytes * suc i + k ≡ entryBytes + (entryBytes * i + k) = omega arith in
     rw (append-assoc, q) (word-append fieldBytes (entryOf e) _ entryBytes (entryBytes * i + k) (length-entryOf e) ∙ entries-field es z i k (le-of-suc-le-suc h) b)
 
-page-field : (k n c : ℕ) (es : Rows Place) (i j : ℕ) → i < length es → j + fieldBytes ≤ entryBytes
+page-field : (k n c : ℕ) (es : Rows Fix) (i j : ℕ) → i < length es → j + fieldBytes ≤ entryBytes
     → word fieldBytes (pageOf k n c es) (headBytes + entryBytes * i + j) ≡ word fieldBytes (entryOf (getD es i noRow)) j
 unfolding pageOf
 page-field k n c es i j h b =
     rw add-assoc (word-append fieldBytes (headOf _ k n c) _ headBytes _ (length-headOf _ k n c) ∙ entries-field es _ i j h b)
 
-pub entryAt-pageOf : (k n c : ℕ) (es : Rows Place) (i : ℕ) → i < length es → entryAt (pageOf k n c es) i ≡ getD es i noRow
+pub entryAt-pageOf : (k n c : ℕ) (es : Rows Fix) (i : ℕ) → i < length es → entryAt (pageOf k n c es) i ≡ getD es i noRow
 unfolding entryAt
 entryAt-pageOf k n c es i h =
     let w = entry-fields (getD es i noRow) in
@@ -99,11 +99,11 @@ entryAt-pageOf k n c es i h =
     let o = page-field k n c es i 4 h (omega arith) ∙ w .2 in
     λ x. record { key = r x; val = record { east = e x; north = o x } }
 
-pub count-pageOf : (k n c : ℕ) (es : Rows Place) → length es ≤ pageEntries → count (pageOf k n c es) ≡ length es
+pub count-pageOf : (k n c : ℕ) (es : Rows Fix) → length es ≤ pageEntries → count (pageOf k n c es) ≡ length es
 unfolding count
 count-pageOf k n c es h = rw (page-fields k n c es .0) (omega arith)
 
-pub entries-pageOf : (k n c : ℕ) (es : Rows Place) → length es ≤ pageEntries → entries (pageOf k n c es) ≡ es
+pub entries-pageOf : (k n c : ℕ) (es : Rows Fix) → length es ≤ pageEntries → entries (pageOf k n c es) ≡ es
 unfolding entries
 entries-pageOf k n c es h =
     rw (count-pageOf k n c es h) (sym (tab-of es (length es) noRow _ refl (λ i b. sym (entryAt-pageOf k n c es i b))))

@@ -1,13 +1,15 @@
 -- The page buffer (01, "Records and pages"): 128 pages one after the other, and chains of them by next page.
 use mathlib.Core.Bool.{Bool, cond}
-use mathlib.Core.List.{List, [], _∷_}
+use mathlib.Core.List.{List, [], _∷_, map}
 use Prim.Native.Nat.{ℕ, zero, suc, _+_, _*_}
 use lib.Dec.{eqb, leb, ltb}
 use lib.ListN.{length, take}
-use Rattle.terms.specs.Terms.{pages, noPage}
+use Rattle.terms.specs.Terms.{Fix, pages, noPage}
 use Rattle.lists.specs.Parts.{part, put}
+use Rattle.lists.specs.Rows.{Rows}
+use Rattle.lists.specs.Sums.{concat}
 use Rattle.lists.specs.Tests.{both}
-use Rattle.page.specs.Page.{pageBytes, next}
+use Rattle.page.specs.Page.{pageBytes, next, entries}
 use Rattle.page.specs.declared.Chain.{Chain}
 use Rattle.page.specs.declared.ChainEnd.{ChainEnd}
 use Rattle.page.specs.declared.ChainEnd.the-variants.{Ended, PastBound, NotThere}
@@ -37,10 +39,29 @@ unfoldable pub chainFrom : ℕ → List ℕ → ℕ → List ℕ
 chainFrom zero b p = []
 chainFrom (suc fuel) b p = cond (eqb p noPage) [] (cond (there b p) (p ∷ chainFrom fuel b (next (pageAt b p))) [])
 
-abbrev pub boundEnd : ℕ → ChainEnd
-boundEnd p = cond (eqb p noPage) Ended PastBound
-
 -- how it ends: at none, past its bound, or at a page that is not there
-unfoldable pub endFrom : ℕ → List ℕ → ℕ → ChainEnd
+pub data End : Type 0 where
+  atNone : End
+  pastBound : End
+  notThere : ℕ → End
+
+-- the end that each case of an answer gives
+abbrev pub endOf : ChainEnd → End
+endOf Ended = atNone
+endOf PastBound = pastBound
+endOf (NotThere p) = notThere p
+
+abbrev pub boundEnd : ℕ → End
+boundEnd p = cond (eqb p noPage) atNone pastBound
+
+unfoldable pub endFrom : ℕ → List ℕ → ℕ → End
 endFrom zero b p = boundEnd p
-endFrom (suc fuel) b p = cond (eqb p noPage) Ended (cond (there b p) (endFrom fuel b (next (pageAt b p))) (NotThere p))
+endFrom (suc fuel) b p = cond (eqb p noPage) atNone (cond (there b p) (endFrom fuel b (next (pageAt b p))) (notThere p))
+
+-- the entries on these pages, one page after the other
+unfoldable pub entriesOn : List ℕ → List ℕ → Rows Fix
+entriesOn b ps = concat (map (λ p. entries (pageAt b p)) ps)
+
+-- "A chain runs from a cell's first page .. by next page": the entries on its pages
+unfoldable pub entriesFrom : List ℕ → ℕ → Rows Fix
+entriesFrom b first = entriesOn b (chainFrom pages b first)

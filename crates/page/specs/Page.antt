@@ -2,7 +2,7 @@
 use mathlib.Core.List.{List, [], _∷_, _++_}
 use Prim.Native.Nat.{ℕ, _+_, _*_, _-_, _/_, min}
 use lib.ListN.{length, replicate}
-use Rattle.terms.specs.Terms.{Place, fieldBytes, pageEntries, noCell}
+use Rattle.terms.specs.Terms.{Fix, fieldBytes, pageEntries, noCell}
 use Rattle.lists.specs.Parts.{tab}
 use Rattle.lists.specs.Rows.{Row, Rows}
 use Rattle.lists.specs.Words.{le, word}
@@ -31,10 +31,10 @@ kindFurther = 3
 -- ---- bytes
 
 -- "entries of radio, east, north"
-unfoldable pub entryOf : Row Place → List ℕ
+unfoldable pub entryOf : Row Fix → List ℕ
 entryOf e = le fieldBytes (e .key) ++ (le fieldBytes (e .val .east) ++ le fieldBytes (e .val .north))
 
-unfoldable pub entriesOf : Rows Place → List ℕ
+unfoldable pub entriesOf : Rows Fix → List ℕ
 entriesOf [] = []
 entriesOf (e ∷ es) = entryOf e ++ entriesOf es
 
@@ -43,7 +43,7 @@ unfoldable pub headOf : ℕ → ℕ → ℕ → ℕ → List ℕ
 headOf used kind next cell = le fieldBytes used ++ (le fieldBytes kind ++ (le fieldBytes next ++ le fieldBytes cell))
 
 -- the whole page: "Unused bytes are zero."
-unfoldable pub pageOf : ℕ → ℕ → ℕ → Rows Place → List ℕ
+unfoldable pub pageOf : ℕ → ℕ → ℕ → Rows Fix → List ℕ
 pageOf kind next cell es =
     headOf (headBytes + entryBytes * length es) kind next cell
     ++ (entriesOf es ++ replicate (pageBytes - headBytes - entryBytes * length es) 0)
@@ -73,11 +73,11 @@ roomOf used = min pageEntries ((used - headBytes) / entryBytes)
 unfoldable pub count : List ℕ → ℕ
 count b = roomOf (used b)
 
-unfoldable pub entryAt : List ℕ → ℕ → Row Place
+unfoldable pub entryAt : List ℕ → ℕ → Row Fix
 entryAt b i = record {
   key = word fieldBytes b (headBytes + entryBytes * i);
   val = record { east = word fieldBytes b (headBytes + entryBytes * i + 2); north = word fieldBytes b (headBytes + entryBytes * i + 4) };
 }
 
-unfoldable pub entries : List ℕ → Rows Place
+unfoldable pub entries : List ℕ → Rows Fix
 entries b = tab (count b) (entryAt b)

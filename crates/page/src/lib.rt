@@ -47,7 +47,12 @@ pub fn page_at(buffer: &[u8], p: usize) -> &[u8]
 // The four fields at a page's front.
 pub fn read_header(page: &[u8]) -> Header
     requires { ⌜ headBytes ≤ length (now page) ⌝ }
-    ensures { λ r. ⌜ r ≡ record { used = used (now (page .entry)); kind = kind (now (page .entry)); next = next (now (page .entry)); cell = cell (now (page .entry)) } ⌝ }
+    ensures { λ r. ⌜ r ≡ record {
+      used = used (now (page .entry));
+      kind = kind (now (page .entry));
+      next = next (now (page .entry));
+      cell = cell (now (page .entry));
+    } ⌝ }
 {
     Header {
         used: fields::read(page, 0),
@@ -100,7 +105,7 @@ pub enum ChainEnd {
 pub struct Chain {
     pub end: ChainEnd,
     pub n: usize,
-    pub pages: [u16; 128],
+    pub pages: [u16; PAGES],
 }
 
 // Whether p is one of the pages, and the buffer reaches to its end.

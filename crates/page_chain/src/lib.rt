@@ -2,7 +2,7 @@
 ghost use mathlib.Core.Path.{_≡_};
 ghost use Prim.Native.Nat.{_≤_};
 ghost use Rattle.terms.specs.Terms.{pages};
-ghost use Rattle.page.specs.Buffer.{pagesOf, chainFrom, boundEnd, endFrom};
+ghost use Rattle.page.specs.Buffer.{pagesOf, chainFrom, endOf, boundEnd, endFrom};
 use page::Chain;
 use page::ChainEnd;
 use terms::NO_PAGE;
@@ -10,9 +10,11 @@ use terms::PAGES;
 
 // The chain from `first` on, by next page, on any bytes whatever.
 pub fn read_chain(buffer: &[u8], first: u16) -> Chain
-    ensures { λ r. ⌜ (pagesOf r ≡ chainFrom pages (now (buffer .entry)) first) × (r .end ≡ endFrom pages (now (buffer .entry)) first) × (r .n ≤ pages) ⌝ }
+    ensures { λ r. ⌜ (pagesOf r ≡ chainFrom pages (now (buffer .entry)) first)
+        × (endOf (r .end) ≡ endFrom pages (now (buffer .entry)) first)
+        × (r .n ≤ pages) ⌝ }
 {
-    let mut pages = [0u16; 128];
+    let mut pages = [0u16; PAGES];
     let mut p = first;
     let mut n: usize = 0;
     while n < PAGES {
@@ -43,7 +45,7 @@ pub fn read_chain(buffer: &[u8], first: u16) -> Chain
 
 // How a chain ends that has as many pages as it may.
 fn bound_end(p: u16) -> ChainEnd
-    ensures { λ r. ⌜ r ≡ boundEnd p ⌝ }
+    ensures { λ r. ⌜ endOf r ≡ boundEnd p ⌝ }
 {
     if p == NO_PAGE {
         ChainEnd::Ended

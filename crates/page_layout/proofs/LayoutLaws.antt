@@ -1,6 +1,7 @@
 -- A page that passes the test is the bytes of the entries that it says, and the bytes of such entries pass.
 use mathlib.Core.Bool.{true, false}
 use mathlib.Core.List.{List, [], _∷_, _++_, append-assoc}
+use mathlib.Core.Option.{none, some}
 use mathlib.Core.Path.{_≡_, refl, sym, ap, ap₂, _∙_}
 use Prim.Native.Nat.{ℕ, zero, suc, _+_, _-_, _*_, _≤_, _<_}
 use native.Mathlib.Numerals.{add-one}
@@ -9,35 +10,34 @@ use lib.Dec.{eqb, leb, ltb}
 use lib.ListN.{length, drop, replicate, length-append, length-drop, take-append-drop}
 use lib.Seq.{drop-at, drop-drop}
 use borrow.Author.Tests.{eqb-true, eqb-false, eq-eqb, ltb-true, lt-ltb, leb-true, le-leb}
-use Rattle.terms.specs.Terms.{Place, maxRadio, pageEntries}
+use Rattle.terms.specs.Terms.{Fix, maxRadio, pageEntries}
 use Rattle.lists.specs.Parts.{part, tab}
 use Rattle.lists.specs.Rows.{Row, Rows, Rising, UpTo}
-use Rattle.lists.specs.Tests.{both}
+use Rattle.lists.specs.Tests.{both, isSome}
 use Rattle.lists.specs.Words.{Bytes}
 use Rattle.lists.proofs.Cases.{by-cases, false-true}
 use Rattle.lists.proofs.PartsLaws.{length-tab, part-append, part-zero, tab-suc}
 use Rattle.lists.proofs.TestsLaws.{both-left, both-right, both-intro, either-cases, either-left, either-right}
 use Rattle.lists.proofs.WordsLaws.{le-word}
 use Rattle.page.specs.Page.{pageBytes, headBytes, entryBytes, kindFree, kindFirst, kindFurther, entryOf, entriesOf, headOf, pageOf, used, kind, next, cell, count, entryAt, entries}
-use Rattle.page_layout.specs.Layout.{LaidOut, climb, climbs, top, kindFits, laidOut}
-use Rattle.page_layout.specs.declared.Climb.the-variants.{To, Broken}
+use Rattle.page_layout.specs.Layout.{LaidOut, climb, top, kindFits, laidOut}
 use Rattle.page.proofs.PageLaws.{length-entriesOf, length-headOf, length-pageOf, length-entries, entriesOf-snoc, page-fields, count-le, count-pageOf, entries-pageOf}
 
 -- ---- the climb
 
-pub climb-none : (low : ℕ) → climb low [] ≡ To low
+pub climb-none : (low : ℕ) → climb low [] ≡ some low
 unfolding climb
 climb-none low = refl
 
-pub climb-step : (low : ℕ) (e : Row Place) (es : Rows Place) → low < e .key → e .key ≤ maxRadio → climb low (e ∷ es) ≡ climb (e .key) es
+pub climb-step : (low : ℕ) (e : Row Fix) (es : Rows Fix) → low < e .key → e .key ≤ maxRadio → climb low (e ∷ es) ≡ climb (e .key) es
 unfolding climb
 climb-step low e es h k = rw (both-intro (lt-ltb _ _ h) (le-leb _ _ k))
 
-pub climb-stop : (low : ℕ) (e : Row Place) (es : Rows Place) → both (ltb low (e .key)) (leb (e .key) maxRadio) ≡ false → climb low (e ∷ es) ≡ Broken
+pub climb-stop : (low : ℕ) (e : Row Fix) (es : Rows Fix) → both (ltb low (e .key)) (leb (e .key) maxRadio) ≡ false → climb low (e ∷ es) ≡ none
 unfolding climb
 climb-stop low e es t = rw t
 
-pub climb-rising : (low : ℕ) (es : Rows Place) → climbs (climb low es) ≡ true → Rising low es × UpTo maxRadio es
+pub climb-rising : (low : ℕ) (es : Rows Fix) → isSome (climb low es) ≡ true → Rising low es × UpTo maxRadio es
 unfolding climb
 climb-rising low [] = λ h. (tt, tt)
 climb-rising low (e ∷ es) =
@@ -46,22 +46,22 @@ climb-rising low (e ∷ es) =
     (λ t. rw t false-true)
 
 -- the last key, low for none
-unfoldable pub lastKey : ℕ → Rows Place → ℕ
+unfoldable pub lastKey : ℕ → Rows Fix → ℕ
 lastKey low [] = low
 lastKey low (e ∷ es) = lastKey (e .key) es
 
-pub rising-climb : (low : ℕ) (es : Rows Place) → Rising low es → UpTo maxRadio es → climb low es ≡ To (lastKey low es)
+pub rising-climb : (low : ℕ) (es : Rows Fix) → Rising low es → UpTo maxRadio es → climb low es ≡ some (lastKey low es)
 unfolding lastKey
 rising-climb low [] r u = climb-none low
 rising-climb low (e ∷ es) r u = climb-step low e es (r .0) (u .0) ∙ rising-climb (e .key) es (r .1) (u .1)
 
-pub climb-append : (low : ℕ) (xs ys : Rows Place) {last : ℕ} → climb low xs ≡ To last → climb low (xs ++ ys) ≡ climb last ys
+pub climb-append : (low : ℕ) (xs ys : Rows Fix) {last : ℕ} → climb low xs ≡ some last → climb low (xs ++ ys) ≡ climb last ys
 unfolding climb
 climb-append low [] ys = λ e. cc
 climb-append low (x ∷ xs) ys =
     by-cases (both (ltb low (x .key)) (leb (x .key) maxRadio)) (λ t. rw t (λ e. climb-append (x .key) xs ys e)) (λ t. rw t (λ e. cc))
 
-pub climb-append-broken : (low : ℕ) (xs ys : Rows Place) → climb low xs ≡ Broken → climb low (xs ++ ys) ≡ Broken
+pub climb-append-broken : (low : ℕ) (xs ys : Rows Fix) → climb low xs ≡ none → climb low (xs ++ ys) ≡ none
 unfolding climb
 climb-append-broken low [] ys = λ e. cc
 climb-append-broken low (x ∷ xs) ys =
@@ -148,7 +148,7 @@ known-fits k n a b f g =
 
 -- ---- the theorem
 
-no-rows : (l : Rows Place) → length l ≡ 0 → l ≡ []
+no-rows : (l : Rows Fix) → length l ≡ 0 → l ≡ []
 no-rows [] e = refl
 no-rows (x ∷ l) e = absurd (omega arith)
 
@@ -173,7 +173,7 @@ laid-out b small h =
       radios = r .1;
     }
 
-top-pageOf : (k n c : ℕ) (es : Rows Place) → length es ≤ pageEntries → top (drop (headBytes + entryBytes * length es) (pageOf k n c es)) ≡ 0
+top-pageOf : (k n c : ℕ) (es : Rows Fix) → length es ≤ pageEntries → top (drop (headBytes + entryBytes * length es) (pageOf k n c es)) ≡ 0
 unfolding pageOf
 top-pageOf k n c es few =
     let z : ℕ = pageBytes - headBytes - entryBytes * length es in
@@ -182,7 +182,7 @@ top-pageOf k n c es few =
     rw (← append-assoc h (entriesOf es) (replicate z 0), drop-at (h ++ entriesOf es) (replicate z 0) (headBytes + entryBytes * length es) l, top-zeros)
 
 -- the bytes of entries that rise pass
-pub page-passes : (k n c : ℕ) (es : Rows Place) → length es ≤ pageEntries → kindFits k (length es) ≡ true → Rising 0 es → UpTo maxRadio es → laidOut (pageOf k n c es) ≡ true
+pub page-passes : (k n c : ℕ) (es : Rows Fix) → length es ≤ pageEntries → kindFits k (length es) ≡ true → Rising 0 es → UpTo maxRadio es → laidOut (pageOf k n c es) ≡ true
 unfolding laidOut
 page-passes k n c es few fits r u =
     let w = page-fields k n c es in

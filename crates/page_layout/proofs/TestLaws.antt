@@ -1,6 +1,7 @@
 -- What the functions of the layout test need: a law for each turn, end or return, in the words of the contracts.
 use mathlib.Core.Bool.{Bool, true, false, not}
 use mathlib.Core.List.{List, _∷_}
+use mathlib.Core.Option.{Option, none, some}
 use mathlib.Core.Path.{_≡_, sym, ap, _∙_}
 use Prim.Native.Nat.{ℕ, suc, _+_, _*_, _≤_, _<_, max}
 use native.Mathlib.Numerals.{add-one}
@@ -11,14 +12,14 @@ use lib.Seq.{drop-cons}
 use borrow.Author.Tests.{eq-eqb, ne-eqb, le-ltb, lt-leb}
 use Rattle.terms.specs.Terms.{fieldBytes, maxRadio}
 use Rattle.lists.specs.Parts.{tab}
-use Rattle.lists.specs.Tests.{both, either}
+use Rattle.lists.specs.Tests.{both, either, isSome}
 use Rattle.lists.specs.Words.{word}
 use Rattle.lists.proofs.Cases.{by-cases}
 use Rattle.lists.proofs.PartsLaws.{length-tab, getD-tab}
 use Rattle.lists.proofs.TestsLaws.{not-true, not-false, both-left-false, both-right-false}
 use Rattle.entries.specs.Entries.{noRow}
 use Rattle.page.specs.Page.{pageBytes, headBytes, entryBytes, kindFree, kindFirst, kindFurther, used, kind, next, cell, roomOf, count, entryAt, entries}
-use Rattle.page_layout.specs.Layout.{climb, climbs, top, kindFits, laidOut}
+use Rattle.page_layout.specs.Layout.{climb, climbOf, top, kindFits, laidOut}
 use Rattle.page_layout.specs.declared.Climb.{Climb}
 use Rattle.page_layout.specs.declared.Climb.the-variants.{To, Broken}
 use Rattle.page.specs.declared.Header.{Header}
@@ -53,16 +54,16 @@ module _ (b : List ℕ) (n low i last : ℕ) (inside : i < n) (so : climb last (
         let g = rw (open-entry, climb-step last (entryAt b i) (drop (suc i) (tab n (entryAt b))) (omega arith) (omega arith)) at so in
         rw (add-one i) (ap (λ (x : ℕ). climb x (drop (suc i) (tab n (entryAt b)))) (sym a) ∙ g)
 
-    stop : both (ltb last (entryAt b i .key)) (leb (entryAt b i .key) maxRadio) ≡ false → Broken ≡ climb low (tab n (entryAt b))
+    stop : both (ltb last (entryAt b i .key)) (leb (entryAt b i .key) maxRadio) ≡ false → none ≡ climb low (tab n (entryAt b))
     stop t = sym (climb-stop last (entryAt b i) (drop (suc i) (tab n (entryAt b))) t) ∙ rw open-entry at so
 
-    pub climb-low : r ≤ last → Broken ≡ climb low (tab n (entryAt b))
+    pub climb-low : r ≤ last → none ≡ climb low (tab n (entryAt b))
     climb-low h = let a = radio-is in stop (both-left-false _ (le-ltb last (entryAt b i .key) (omega arith)))
 
-    pub climb-high : maxRadio < r → Broken ≡ climb low (tab n (entryAt b))
+    pub climb-high : maxRadio < r → none ≡ climb low (tab n (entryAt b))
     climb-high h = let a = radio-is in stop (both-right-false _ (lt-leb (entryAt b i .key) maxRadio (omega arith)))
 
-pub climb-end : (b : List ℕ) (n low : ℕ) {i last : ℕ} → n ≤ i → climb last (drop i (tab n (entryAt b))) ≡ climb low (tab n (entryAt b)) → To last ≡ climb low (tab n (entryAt b))
+pub climb-end : (b : List ℕ) (n low : ℕ) {i last : ℕ} → n ≤ i → climb last (drop i (tab n (entryAt b))) ≡ climb low (tab n (entryAt b)) → some last ≡ climb low (tab n (entryAt b))
 climb-end b n low {i} {last} h so =
     let l = length-tab n (entryAt b) in
     sym (climb-none last) ∙ rw (drop-of-length-le (tab n (entryAt b)) {i = i} (omega arith)) at so
@@ -117,13 +118,13 @@ module _ (b : List ℕ) (whole : length b ≡ pageBytes) (h : Header) (head : h 
       unfolding laidOut both
       laid-unused z = rw (eq-eqb (length b) pageBytes whole, count-is, used-is, eq-eqb (h .used) (headBytes + entryBytes * n) fit, kind-is, ← fits, not-false f good, ← most, ne-eqb s 0 z)
 
-      module _ (zeros : s ≡ 0) {r : Climb} (rise : r ≡ climb 0 (tab n (entryAt b))) where
-        laid-rest : climbs r ≡ laidOut b
+      module _ (zeros : s ≡ 0) where
+        laid-rest : {last : Option ℕ} → last ≡ climb 0 (tab n (entryAt b)) → isSome last ≡ laidOut b
         unfolding laidOut both entries
-        laid-rest = rw (eq-eqb (length b) pageBytes whole, count-is, used-is, eq-eqb (h .used) (headBytes + entryBytes * n) fit, kind-is, ← fits, not-false f good, ← most, eq-eqb s 0 zeros, ← rise)
+        laid-rest rise = rw (eq-eqb (length b) pageBytes whole, count-is, used-is, eq-eqb (h .used) (headBytes + entryBytes * n) fit, kind-is, ← fits, not-false f good, ← most, eq-eqb s 0 zeros, ← rise)
 
-        pub laid-rise : {last : ℕ} → r ≡ To last → true ≡ laidOut b
-        laid-rise e = sym (ap climbs e) ∙ laid-rest
+        pub laid-rise : {r : Climb} {last : ℕ} → climbOf r ≡ climb 0 (tab n (entryAt b)) → r ≡ To last → true ≡ laidOut b
+        laid-rise rise e = laid-rest (sym (ap climbOf e) ∙ rise)
 
-        pub laid-broken : r ≡ Broken → false ≡ laidOut b
-        laid-broken e = sym (ap climbs e) ∙ laid-rest
+        pub laid-broken : {r : Climb} → climbOf r ≡ climb 0 (tab n (entryAt b)) → r ≡ Broken → false ≡ laidOut b
+        laid-broken rise e = laid-rest (sym (ap climbOf e) ∙ rise)

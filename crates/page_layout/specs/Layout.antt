@@ -1,20 +1,21 @@
 -- A page is laid out (01, "Records and pages"): what that is, and the test of it that the program runs.
-use mathlib.Core.Bool.{Bool, true, false, cond}
+use mathlib.Core.Bool.{Bool, cond}
 use mathlib.Core.List.{List, [], _∷_}
+use mathlib.Core.Option.{Option, none, some}
 use mathlib.Core.Path.{_≡_}
 use Prim.Native.Nat.{ℕ, _+_, _*_, _≤_, max}
 use lib.Dec.{eqb, leb, ltb}
 use lib.ListN.{length, drop}
-use Rattle.terms.specs.Terms.{Place, maxRadio, pageEntries}
+use Rattle.terms.specs.Terms.{Fix, maxRadio, pageEntries}
 use Rattle.lists.specs.Rows.{Rows, Rising, UpTo}
-use Rattle.lists.specs.Tests.{both, either}
+use Rattle.lists.specs.Tests.{both, either, isSome}
 use Rattle.page.specs.Page.{pageBytes, headBytes, entryBytes, kindFree, kindFirst, kindFurther, pageOf, used, kind, next, cell, count, entries}
 use Rattle.page_layout.specs.declared.Climb.{Climb}
 use Rattle.page_layout.specs.declared.Climb.the-variants.{To, Broken}
 
 -- the bytes are those of some entries; next page and cell are not looked at
 pub record LaidOut (b : List ℕ) : Type 0 where
-  pub rows : Rows Place
+  pub rows : Rows Fix
   pub bytes : b ≡ pageOf (kind b) (next b) (cell b) rows
   -- "up to 32 entries"
   pub few : length rows ≤ pageEntries
@@ -30,13 +31,14 @@ pub record LaidOut (b : List ℕ) : Type 0 where
 -- ---- the test
 
 -- the last radio, if they rise from above low up to the greatest number
-unfoldable pub climb : ℕ → Rows Place → Climb
-climb low [] = To low
-climb low (e ∷ es) = cond (both (ltb low (e .key)) (leb (e .key) maxRadio)) (climb (e .key) es) Broken
+unfoldable pub climb : ℕ → Rows Fix → Option ℕ
+climb low [] = some low
+climb low (e ∷ es) = cond (both (ltb low (e .key)) (leb (e .key) maxRadio)) (climb (e .key) es) none
 
-abbrev pub climbs : Climb → Bool
-climbs (To last) = true
-climbs Broken = false
+-- the last radio that each case of an answer gives, if any
+abbrev pub climbOf : Climb → Option ℕ
+climbOf (To last) = some last
+climbOf Broken = none
 
 -- the greatest of a list, 0 for none
 unfoldable pub top : List ℕ → ℕ
@@ -53,4 +55,4 @@ laidOut b =
     (both (eqb (used b) (headBytes + entryBytes * count b))
     (both (kindFits (kind b) (count b))
     (both (eqb (top (drop (headBytes + entryBytes * count b) b)) 0)
-    (climbs (climb 0 (entries b))))))
+    (isSome (climb 0 (entries b))))))

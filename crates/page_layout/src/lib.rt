@@ -5,7 +5,7 @@ ghost use lib.ListN.{length, drop};
 ghost use Rattle.terms.specs.Terms.{pageEntries};
 ghost use Rattle.lists.specs.Parts.{tab};
 ghost use Rattle.page.specs.Page.{headBytes, entryBytes, entryAt};
-ghost use Rattle.page_layout.specs.Layout.{climb, top, kindFits, laidOut};
+ghost use Rattle.page_layout.specs.Layout.{climb, climbOf, top, kindFits, laidOut};
 use page::ENTRY_BYTES;
 use page::HEAD_BYTES;
 use page::KIND_FIRST;
@@ -23,7 +23,7 @@ pub enum Climb {
 // The first n radios rise from above `low` up to the greatest number.
 pub fn radios_rise(page: &[u8], n: usize, low: u16) -> Climb
     requires { ⌜ (n ≤ pageEntries) × (headBytes + entryBytes * n ≤ length (now page)) ⌝ }
-    ensures { λ r. ⌜ r ≡ climb low (tab n (entryAt (now (page .entry)))) ⌝ }
+    ensures { λ r. ⌜ climbOf r ≡ climb low (tab n (entryAt (now (page .entry)))) ⌝ }
 {
     let mut last = low;
     let mut i: usize = 0;

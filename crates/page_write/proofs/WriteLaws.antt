@@ -4,7 +4,7 @@ use mathlib.Core.Path.{_≡_, refl, sym, _∙_}
 use Prim.Native.Nat.{ℕ, _+_, _-_, _*_, _≤_, _<_}
 use native.Mathlib.Omega.{arith}
 use lib.ListN.{length, getD, take, drop, replicate, length-append, length-replicate, length-take}
-use Rattle.terms.specs.Terms.{Place, fieldBytes, maxOn, pageEntries, noCell}
+use Rattle.terms.specs.Terms.{Fix, fieldBytes, maxOn, pageEntries, noCell}
 use Rattle.lists.specs.Parts.{part, put}
 use Rattle.lists.specs.Rows.{Row, Rows}
 use Rattle.lists.specs.Words.{le}
@@ -35,19 +35,19 @@ put-head p u k n c h f g i j =
 -- ---- the loop that writes a page's entries
 
 -- i of the n rows of l from `from` on stand in q, and nothing else of p is changed
-pub record Writing (l : Rows Place) (from n : ℕ) (p : List ℕ) (i : ℕ) (q : List ℕ) : Type 0 where
+pub record Writing (l : Rows Fix) (from n : ℕ) (p : List ℕ) (i : ℕ) (q : List ℕ) : Type 0 where
   pub fits : from + n ≤ length l
   pub few : n ≤ pageEntries
   pub passed : i ≤ n
   pub size : length p ≡ pageBytes
   pub list : q ≡ put p headBytes (entriesOf (part l from i))
 
-length-part-le : (l : Rows Place) (from n : ℕ) → length (part l from n) ≤ n
+length-part-le : (l : Rows Fix) (from n : ℕ) → length (part l from n) ≤ n
 unfolding part
 length-part-le l from n = simp length-take (omega arith)
 
 -- how long a part is, and its bytes
-lengths : (l : Rows Place) (from i : ℕ) → from + i ≤ length l → (length (part l from i) ≡ i) × (length (entriesOf (part l from i)) ≡ entryBytes * i)
+lengths : (l : Rows Fix) (from i : ℕ) → from + i ≤ length l → (length (part l from i) ≡ i) × (length (entriesOf (part l from i)) ≡ entryBytes * i)
 lengths l from i h = let e : length (part l from i) ≡ i = length-part l from i h in (e, length-entriesOf _ ∙ rw e)
 
 pub writing-start : (s : Entries) (from n : ℕ) (p : List ℕ) → length (s .all) ≡ maxOn → s .n ≤ maxOn → from + n ≤ s .n → n ≤ pageEntries → length p ≡ pageBytes
@@ -57,7 +57,7 @@ writing-start s from n p a b f k l =
     let r = length-rows s (omega arith) in
     record { fits = omega arith; few = k; passed = omega arith; size = l; list = rw (part-zero (rowsOf s) from) (sym (put-nil p headBytes)) }
 
-pub writing-turn : {l : Rows Place} {from n : ℕ} {p : List ℕ} {i : ℕ} {q r : List ℕ} {e : Row Place} → Writing l from n p i q → i < n
+pub writing-turn : {l : Rows Fix} {from n : ℕ} {p : List ℕ} {i : ℕ} {q r : List ℕ} {e : Row Fix} → Writing l from n p i q → i < n
     → e ≡ getD l (from + i) noRow → r ≡ put q (headBytes + entryBytes * i) (entryOf e) → Writing l from n p (i + 1) r
 writing-turn {l} {from} {n} {p} {i} w b g h =
     let t = w .fits in
@@ -70,7 +70,7 @@ writing-turn {l} {from} {n} {p} {i} w b g h =
       list = put-then p headBytes _ _ (w .list) h (omega arith) (omega arith) ∙ rw (part-suc l from i noRow (omega arith), entriesOf-snoc, g);
     }
 
-pub writing-end : {l : Rows Place} {from n : ℕ} {p : List ℕ} {i : ℕ} {q r : List ℕ} (p₀ : List ℕ) (k x c : ℕ) → Writing l from n p i q → n ≤ i
+pub writing-end : {l : Rows Fix} {from n : ℕ} {p : List ℕ} {i : ℕ} {q r : List ℕ} (p₀ : List ℕ) (k x c : ℕ) → Writing l from n p i q → n ≤ i
     → length p₀ ≡ pageBytes → length q ≡ pageBytes → p ≡ put p₀ 0 (headOf (headBytes + entryBytes * n) k x c)
     → r ≡ put q (headBytes + entryBytes * n) (replicate (length q - (headBytes + entryBytes * n)) 0)
     → r ≡ pageOf k x c (part l from n)
@@ -101,7 +101,7 @@ lent-page : (b : List ℕ) (p : ℕ) (v : List ℕ) → length v ≡ pageBytes
 unfolding putPage
 lent-page b p v h = lent b v (pageBytes * p) (pageBytes * p + pageBytes - pageBytes * p) (omega arith)
 
-pub lent-entries : (b : List ℕ) {v : List ℕ} (p k x c : ℕ) (l : Rows Place) (from n : ℕ) → n ≤ pageEntries → v ≡ pageOf k x c (part l from n)
+pub lent-entries : (b : List ℕ) {v : List ℕ} (p k x c : ℕ) (l : Rows Fix) (from n : ℕ) → n ≤ pageEntries → v ≡ pageOf k x c (part l from n)
     → take (pageBytes * p) b ++ (v ++ drop (pageBytes * p + pageBytes - pageBytes * p) (drop (pageBytes * p) b)) ≡ putPage b p (pageOf k x c (part l from n))
 lent-entries b p k x c l from n h e = rw e (lent-page b p _ (length-pageOf k x c _ (omega (arith, length-part-le l from n))))
 

@@ -8,7 +8,7 @@ use Prim.Native.Nat.{ℕ, _+_, _≤_}
 use native.Mathlib.Omega.{arith}
 use lib.Dec.{eqb}
 use borrow.Author.Tests.{eqb-true, leb-true, le-leb}
-use Rattle.terms.specs.Terms.{Place}
+use Rattle.terms.specs.Terms.{Place, Fix}
 use Rattle.lists.specs.Rows.{Rows, Rising, find, putRow, passed}
 use Rattle.lists.specs.Sums.{sumBy}
 use Rattle.lists.specs.Tests.{one-if, both, isSome, orElse, Each}
@@ -251,7 +251,7 @@ module _ (s : Store) (w : WellFormed s) (rect : Rect) (r : ℕ) (on : isOn s r �
 
 -- ---- the same list
 
-listIf-seen : (rect : Rect) (r : ℕ) (o : Option Place) (l : Rows Place) → listIf rect r o l ≡ putRow r (seen rect o) l
+listIf-seen : (rect : Rect) (r : ℕ) (o : Option Place) (l : Rows Fix) → listIf rect r o l ≡ putRow r (seen rect o) l
 listIf-seen rect r none l = refl
 listIf-seen rect r (some p) l = by-cases (inside rect p) (λ t. rw t) (λ t. rw t)
 
@@ -260,7 +260,7 @@ unfolding listOf
 listOf-seen rect f g [] e = refl
 listOf-seen rect f g (x ∷ l) e =
     listIf-seen rect (x .key) (f (x .key)) (listOf rect f l)
-    ∙ ap₂ (λ (o : Option Place) (m : Rows Place). putRow (x .key) o m) (e .0) (listOf-seen rect f g l (e .1))
+    ∙ ap₂ (λ (o : Option Place) (m : Rows Fix). putRow (x .key) o m) (e .0) (listOf-seen rect f g l (e .1))
     ∙ sym (listIf-seen rect (x .key) (g (x .key)) (listOf rect g l))
 
 -- the radios on whose place in the table lies in the rectangle are those whose latest place does

@@ -7,7 +7,7 @@ use native.Mathlib.Omega.{arith}
 use lib.ListN.{length, getD, set, take, replicate, length-map, length-set, length-take, length-replicate}
 use lib.Seq.{take-suc-set, take-set-le}
 use borrow.Author.Tests.{lt-ltb, le-ltb}
-use Rattle.terms.specs.Terms.{Place, fieldBytes, maxRadio, maxOn}
+use Rattle.terms.specs.Terms.{Fix, fieldBytes, maxRadio, maxOn}
 use Rattle.lists.specs.Parts.{put}
 use Rattle.lists.specs.Rows.{Row, Rows, UpTo}
 use Rattle.lists.specs.Sums.{keep, filter}
@@ -17,6 +17,7 @@ use Rattle.lists.proofs.Cases.{by-cases}
 use Rattle.lists.proofs.SumsLaws.{filter-append}
 use Rattle.lists.proofs.PartsLaws.{put-nil, put-then}
 use Rattle.lists.proofs.TestsLaws.{each-filter}
+use Rattle.lists.proofs.SlotsLaws.{mapped-turn, mapped-end, each-mapped}
 use Rattle.rules.specs.Grid.{Rect, inside}
 use Rattle.rules.specs.Carry.{inRange, listIf, listOf, listBytes, bytesOf}
 use Rattle.rules.specs.Told.{toldList}
@@ -28,7 +29,6 @@ use Rattle.desk.specs.Views.{radioRow, radiosOf, slotsIn}
 use Rattle.memo.specs.Memo.{linesOf}
 use Rattle.waiting.specs.Waiting.{reportsOf}
 use Rattle.range_places.specs.Places.{Places, noPlaces, placesIn, radioSlots, Holds, placesOf}
-use Rattle.range_places.proofs.TableLaws.{mapped-turn, mapped-end, each-mapped}
 use Rattle.range.specs.Range.{isFound, rowAt, rowsAt, foundIn}
 
 -- ---- nothing stands in an empty table
@@ -124,12 +124,12 @@ module _ {rect : Rect} {f : Places} {on : On} {i kept : ℕ} {radios : List ℕ}
 
 -- ---- their bytes
 
-length-bytesOf : (l : Rows Place) → length (bytesOf l) ≡ listBytes * length l
+length-bytesOf : (l : Rows Fix) → length (bytesOf l) ≡ listBytes * length l
 unfolding bytesOf le
 length-bytesOf [] = refl
 length-bytesOf (x ∷ l) = omega (arith, length-bytesOf l)
 
-bytesOf-append : (l m : Rows Place) → bytesOf (l ++ m) ≡ bytesOf l ++ bytesOf m
+bytesOf-append : (l m : Rows Fix) → bytesOf (l ++ m) ≡ bytesOf l ++ bytesOf m
 unfolding bytesOf le
 bytesOf-append [] m = refl
 bytesOf-append (x ∷ l) m = ap (λ (b : List ℕ). le fieldBytes (x .key) ++ (le fieldBytes (x .val .east) ++ (le fieldBytes (x .val .north) ++ b))) (bytesOf-append l m)
@@ -173,7 +173,7 @@ module _ (easts norths : List ℕ) where
 
 -- a radio that is found stands in the list with what the columns have
 module _ (easts norths : List ℕ) (marks : List Bool) (rect : Rect) where
-  row-listed : (x : Row (Unit {0})) (l : Rows Place) → listIf rect (x .key) (placesIn easts norths marks (x .key)) l ≡ keep (isFound rect (placesIn easts norths marks) x) (rowAt easts norths (x .key)) l
+  row-listed : (x : Row (Unit {0})) (l : Rows Fix) → listIf rect (x .key) (placesIn easts norths marks (x .key)) l ≡ keep (isFound rect (placesIn easts norths marks) x) (rowAt easts norths (x .key)) l
   unfolding placesIn
   row-listed x l = by-cases (getD marks (x .key) false) (λ t. rw t) (λ t. rw t)
 

@@ -5,7 +5,7 @@ use Prim.Native.Nat.{ℕ, _*_, _≤_}
 use native.Mathlib.Omega.{arith}
 use lib.Dec.{ltb}
 use lib.ListN.{length}
-use Rattle.terms.specs.Terms.{Place, maxRadio, maxOn, noPage}
+use Rattle.terms.specs.Terms.{Fix, maxRadio, maxOn, noPage}
 use Rattle.lists.specs.Chains.{firstOf}
 use Rattle.lists.specs.Rows.{Rows, UpTo}
 use Rattle.lists.specs.Tests.{Each}
@@ -23,13 +23,13 @@ use Rattle.desk.specs.Layout.{slotOf, directoryOf, gridOf, waitingOf, memoOf, o
 use Rattle.desk.specs.Views.{slotsIn, radiosOf}
 use Rattle.desk.proofs.UniqueLaws.{take-slots}
 use Rattle.memo.specs.Memo.{linesOf}
-use Rattle.memo.proofs.MemoLaws.{lines-are, count-is}
+use Rattle.memo.proofs.MemoLaws.{lines-are, count-is, well-memo}
 use Rattle.waiting.specs.Waiting.{reportsOf}
 use Rattle.waiting.proofs.WaitingLaws.{reports-laid, count-laid}
 use Rattle.waiting.proofs.OnLaws.{radios-laid, count-on-laid}
-use Rattle.sweep.specs.Sweep.{entriesOn}
-use Rattle.sweep.proofs.CellLaws.{Sweepable, well-sweep, well-memo}
-use Rattle.range_places.specs.Places.{Places, noPlaces, over, linesOver, reportsOver, entriesFrom, slotOver, placesOf, Readable}
+use Rattle.page.specs.Buffer.{entriesOn, entriesFrom}
+use Rattle.sweep.proofs.CellLaws.{Sweepable, well-sweep}
+use Rattle.range_places.specs.Places.{Places, noPlaces, over, linesOver, reportsOver, slotOver, placesOf, Readable}
 use Rattle.range.specs.Range.{foundIn}
 use Rattle.range.proofs.LatestLaws.{cellOver, tableOf, found-table}
 
@@ -65,7 +65,7 @@ count-slots d cells e = ap (λ (x : Directory). x .n) e
 abbrev outcome : Store → Told → Outcome
 outcome s t = record { number = t .number; count = t .count; buffer = t .buffer; store = s }
 
-told-answered : (s : Store) (l : Rows Place) (buffer : List ℕ) → outcome s (toldList l buffer) ≡ answered l s buffer
+told-answered : (s : Store) (l : Rows Fix) (buffer : List ℕ) → outcome s (toldList l buffer) ≡ answered l s buffer
 unfolding toldList answered
 told-answered s l buffer = by-cases (ltb (length buffer) (listBytes * length l)) (λ t. rw t) (λ t. rw t)
 
@@ -91,7 +91,7 @@ module _ (s : Store) (b : List ℕ) (desk : Desk) (w : WellFormed s) (l : Laid s
   radios-read : Each (λ x. UpTo maxRadio (entriesFrom b (x .first))) (slotsIn (desk .grid .cells))
   radios-read =
       subst (λ (x : List Slot). Each (λ y. UpTo maxRadio (entriesFrom b (y .first))) x) (sym (slots-laid (desk .grid .cells) (s .cells) cells-are))
-      (each-over-map _ slotOf (s .cells) (each-zip (GoodCell (s .cuts)) (Read b) _ (s .cells) (λ c g e. subst (λ (x : Rows Place). UpTo maxRadio x) (sym e) (g .radios)) (w .cells) (cells-read s b w l)))
+      (each-over-map _ slotOf (s .cells) (each-zip (GoodCell (s .cuts)) (Read b) _ (s .cells) (λ c g e. subst (λ (x : Rows Fix). UpTo maxRadio x) (sym e) (g .radios)) (w .cells) (cells-read s b w l)))
 
   pub range-asks : Readable b (desk .grid .cells) (desk .waiting) (desk .memo) × (desk .on .n ≤ maxOn) × UpTo maxRadio (radiosOf (desk .on))
   range-asks = (
@@ -121,4 +121,4 @@ module _ (s : Store) (b : List ℕ) (desk : Desk) (w : WellFormed s) (l : Laid s
   pub range-gives : (rect : Rect) (buffer : List ℕ) {number count : ℕ} {after : List ℕ}
       → record { number = number; count = count; buffer = after } ≡ toldList (foundIn b rect (desk .grid .cells) (desk .waiting) (desk .memo) (desk .on)) buffer
       → record { number = number; count = count; buffer = after; store = s } ≡ answered (found s rect) s buffer
-  range-gives rect buffer e = ap (outcome s) (e ∙ ap (λ (l : Rows Place). toldList l buffer) (found-is rect)) ∙ told-answered s (found s rect) buffer
+  range-gives rect buffer e = ap (outcome s) (e ∙ ap (λ (l : Rows Fix). toldList l buffer) (found-is rect)) ∙ told-answered s (found s rect) buffer

@@ -7,21 +7,20 @@ ghost use Rattle.terms.specs.Terms.{maxRadio, maxOn};
 ghost use Rattle.lists.specs.Parts.{put};
 ghost use Rattle.lists.specs.Rows.{UpTo};
 ghost use Rattle.lists.specs.Sums.{filter};
-ghost use Rattle.lists.specs.Tests.{one-if};
 ghost use Rattle.rules.specs.Grid.{within, inside};
 ghost use Rattle.rules.specs.Carry.{inRange, listBytes, bytesOf};
 ghost use Rattle.rules.specs.Told.{toldList};
 ghost use Rattle.desk.specs.Layout.{lineSlots, lineFields};
-ghost use Rattle.desk.specs.Views.{radiosOf};
+ghost use Rattle.desk.specs.Views.{radiosOf, rectOf};
 ghost use Rattle.memo.specs.Memo.{memoIn};
-ghost use Rattle.range_places.specs.Places.{rectOf, placesIn, radioSlots, Columns, Readable};
+ghost use Rattle.range_places.specs.Places.{placesIn, radioSlots, Columns, Readable};
 ghost use Rattle.range.specs.Range.{isFound, rowAt, rowsAt, foundIn};
 use desk::Desk;
 use desk::Directory;
 use desk::On;
+use desk::Rectangle;
 use desk::Waiting;
 use range_places::RADIO_SLOTS;
-use range_places::Rectangle;
 
 const LIST_BYTES: usize = 6;
 
@@ -68,16 +67,6 @@ fn is_found(
     marks[at] & is_inside(area, easts[at], norths[at])
 }
 
-// 1 where the test holds.
-fn one_if(test: bool) -> usize
-    ensures { λ r. ⌜ (r ≡ one-if test) × (r ≤ 1) ⌝ }
-{
-    if test {
-        return 1;
-    }
-    0
-}
-
 // Those of the radios on that are found: a radio is put after those kept, and kept where it is.
 fn found_on(
     easts: &[u16; RADIO_SLOTS],
@@ -87,19 +76,20 @@ fn found_on(
     on: On,
 ) -> On
     requires { ⌜ Columns (now easts) (now norths) (now marks) × (on .n ≤ maxOn) × UpTo maxRadio (radiosOf on) ⌝ }
-    ensures { λ r. ⌜ (radiosOf r ≡ filter (isFound (rectOf area) (placesIn (now (easts .entry)) (now (norths .entry)) (now (marks .entry)))) (radiosOf on)) × (r .n ≤ maxOn) ⌝ }
+    ensures { λ r. ⌜ (radiosOf r ≡ filter (isFound (rectOf area) (placesIn (now (easts .entry)) (now (norths .entry)) (now (marks .entry)))) (radiosOf on))
+        × (r .n ≤ maxOn) ⌝ }
 {
-    let n = on.n;
+    let n = on.n as usize;
     let mut found = on;
     let mut kept: usize = 0;
     let mut i: usize = 0;
     while i < n {
         let radio = on.radios[i];
         found.radios[kept] = radio;
-        kept = kept + one_if(is_found(easts, norths, marks, area, radio));
+        kept = kept + lists::one_if(is_found(easts, norths, marks, area, radio));
         i += 1;
     }
-    found.n = kept;
+    found.n = kept as u16;
     found
 }
 
@@ -122,10 +112,11 @@ fn write_row(
 
 // "6 × n bytes .. at the buffer's start"
 fn write_rows(buffer: &mut [u8], easts: &[u16; RADIO_SLOTS], norths: &[u16; RADIO_SLOTS], found: On)
-    requires { ⌜ (length (now easts) ≡ radioSlots) × (length (now norths) ≡ radioSlots) × (found .n ≤ maxOn) × UpTo maxRadio (radiosOf found) × (listBytes * found .n ≤ length (now buffer)) ⌝ }
+    requires { ⌜ (length (now easts) ≡ radioSlots) × (length (now norths) ≡ radioSlots) × (found .n ≤ maxOn) × UpTo maxRadio (radiosOf found)
+        × (listBytes * found .n ≤ length (now buffer)) ⌝ }
     ensures { λ _. ⌜ now (buffer .exit) ≡ put (now (buffer .entry)) 0 (bytesOf (rowsAt (now (easts .entry)) (now (norths .entry)) (radiosOf found))) ⌝ }
 {
-    let n = found.n;
+    let n = found.n as usize;
     let mut i: usize = 0;
     while i < n {
         let radio = found.radios[i];
@@ -141,12 +132,14 @@ pub fn list(
     cells: Directory,
     waiting: Waiting,
     words: &[u16; Desk::MEMO_WORDS],
-    lines: usize,
+    lines: u16,
     on: On,
     buffer: &mut [u8],
 ) -> Listed
-    requires { ⌜ (length (now words) ≡ lineFields * lineSlots) × Readable (now pages) cells waiting (memoIn lines (now words)) × (on .n ≤ maxOn) × UpTo maxRadio (radiosOf on) ⌝ }
-    ensures { λ r. ⌜ record { number = r .number; count = r .count; buffer = now (buffer .exit) } ≡ toldList (foundIn (now (pages .entry)) (rectOf area) cells waiting (memoIn lines (now (words .entry))) on) (now (buffer .entry)) ⌝ }
+    requires { ⌜ (length (now words) ≡ lineFields * lineSlots) × Readable (now pages) cells waiting (memoIn lines (now words)) × (on .n ≤ maxOn)
+        × UpTo maxRadio (radiosOf on) ⌝ }
+    ensures { λ r. ⌜ record { number = r .number; count = r .count; buffer = now (buffer .exit) }
+        ≡ toldList (foundIn (now (pages .entry)) (rectOf area) cells waiting (memoIn lines (now (words .entry))) on) (now (buffer .entry)) ⌝ }
 {
     let mut easts = [0u16; RADIO_SLOTS];
     let mut norths = [0u16; RADIO_SLOTS];
@@ -164,15 +157,15 @@ pub fn list(
     );
     let found = found_on(&easts, &norths, &marks, area, on);
     let n = found.n;
-    if buffer.len() < LIST_BYTES * n {
+    if buffer.len() < LIST_BYTES * n as usize {
         return Listed {
             number: NO_ROOM,
-            count: n as u16,
+            count: n,
         };
     }
     write_rows(buffer, &easts, &norths, found);
     Listed {
         number: 0,
-        count: n as u16,
+        count: n,
     }
 }

@@ -1,29 +1,28 @@
 -- The table by radio: tests of edges, what a store in it does, and what the loops that lay rows over it keep.
 use mathlib.Core.Path.{_≡_, refl, sym, ap, _∙_, fun-ext, subst}
 use mathlib.Core.Bool.{Bool, true, false, not, cond}
-use mathlib.Core.List.{List, [], _∷_, _++_, map, map-append}
+use mathlib.Core.List.{List, [], _∷_, _++_}
 use mathlib.Core.Logic.{_≢_}
 use mathlib.Core.Option.{Option, none, some}
 use Prim.Native.Nat.{ℕ, suc, _+_, _-_, _*_, _≤_, _<_}
 use native.Mathlib.Omega.{arith}
-use native.Mathlib.Numerals.{add-one}
 use lib.Dec.{eqb}
-use lib.ListN.{length, getD, set, take, length-set, length-take, length-map, List·getD-map}
-use lib.Seq.{getD-set-same, getD-set-other, take-suc, getD-take, take-all}
+use lib.ListN.{length, getD, set, take, length-set, length-take}
+use lib.Seq.{getD-set-same, getD-set-other, getD-take}
 use borrow.Author.Tests.{eqb-true, eqb-false, not-true}
-use Rattle.terms.specs.Terms.{Place, maxRadio, pages, noPage}
+use Rattle.terms.specs.Terms.{Place, Fix, maxRadio, pages, noPage}
 use Rattle.lists.specs.Parts.{tab}
 use Rattle.lists.specs.Rows.{Row, Rows, UpTo}
 use Rattle.lists.specs.Sums.{concat}
 use Rattle.lists.specs.Tests.{Each}
 use Rattle.lists.proofs.Cases.{by-cases}
-use Rattle.lists.proofs.MapLaws.{map-take}
 use Rattle.lists.proofs.PartsLaws.{tab-suc}
+use Rattle.lists.proofs.SlotsLaws.{mapped-turn, mapped-end, each-mapped, taken-turn, taken-end}
 use Rattle.lists.proofs.TestsLaws.{each-tab, each-split, each-getD}
 use Rattle.entries.specs.declared.Entry.{Entry}
 use Rattle.entries.specs.Entries.{rowOf}
 use Rattle.page.specs.Page.{count, next, entryAt, entries}
-use Rattle.page.specs.Buffer.{pageAt, there, chainFrom}
+use Rattle.page.specs.Buffer.{pageAt, there, chainFrom, entriesOn, entriesFrom}
 use Rattle.page.proofs.ChainLaws.{chain-ended, chain-not-there, chain-there, chain-out, was-there}
 use Rattle.rules.specs.Limits.{maxCells, fullMemory}
 use Rattle.rules.specs.Grid.{Rect}
@@ -39,31 +38,7 @@ use Rattle.desk.specs.Views.{slotsIn, edgesOf, linesIn}
 use Rattle.desk.proofs.LinesLaws.{length-lines-in}
 use Rattle.memo.specs.Memo.{linesOf, rowOf as lineRow}
 use Rattle.waiting.specs.Waiting.{reportsOf, rowOf as reportRow}
-use Rattle.sweep.specs.Sweep.{entriesOn}
-use Rattle.range_places.specs.Places.{Places, noPlaces, placesIn, Columns, Holds, over, rowOver, entriesOver, linesOver, reportsOver, touches, entriesFrom, slotOver, placesOf}
-
--- ---- the front of a table of structs
-
-module _ {A : Type 0} (xs : List A) (n i : ℕ) (d : A) (fits : n ≤ length xs) (more : i < n) where
-  pub taken-turn : take (i + 1) (take n xs) ≡ take i (take n xs) ++ (getD xs i d ∷ [])
-  taken-turn = rw add-one (take-suc (take n xs) i d (rw length-take (omega arith)) ∙ ap (λ (x : A). take i (take n xs) ++ (x ∷ [])) (getD-take n xs i d more))
-
-  pub mapped-turn : {B : Type 0} (g : A → B) → take (i + 1) (map g (take n xs)) ≡ take i (map g (take n xs)) ++ (g (getD xs i d) ∷ [])
-  mapped-turn {B} g =
-      sym (map-take g (i + 1) (take n xs)) ∙ ap (map g) taken-turn ∙ map-append g (take i (take n xs)) (getD xs i d ∷ [])
-      ∙ ap (λ (l : List B). l ++ (g (getD xs i d) ∷ [])) (map-take g i (take n xs))
-
-  pub each-mapped : {B : Type 0} (P : B → Type 0) (g : A → B) → Each P (map g (take n xs)) → P (g (getD xs i d))
-  each-mapped P g e =
-      let l : length (take n xs) ≡ n = rw length-take (omega arith) in
-      subst P (List·getD-map g (take n xs) i d ∙ ap g (getD-take n xs i d more)) (each-getD P (map g (take n xs)) i (g d) e (omega (arith, length-map (take n xs) g)))
-
-module _ {A : Type 0} (xs : List A) (n i : ℕ) (past : n ≤ i) where
-  pub taken-end : take i (take n xs) ≡ take n xs
-  taken-end = take-all i (take n xs) (rw length-take (omega arith))
-
-  pub mapped-end : {B : Type 0} (g : A → B) → take i (map g (take n xs)) ≡ map g (take n xs)
-  mapped-end g = take-all i (map g (take n xs)) (rw (length-map, length-take) (omega arith))
+use Rattle.range_places.specs.Places.{Places, noPlaces, placesIn, Columns, Holds, over, rowOver, entriesOver, linesOver, reportsOver, touches, slotOver, placesOf}
 
 -- ---- a store in the table
 
@@ -130,14 +105,14 @@ module _ (v b : List ℕ) (p : ℕ) {n i : ℕ} (here : v ≡ pageAt b p) (many 
     page-radio u =
         let w : UpTo maxRadio (tab (count v) (entryAt v)) = subst (λ (x : List ℕ). UpTo maxRadio (tab (count x) (entryAt x))) (sym here) u in
         let k : entryAt v i .key ≤ maxRadio = each-tab (λ x. x .key ≤ maxRadio) (count v) (entryAt v) i w (omega arith) in
-        omega (arith, ap (λ (x : Row Place). x .key) read)
+        omega (arith, ap (λ (x : Row Fix). x .key) read)
 
 pub page-turn : (v : List ℕ) (f : Places) (i : ℕ) (e : Entry) {easts norths easts′ norths′ : List ℕ} {marks marks′ : List Bool} → rowOf e ≡ entryAt v i → Holds easts norths marks (entriesOver (tab i (entryAt v)) f)
     → Holds easts′ norths′ marks′ (putAt (e .radio) (some (record { east = e .east; north = e .north })) (placesIn easts norths marks))
     → Holds easts′ norths′ marks′ (entriesOver (tab (i + 1) (entryAt v)) f)
 unfolding entriesOver
 page-turn v f i e read d t =
-    over-turn (rowOver some) f (tab i (entryAt v)) (tab (i + 1) (entryAt v)) (rowOf e) (tab-suc i (entryAt v) ∙ ap (λ (x : Row Place). tab i (entryAt v) ++ (x ∷ [])) (sym read)) d t
+    over-turn (rowOver some) f (tab i (entryAt v)) (tab (i + 1) (entryAt v)) (rowOf e) (tab-suc i (entryAt v) ∙ ap (λ (x : Row Fix). tab i (entryAt v) ++ (x ∷ [])) (sym read)) d t
 
 -- ---- the pages of a chain: what is laid over the table, with what the rest of the chain still has, is the whole
 
@@ -153,7 +128,7 @@ entriesOver-none : (f : Places) → f ≡ entriesOver [] f
 unfolding entriesOver
 entriesOver-none = over-none (rowOver some)
 
-entriesOver-append : (l m : Rows Place) (f : Places) → entriesOver (l ++ m) f ≡ entriesOver m (entriesOver l f)
+entriesOver-append : (l m : Rows Fix) (f : Places) → entriesOver (l ++ m) f ≡ entriesOver m (entriesOver l f)
 unfolding entriesOver
 entriesOver-append = over-append (rowOver some)
 
@@ -171,7 +146,7 @@ module _ {b : List ℕ} {first p fuel : ℕ} {f : Places} {easts norths : List �
   walking-stop : chainFrom fuel b p ≡ [] → Holds easts norths marks (entriesOver (entriesFrom b first) f)
   walking-stop e =
       let n : entriesOn b (chainFrom fuel b p) ≡ [] = ap (entriesOn b) e ∙ entries-none b in
-      record { columns = w .columns; places = entriesOver-none (placesIn easts norths marks) ∙ ap (λ (l : Rows Place). entriesOver l (placesIn easts norths marks)) (sym n) ∙ w .places }
+      record { columns = w .columns; places = entriesOver-none (placesIn easts norths marks) ∙ ap (λ (l : Rows Fix). entriesOver l (placesIn easts norths marks)) (sym n) ∙ w .places }
 
   pub walking-ended : p ≡ noPage → Holds easts norths marks (entriesOver (entriesFrom b first) f)
   walking-ended e = walking-stop (chain-ended b p fuel e .0)
@@ -194,7 +169,7 @@ module _ {b : List ℕ} {first p fuel : ℕ} {f : Places} {easts norths : List �
       step = ap (λ (n : ℕ). entriesOn b (chainFrom n b p)) one-more ∙ ap (entriesOn b) (chain-there b p rest (was-there b p told found) .0) ∙ entries-cons b p (chainFrom rest b (next (pageAt b p)))
 
       radios-split : UpTo maxRadio (entries (pageAt b p)) × UpTo maxRadio (entriesOn b (chainFrom rest b (next (pageAt b p))))
-      radios-split = each-split (λ x. x .key ≤ maxRadio) (entries (pageAt b p)) (entriesOn b (chainFrom rest b (next (pageAt b p)))) (subst (λ (l : Rows Place). UpTo maxRadio l) step (w .radios))
+      radios-split = each-split (λ x. x .key ≤ maxRadio) (entries (pageAt b p)) (entriesOn b (chainFrom rest b (next (pageAt b p)))) (subst (λ (l : Rows Fix). UpTo maxRadio l) step (w .radios))
 
       pub walking-radios : UpTo maxRadio (entries (pageAt b p))
       walking-radios = radios-split .0
@@ -202,12 +177,12 @@ module _ {b : List ℕ} {first p fuel : ℕ} {f : Places} {easts norths : List �
       pub walking-turn : {easts′ norths′ : List ℕ} {marks′ : List Bool} {q : ℕ} → Holds easts′ norths′ marks′ (entriesOver (entries (pageAt b p)) (placesIn easts norths marks)) → q ≡ next (pageAt b p)
           → Walking b first f q rest easts′ norths′ marks′
       walking-turn h e =
-          let l : Rows Place = entries (pageAt b p) in
-          let m : Rows Place = entriesOn b (chainFrom rest b (next (pageAt b p))) in
+          let l : Rows Fix = entries (pageAt b p) in
+          let m : Rows Fix = entriesOn b (chainFrom rest b (next (pageAt b p))) in
           rw e (record {
             columns = h .columns;
             radios = radios-split .1;
-            places = ap (entriesOver m) (h .places) ∙ sym (entriesOver-append l m (placesIn easts norths marks)) ∙ ap (λ (x : Rows Place). entriesOver x (placesIn easts norths marks)) (sym step) ∙ w .places;
+            places = ap (entriesOver m) (h .places) ∙ sym (entriesOver-append l m (placesIn easts norths marks)) ∙ ap (λ (x : Rows Fix). entriesOver x (placesIn easts norths marks)) (sym step) ∙ w .places;
           })
 
 -- ---- the cells of the directory

@@ -1,4 +1,5 @@
--- A place for each radio (01, "How a record is carried out"): an entry's, over it a memo line's, over both a waiting report's, and the table by radio that holds them.
+-- A place for each radio (01, "How a record is carried out"): an entry's, over it a memo line's, over both a waiting report's, and the table by radio that
+-- holds them.
 use mathlib.Core.Bool.{Bool, false, cond}
 use mathlib.Core.List.{List, [], _∷_}
 use mathlib.Core.Option.{Option, none, some}
@@ -6,10 +7,10 @@ use mathlib.Core.Path.{_≡_}
 use Prim.Native.Nat.{ℕ, _+_, _≤_}
 use lib.Dec.{leb}
 use lib.ListN.{length, getD}
-use Rattle.terms.specs.Terms.{Place, maxRadio, pages}
+use Rattle.terms.specs.Terms.{Place, Fix, maxRadio, pages}
 use Rattle.lists.specs.Rows.{Row, Rows, UpTo}
 use Rattle.lists.specs.Tests.{both, Each}
-use Rattle.page.specs.Buffer.{chainFrom}
+use Rattle.page.specs.Buffer.{entriesFrom}
 use Rattle.rules.specs.Limits.{maxCells, fullMemory}
 use Rattle.rules.specs.Grid.{Span, Rect}
 use Rattle.rules.specs.Store.{Report, Line}
@@ -22,17 +23,12 @@ use Rattle.desk.specs.Layout.{lineSlots}
 use Rattle.desk.specs.Views.{slotsIn, edgesOf}
 use Rattle.memo.specs.Memo.{linesOf}
 use Rattle.waiting.specs.Waiting.{reportsOf}
-use Rattle.sweep.specs.Sweep.{entriesOn}
-use Rattle.range_places.specs.declared.Rectangle.{Rectangle}
-
-abbrev pub rectOf : Rectangle → Rect
-rectOf a = record { easts = record { low = a .west; high = a .east }; norths = record { low = a .south; high = a .north } }
 
 -- ---- a place for each radio
 
 -- a place for each radio, or none
 abbrev pub Places : Type 0
-Places = ℕ → Option Place
+Places = ℕ → Option Fix
 
 unfoldable pub noPlaces : Places
 noPlaces r = none
@@ -66,7 +62,7 @@ over step (x ∷ l) f = over step l (step x f)
 abbrev pub rowOver : {Val : Type 0} → (Val → Option Place) → Row Val → Places → Places
 rowOver place x f = putAt (x .key) (place (x .val)) f
 
-unfoldable pub entriesOver : Rows Place → Places → Places
+unfoldable pub entriesOver : Rows Fix → Places → Places
 entriesOver = over (rowOver some)
 
 unfoldable pub linesOver : Rows Line → Places → Places
@@ -81,10 +77,6 @@ meets s t = both (leb (s .low) (t .high)) (leb (t .low) (s .high))
 
 unfoldable pub touches : Rect → Rect → Bool
 touches a b = both (meets (a .easts) (b .easts)) (meets (a .norths) (b .norths))
-
--- the entries of a cell of the directory
-unfoldable pub entriesFrom : List ℕ → ℕ → Rows Place
-entriesFrom b first = entriesOn b (chainFrom pages b first)
 
 -- "only the pages of cells that the rectangle touches"
 unfoldable pub slotOver : List ℕ → Rect → Slot → Places → Places

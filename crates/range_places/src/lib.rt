@@ -9,16 +9,17 @@ ghost use Rattle.terms.specs.Terms.{maxRadio};
 ghost use Rattle.lists.specs.Rows.{UpTo};
 ghost use Rattle.lists.specs.Tests.{Each};
 ghost use Rattle.page.specs.Page.{entries};
-ghost use Rattle.page.specs.Buffer.{pageAt, there};
+ghost use Rattle.page.specs.Buffer.{pageAt, there, entriesFrom};
 ghost use Rattle.rules.specs.Limits.{maxCells, fullMemory};
 ghost use Rattle.rules.specs.Plain.{putAt};
 ghost use Rattle.desk.specs.Layout.{lineSlots, lineFields};
-ghost use Rattle.desk.specs.Views.{slotsIn, edgesOf};
+ghost use Rattle.desk.specs.Views.{slotsIn, edgesOf, rectOf};
 ghost use Rattle.memo.specs.Memo.{memoIn, linesOf};
 ghost use Rattle.waiting.specs.Waiting.{reportsOf};
-ghost use Rattle.range_places.specs.Places.{rectOf, noPlaces, placesIn, Columns, Holds, over, entriesOver, linesOver, reportsOver, meets, touches, entriesFrom, slotOver, placesOf, Readable};
+ghost use Rattle.range_places.specs.Places.{noPlaces, placesIn, Columns, Holds, over, entriesOver, linesOver, reportsOver, meets, touches, slotOver, placesOf, Readable};
 use desk::Desk;
 use desk::Directory;
+use desk::Rectangle;
 use desk::Slot;
 use desk::Waiting;
 use terms::MAX_RADIO;
@@ -27,15 +28,6 @@ use terms::PAGES;
 
 // A slot for every radio, and one for 0.
 pub const RADIO_SLOTS: usize = MAX_RADIO as usize + 1;
-
-// West and east edge, south and north edge.
-#[repr(C)]
-pub struct Rectangle {
-    pub west: u16,
-    pub east: u16,
-    pub south: u16,
-    pub north: u16,
-}
 
 // ---- rectangles
 
@@ -67,7 +59,9 @@ fn hold(
     placed: bool,
 )
     requires { ⌜ Columns (now easts) (now norths) (now marks) × (radio ≤ maxRadio) ⌝ }
-    ensures { λ _. ⌜ Holds (now (easts .exit)) (now (norths .exit)) (now (marks .exit)) (putAt radio (cond placed (some (record { east = east; north = north })) none) (placesIn (now (easts .entry)) (now (norths .entry)) (now (marks .entry)))) ⌝ }
+    ensures { λ _. ⌜ Holds (now (easts .exit)) (now (norths .exit)) (now (marks .exit))
+        (putAt radio (cond placed (some (record { east = east; north = north })) none)
+        (placesIn (now (easts .entry)) (now (norths .entry)) (now (marks .entry)))) ⌝ }
 {
     let at = radio as usize;
     easts[at] = east;
@@ -84,7 +78,8 @@ fn hold_page(
     marks: &mut [bool; RADIO_SLOTS],
 )
     requires { ⌜ Columns (now easts) (now norths) (now marks) × (there (now pages) p ≡ true) × UpTo maxRadio (entries (pageAt (now pages) p)) ⌝ }
-    ensures { λ _. ⌜ Holds (now (easts .exit)) (now (norths .exit)) (now (marks .exit)) (entriesOver (entries (pageAt (now (pages .entry)) p)) (placesIn (now (easts .entry)) (now (norths .entry)) (now (marks .entry)))) ⌝ }
+    ensures { λ _. ⌜ Holds (now (easts .exit)) (now (norths .exit)) (now (marks .exit))
+        (entriesOver (entries (pageAt (now (pages .entry)) p)) (placesIn (now (easts .entry)) (now (norths .entry)) (now (marks .entry)))) ⌝ }
 {
     let page = page::page_at(pages, p as usize);
     let n = page::entry_count(page);
@@ -105,7 +100,8 @@ fn hold_cell(
     marks: &mut [bool; RADIO_SLOTS],
 )
     requires { ⌜ Columns (now easts) (now norths) (now marks) × UpTo maxRadio (entriesFrom (now pages) first) ⌝ }
-    ensures { λ _. ⌜ Holds (now (easts .exit)) (now (norths .exit)) (now (marks .exit)) (entriesOver (entriesFrom (now (pages .entry)) first) (placesIn (now (easts .entry)) (now (norths .entry)) (now (marks .entry)))) ⌝ }
+    ensures { λ _. ⌜ Holds (now (easts .exit)) (now (norths .exit)) (now (marks .exit))
+        (entriesOver (entriesFrom (now (pages .entry)) first) (placesIn (now (easts .entry)) (now (norths .entry)) (now (marks .entry)))) ⌝ }
 {
     let mut p = first;
     let mut fuel: usize = PAGES;
@@ -132,7 +128,8 @@ fn hold_touched(
     marks: &mut [bool; RADIO_SLOTS],
 )
     requires { ⌜ Columns (now easts) (now norths) (now marks) × UpTo maxRadio (entriesFrom (now pages) (cell .first)) ⌝ }
-    ensures { λ _. ⌜ Holds (now (easts .exit)) (now (norths .exit)) (now (marks .exit)) (slotOver (now (pages .entry)) (rectOf area) cell (placesIn (now (easts .entry)) (now (norths .entry)) (now (marks .entry)))) ⌝ }
+    ensures { λ _. ⌜ Holds (now (easts .exit)) (now (norths .exit)) (now (marks .exit))
+        (slotOver (now (pages .entry)) (rectOf area) cell (placesIn (now (easts .entry)) (now (norths .entry)) (now (marks .entry)))) ⌝ }
 {
     if is_touched(area, cell) {
         hold_cell(pages, cell.first, easts, norths, marks);
@@ -148,10 +145,12 @@ fn hold_cells(
     norths: &mut [u16; RADIO_SLOTS],
     marks: &mut [bool; RADIO_SLOTS],
 )
-    requires { ⌜ Columns (now easts) (now norths) (now marks) × (cells .n ≤ maxCells) × Each (λ s. UpTo maxRadio (entriesFrom (now pages) (s .first))) (slotsIn cells) ⌝ }
-    ensures { λ _. ⌜ Holds (now (easts .exit)) (now (norths .exit)) (now (marks .exit)) (over (slotOver (now (pages .entry)) (rectOf area)) (slotsIn cells) (placesIn (now (easts .entry)) (now (norths .entry)) (now (marks .entry)))) ⌝ }
+    requires { ⌜ Columns (now easts) (now norths) (now marks) × (cells .n ≤ maxCells)
+        × Each (λ s. UpTo maxRadio (entriesFrom (now pages) (s .first))) (slotsIn cells) ⌝ }
+    ensures { λ _. ⌜ Holds (now (easts .exit)) (now (norths .exit)) (now (marks .exit))
+        (over (slotOver (now (pages .entry)) (rectOf area)) (slotsIn cells) (placesIn (now (easts .entry)) (now (norths .entry)) (now (marks .entry)))) ⌝ }
 {
-    let n = cells.n;
+    let n = cells.n as usize;
     let mut i: usize = 0;
     while i < n {
         let cell = cells.slots[i];
@@ -163,16 +162,18 @@ fn hold_cells(
 // A line's place is that of the one entry of its radio that isn't stale.
 fn hold_lines(
     words: &[u16; Desk::MEMO_WORDS],
-    lines: usize,
+    lines: u16,
     easts: &mut [u16; RADIO_SLOTS],
     norths: &mut [u16; RADIO_SLOTS],
     marks: &mut [bool; RADIO_SLOTS],
 )
-    requires { ⌜ Columns (now easts) (now norths) (now marks) × (length (now words) ≡ lineFields * lineSlots) × (lines ≤ lineSlots) × UpTo maxRadio (linesOf (memoIn lines (now words))) ⌝ }
-    ensures { λ _. ⌜ Holds (now (easts .exit)) (now (norths .exit)) (now (marks .exit)) (linesOver (linesOf (memoIn lines (now (words .entry)))) (placesIn (now (easts .entry)) (now (norths .entry)) (now (marks .entry)))) ⌝ }
+    requires { ⌜ Columns (now easts) (now norths) (now marks) × (length (now words) ≡ lineFields * lineSlots) × (lines ≤ lineSlots)
+        × UpTo maxRadio (linesOf (memoIn lines (now words))) ⌝ }
+    ensures { λ _. ⌜ Holds (now (easts .exit)) (now (norths .exit)) (now (marks .exit))
+        (linesOver (linesOf (memoIn lines (now (words .entry)))) (placesIn (now (easts .entry)) (now (norths .entry)) (now (marks .entry)))) ⌝ }
 {
     let mut i: usize = 0;
-    while i < lines {
+    while i < lines as usize {
         let x = desk::line_at(words, i);
         hold(
             easts,
@@ -195,9 +196,10 @@ fn hold_reports(
     marks: &mut [bool; RADIO_SLOTS],
 )
     requires { ⌜ Columns (now easts) (now norths) (now marks) × (waiting .n ≤ fullMemory) × UpTo maxRadio (reportsOf waiting) ⌝ }
-    ensures { λ _. ⌜ Holds (now (easts .exit)) (now (norths .exit)) (now (marks .exit)) (reportsOver (reportsOf waiting) (placesIn (now (easts .entry)) (now (norths .entry)) (now (marks .entry)))) ⌝ }
+    ensures { λ _. ⌜ Holds (now (easts .exit)) (now (norths .exit)) (now (marks .exit))
+        (reportsOver (reportsOf waiting) (placesIn (now (easts .entry)) (now (norths .entry)) (now (marks .entry)))) ⌝ }
 {
-    let n = waiting.n;
+    let n = waiting.n as usize;
     let mut i: usize = 0;
     while i < n {
         let x = waiting.rows[i];
@@ -213,13 +215,15 @@ pub fn hold_all(
     cells: Directory,
     waiting: Waiting,
     words: &[u16; Desk::MEMO_WORDS],
-    lines: usize,
+    lines: u16,
     easts: &mut [u16; RADIO_SLOTS],
     norths: &mut [u16; RADIO_SLOTS],
     marks: &mut [bool; RADIO_SLOTS],
 )
-    requires { ⌜ Holds (now easts) (now norths) (now marks) noPlaces × (length (now words) ≡ lineFields * lineSlots) × Readable (now pages) cells waiting (memoIn lines (now words)) ⌝ }
-    ensures { λ _. ⌜ Holds (now (easts .exit)) (now (norths .exit)) (now (marks .exit)) (placesOf (now (pages .entry)) (rectOf area) (slotsIn cells) (linesOf (memoIn lines (now (words .entry)))) (reportsOf waiting)) ⌝ }
+    requires { ⌜ Holds (now easts) (now norths) (now marks) noPlaces × (length (now words) ≡ lineFields * lineSlots)
+        × Readable (now pages) cells waiting (memoIn lines (now words)) ⌝ }
+    ensures { λ _. ⌜ Holds (now (easts .exit)) (now (norths .exit)) (now (marks .exit))
+        (placesOf (now (pages .entry)) (rectOf area) (slotsIn cells) (linesOf (memoIn lines (now (words .entry)))) (reportsOf waiting)) ⌝ }
 {
     hold_cells(pages, area, cells, easts, norths, marks);
     hold_lines(words, lines, easts, norths, marks);

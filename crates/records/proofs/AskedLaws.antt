@@ -1,8 +1,7 @@
 -- What the answer of `asked_by` says of the store whose radios on the desk holds: the outcome of the rules, and what the checks showed of an accepted request.
 use mathlib.Core.Bool.{true, false}
 use mathlib.Core.List.{List}
-use mathlib.Core.Option.{Option, none, some}
-use mathlib.Core.Path.{_≡_, refl, sym, ap, _∙_, subst}
+use mathlib.Core.Path.{_≡_, sym, ap, _∙_, subst}
 use Prim.Native.Nat.{ℕ, _≤_, _<_}
 use native.Mathlib.Omega.{arith}
 use lib.Dec.{eqb}
@@ -22,46 +21,27 @@ use Rattle.desk.specs.declared.On.{On}
 use Rattle.desk.specs.Layout.{onOf}
 use Rattle.desk.specs.Views.{radiosOf}
 use Rattle.waiting.proofs.OnLaws.{radios-laid, count-on-laid}
-use Rattle.records.specs.declared.Asked.{Asked}
-use Rattle.records.specs.declared.Asked.the-variants.{SignOn, Report, SignOff, Range, Refused}
-use Rattle.records.specs.Asked.{onIn, caseOf, askedOf}
+use Rattle.records.specs.Asked.{onIn, Checked, asks, fails, checked, SignsOn, Reports, SignsOff}
 use Rattle.records.proofs.RecordsLaws.{Ordered, ordered}
 
--- ---- the cases, read back
+-- ---- what the answer says
 
-abbrev requestIn : Asked → Option Request
-requestIn (SignOn r e n) = some (signOn r (record { east = e; north = n }))
-requestIn (Report r e n) = some (report r (record { east = e; north = n }))
-requestIn (SignOff r) = some (signOff r)
-requestIn (Range w e s n) = some (range (record { easts = record { low = w; high = e }; norths = record { low = s; high = n } }))
-requestIn (Refused n) = none
-
-request-case : (q : Request) → requestIn (caseOf q) ≡ some q
-request-case (signOn r p) = refl
-request-case (report r p) = refl
-request-case (signOff r) = refl
-request-case (range rect) = refl
-
-number-case : (q : Request) {n : ℕ} → caseOf q ≡ Refused n → ⊥
-number-case q e = none-some (sym (ap requestIn e) ∙ request-case q)
-
-module _ (k : ℕ) (q : Request) {o : Asked} (told : o ≡ askedOf k q) where
+module _ (k : ℕ) (q : Request) {c : Checked} (told : c ≡ checked k q) where
   -- an accepted request's number is 0, and it is the one asked
-  asked-taken : (p : Request) → o ≡ caseOf p → (k ≡ 0) × (q ≡ p)
-  unfolding askedOf
-  asked-taken p is =
+  means-asks : (p : Request) → c ≡ asks p → (k ≡ 0) × (q ≡ p)
+  unfolding checked
+  means-asks p is =
       by-cases (eqb k 0)
-      (λ t. let e = rw t at told in
-      (eqb-true k 0 t, some-injective (sym (request-case q) ∙ ap requestIn (sym e ∙ is) ∙ request-case p)))
-      (λ t. let e = rw t at told in none-some (ap requestIn (sym e ∙ is) ∙ request-case p))
+      (λ t. let e = rw t at told in (eqb-true k 0 t, some-injective (ap (λ (x : Checked). x .request) (sym e ∙ is))))
+      (λ t. let e = rw t at told in none-some (ap (λ (x : Checked). x .request) (sym e ∙ is)))
 
   -- the number turned down under is not 0
-  asked-refused : {n : ℕ} → o ≡ Refused n → (k ≡ n) × (eqb k 0 ≡ false)
-  unfolding askedOf
-  asked-refused is =
+  means-fails : {n : ℕ} → c ≡ fails n → (k ≡ n) × (eqb k 0 ≡ false)
+  unfolding checked
+  means-fails is =
       by-cases (eqb k 0)
-      (λ t. let e = rw t at told in absurd (number-case q (sym e ∙ is)))
-      (λ t. let e = rw t at told in (cc, t))
+      (λ t. let e = rw t at told in none-some (ap (λ (x : Checked). x .request) (sym is ∙ e)))
+      (λ t. let e = rw t at told in (ap (λ (x : Checked). x .number) (sym e ∙ is), t))
 
 -- ---- who is on
 
@@ -80,25 +60,6 @@ module _ (s : Store) (on : On) (laid : on ≡ onOf (s .on)) where
 
 -- ---- the outcome
 
--- what the checks showed of an accepted sign-on, report, sign-off
-pub record SignsOn (s : Store) (r : ℕ) (p : Place) : Type 0 where
-  pub first : 1 ≤ r
-  pub last : r ≤ maxRadio
-  pub placed : InSquare p
-  pub off : isOn s r ≡ false
-  pub room : onCount s < maxOn
-
-pub record Reports (s : Store) (r : ℕ) (p : Place) : Type 0 where
-  pub first : 1 ≤ r
-  pub last : r ≤ maxRadio
-  pub placed : InSquare p
-  pub on : isOn s r ≡ true
-
-pub record SignsOff (s : Store) (r : ℕ) : Type 0 where
-  pub first : 1 ≤ r
-  pub last : r ≤ maxRadio
-  pub on : isOn s r ≡ true
-
 abbrev Showed : Store → Request → Type 0
 Showed s (signOn r p) = SignsOn s r p
 Showed s (report r p) = Reports s r p
@@ -111,11 +72,11 @@ showed s q (report-passed r p f l i on) o = record { first = f; last = l; placed
 showed s q (off-passed r f l on) o = record { first = f; last = l; on = on }
 showed s q (range-passed rect) o = o
 
-module _ (s : Store) (on : On) (b : List ℕ) {o : Asked} (laid : on ≡ onOf (s .on)) (told : o ≡ askedOf (refusal (onIn on) (length (radiosOf on)) b) (requestOf b)) where
+module _ (s : Store) (on : On) (b : List ℕ) {c : Checked} (laid : on ≡ onOf (s .on)) (told : c ≡ checked (refusal (onIn on) (length (radiosOf on)) b) (requestOf b)) where
   -- turned down
-  module _ {n : ℕ} (is : o ≡ Refused n) (pick : ℕ) where
+  module _ {n : ℕ} (is : c ≡ fails n) (pick : ℕ) where
     refused-number : (refusal (isOn s) (onCount s) b ≡ n) × (eqb (refusal (isOn s) (onCount s) b) 0 ≡ false)
-    refused-number = rw (refusal-laid s on laid b) at (asked-refused _ (requestOf b) told is)
+    refused-number = rw (refusal-laid s on laid b) at (means-fails _ (requestOf b) told is)
 
     pub refused-carry : (buffer : List ℕ) → carry pick s b buffer ≡ record { number = n; count = 0; buffer = buffer; store = s }
     unfolding carry
@@ -126,9 +87,9 @@ module _ (s : Store) (on : On) (b : List ℕ) {o : Asked} (laid : on ≡ onOf (s
     refused-allowed = rw (refused-number .1)
 
   -- carried out
-  module _ (q : Request) (is : o ≡ caseOf q) where
+  module _ (q : Request) (is : c ≡ asks q) where
     taken : (refusal (isOn s) (onCount s) b ≡ 0) × (requestOf b ≡ q)
-    taken = rw (refusal-laid s on laid b) at (asked-taken _ (requestOf b) told q is)
+    taken = rw (refusal-laid s on laid b) at (means-asks _ (requestOf b) told q is)
 
     pub taken-carry : (pick : ℕ) (buffer : List ℕ) → carry pick s b buffer ≡ carriedOut pick q s buffer
     unfolding carry
@@ -145,11 +106,11 @@ module _ (s : Store) (on : On) (b : List ℕ) {o : Asked} (laid : on ≡ onOf (s
 
   -- what an accepted request says
   module _ (small : Bytes b) where
-    pub asks-on : {r e n : ℕ} → o ≡ SignOn r e n → SignsOn s r (record { east = e; north = n })
-    asks-on {r} {e} {n} is = taken-showed (signOn r (record { east = e; north = n })) is small
+    pub asks-on : (r : ℕ) (p : Place) → c ≡ asks (signOn r p) → SignsOn s r p
+    asks-on r p is = taken-showed (signOn r p) is small
 
-    pub asks-report : {r e n : ℕ} → o ≡ Report r e n → Reports s r (record { east = e; north = n })
-    asks-report {r} {e} {n} is = taken-showed (report r (record { east = e; north = n })) is small
+    pub asks-report : (r : ℕ) (p : Place) → c ≡ asks (report r p) → Reports s r p
+    asks-report r p is = taken-showed (report r p) is small
 
-    pub asks-off : {r : ℕ} → o ≡ SignOff r → SignsOff s r
-    asks-off {r} is = taken-showed (signOff r) is small
+    pub asks-off : (r : ℕ) → c ≡ asks (signOff r) → SignsOff s r
+    asks-off r is = taken-showed (signOff r) is small

@@ -13,15 +13,14 @@ use Rattle.lists.specs.Tests.{both, either}
 use Rattle.lists.proofs.Cases.{by-cases}
 use Rattle.lists.proofs.TestsLaws.{both-left-false, both-second, either-left, either-right, either-false, not-false}
 use Rattle.rules.specs.Records.{Request, signOn, report, signOff, range, lengthField, kindField, lengthOf, radioField, placeField, rectField, requestOf, kindSignOn, kindReport, kindSignOff, kindRange, notAtHand, unknownKind, wrongLength, noRadio, reversed, onAlready, notOn, noRoom, refusal}
+use Rattle.rules.specs.Grid.{Rect}
 use Rattle.desk.specs.declared.On.{On}
 use Rattle.desk.specs.Views.{radiosOf}
 use Rattle.waiting.specs.On.{WholeOn}
 use Rattle.waiting.proofs.OnLaws.{count-on-laid}
-use Rattle.records.specs.declared.Asked.{Asked}
-use Rattle.records.specs.declared.Asked.the-variants.{SignOn, Report, SignOff, Range, Refused}
 use Rattle.records.specs.declared.Placed.{Placed}
 use Rattle.records.specs.declared.Edges.{Edges}
-use Rattle.records.specs.Asked.{headBytes, signOffBytes, placedBytes, rangeBytes, Whole, caseOf, askedOf}
+use Rattle.records.specs.Asked.{headBytes, signOffBytes, placedBytes, rangeBytes, Whole, Checked, asks, fails, checked}
 
 -- ---- lengths
 
@@ -231,6 +230,9 @@ module _ (b : List ℕ) {t₃ : Bool} (e₃ : t₃ ≡ notAtHand b) (p₃ : t₃
 
 -- ---- what is asked
 
+abbrev rectIn : Edges → Rect
+rectIn x = record { easts = record { low = x .west; high = x .east }; norths = record { low = x .south; high = x .north } }
+
 module _ (b : List ℕ) (w : Whole b) {k : ℕ} (kind : k ≡ kindField b) where
   pub on-there : k ≡ kindSignOn → placedBytes ≤ length b
   on-there h = omega (arith, length-placed (kindField b) (omega (arith, kind)) (omega (arith, kind)), w .body)
@@ -242,28 +244,30 @@ module _ (b : List ℕ) (w : Whole b) {k : ℕ} (kind : k ≡ kindField b) where
   range-there l m n = rect-there b kind w (omega (arith, l, m, n, w, kind))
 
   module _ (p : Placed) (body : p ≡ record { radio = radioField b; east = placeField b .east; north = placeField b .north }) where
-    pub asked-on : k ≡ kindSignOn → SignOn (p .radio) (p .east) (p .north) ≡ caseOf (requestOf b)
+    pub asked-on : k ≡ kindSignOn → asks (signOn (p .radio) (record { east = p .east; north = p .north })) ≡ asks (requestOf b)
     unfolding requestOf
-    asked-on h = rw (eq-eqb (kindField b) kindSignOn (omega (arith, kind))) (ap (λ (x : Placed). SignOn (x .radio) (x .east) (x .north)) body)
+    asked-on h =
+        rw (eq-eqb (kindField b) kindSignOn (omega (arith, kind)))
+        (ap (λ (x : Placed). asks (signOn (x .radio) (record { east = x .east; north = x .north }))) body)
 
-    pub asked-report : k ≡ kindReport → Report (p .radio) (p .east) (p .north) ≡ caseOf (requestOf b)
+    pub asked-report : k ≡ kindReport → asks (report (p .radio) (record { east = p .east; north = p .north })) ≡ asks (requestOf b)
     unfolding requestOf
     asked-report h =
         rw (ne-eqb (kindField b) kindSignOn (omega (arith, kind)), eq-eqb (kindField b) kindReport (omega (arith, kind)))
-        (ap (λ (x : Placed). Report (x .radio) (x .east) (x .north)) body)
+        (ap (λ (x : Placed). asks (report (x .radio) (record { east = x .east; north = x .north }))) body)
 
-  pub asked-off : {r : ℕ} → r ≡ radioField b → k ≡ kindSignOff → SignOff r ≡ caseOf (requestOf b)
+  pub asked-off : {r : ℕ} → r ≡ radioField b → k ≡ kindSignOff → asks (signOff r) ≡ asks (requestOf b)
   unfolding requestOf
   asked-off radio h =
       rw (ne-eqb (kindField b) kindSignOn (omega (arith, kind)), ne-eqb (kindField b) kindReport (omega (arith, kind)), eq-eqb (kindField b) kindSignOff (omega (arith, kind)))
-      (ap SignOff radio)
+      (ap (λ (x : ℕ). asks (signOff x)) radio)
 
   pub asked-range : (rect : Edges) → rect ≡ record { west = rectField b .easts .low; east = rectField b .easts .high; south = rectField b .norths .low; north = rectField b .norths .high }
-      → k ≢ kindSignOn → k ≢ kindReport → k ≢ kindSignOff → Range (rect .west) (rect .east) (rect .south) (rect .north) ≡ caseOf (requestOf b)
+      → k ≢ kindSignOn → k ≢ kindReport → k ≢ kindSignOff → asks (range (rectIn rect)) ≡ asks (requestOf b)
   unfolding requestOf
   asked-range rect body l m n =
       rw (ne-eqb (kindField b) kindSignOn (λ z. l (kind ∙ z)), ne-eqb (kindField b) kindReport (λ z. m (kind ∙ z)), ne-eqb (kindField b) kindSignOff (λ z. n (kind ∙ z)))
-      (ap (λ (x : Edges). Range (x .west) (x .east) (x .south) (x .north)) body)
+      (ap (λ (x : Edges). asks (range (rectIn x))) body)
 
 -- ---- every check passed
 
@@ -314,14 +318,14 @@ module _ (on : ℕ → Bool) (many : ℕ) (b : List ℕ) (zero : refusal on many
 -- ---- the whole
 
 module _ (on : ℕ → Bool) (many : ℕ) (b : List ℕ) {n : ℕ} (told : n ≡ refusal on many b) where
-  pub turned-down : (q : Request) → n ≢ 0 → Refused n ≡ askedOf (refusal on many b) q
-  unfolding askedOf
-  turned-down q h = rw (ne-eqb (refusal on many b) 0 (λ z. h (told ∙ z))) (ap Refused told)
+  pub turned-down : (q : Request) → n ≢ 0 → fails n ≡ checked (refusal on many b) q
+  unfolding checked
+  turned-down q h = rw (ne-eqb (refusal on many b) 0 (λ z. h (told ∙ z))) (ap fails told)
 
   module _ (h : n ≡ 0) where
     pub accepted-whole : Whole b
     accepted-whole = passed-whole on many b (sym told ∙ h)
 
-    pub accepted : {o : Asked} (q : Request) → o ≡ caseOf q → o ≡ askedOf (refusal on many b) q
-    unfolding askedOf
+    pub accepted : {o : Checked} (q : Request) → o ≡ asks q → o ≡ checked (refusal on many b) q
+    unfolding checked
     accepted q e = rw (eq-eqb (refusal on many b) 0 (sym told ∙ h)) e

@@ -1,12 +1,18 @@
 -- What a record's bytes ask of a desk, or the number under which they are turned down (01, "Records and pages", "Turned down, in checking order").
-use mathlib.Core.Bool.{Bool, cond}
+use mathlib.Core.Bool.{Bool, true, false, cond}
 use mathlib.Core.List.{List}
-use Prim.Native.Nat.{ℕ, _≤_}
+use mathlib.Core.Option.{Option, none, some}
+use Prim.Native.Nat.{ℕ, _≤_, _<_}
+use mathlib.Core.Path.{_≡_}
 use lib.Dec.{eqb}
 use lib.ListN.{length}
+use Rattle.terms.specs.Terms.{Place, maxRadio, maxOn}
 use Rattle.lists.specs.Rows.{find}
 use Rattle.lists.specs.Tests.{isSome}
 use Rattle.rules.specs.Records.{Request, signOn, report, signOff, range, kindField, kindSignOn, kindRange, lengthOf}
+use Rattle.rules.specs.Store.{Store}
+use Rattle.rules.specs.Carry.{isOn, onCount}
+use Rattle.rules.specs.WellFormed.{InSquare}
 use Rattle.desk.specs.declared.On.{On}
 use Rattle.desk.specs.Views.{radiosOf}
 use Rattle.records.specs.declared.Asked.{Asked}
@@ -37,13 +43,45 @@ pub record Whole (b : List ℕ) : Type 0 where
 abbrev pub onIn : On → ℕ → Bool
 onIn on r = isSome (find (radiosOf on) r)
 
--- "radio, east, north", "radio", "west, east, south, north": each request's case, with its values
-abbrev pub caseOf : Request → Asked
-caseOf (signOn r p) = SignOn r (p .east) (p .north)
-caseOf (report r p) = Report r (p .east) (p .north)
-caseOf (signOff r) = SignOff r
-caseOf (range rect) = Range (rect .easts .low) (rect .easts .high) (rect .norths .low) (rect .norths .high)
+-- a record checked: the number of the first check that fails, 0 for none, and the request where none fails
+pub record Checked : Type 0 where
+  pub number : ℕ
+  pub request : Option Request
 
--- number 0 is the request's case, any other that of a record turned down
-unfoldable pub askedOf : ℕ → Request → Asked
-askedOf n q = cond (eqb n 0) (caseOf q) (Refused n)
+-- "An accepted record carries number 0"
+abbrev pub asks : Request → Checked
+asks q = record { number = 0; request = some q }
+
+abbrev pub fails : ℕ → Checked
+fails n = record { number = n; request = none }
+
+-- the number and the values of each case: "radio, east, north", "radio", "west, east, south, north"
+abbrev pub askedOf : Asked → Checked
+askedOf (SignOn r e n) = asks (signOn r (record { east = e; north = n }))
+askedOf (Report r e n) = asks (report r (record { east = e; north = n }))
+askedOf (SignOff r) = asks (signOff r)
+askedOf (Range w e s n) = asks (range (record { easts = record { low = w; high = e }; norths = record { low = s; high = n } }))
+askedOf (Refused n) = fails n
+
+-- under number 0 the request is carried out, under any other the record is turned down
+unfoldable pub checked : ℕ → Request → Checked
+checked n q = cond (eqb n 0) (asks q) (fails n)
+
+-- what the checks showed of an accepted sign-on, report, sign-off
+pub record SignsOn (s : Store) (r : ℕ) (p : Place) : Type 0 where
+  pub first : 1 ≤ r
+  pub last : r ≤ maxRadio
+  pub placed : InSquare p
+  pub off : isOn s r ≡ false
+  pub room : onCount s < maxOn
+
+pub record Reports (s : Store) (r : ℕ) (p : Place) : Type 0 where
+  pub first : 1 ≤ r
+  pub last : r ≤ maxRadio
+  pub placed : InSquare p
+  pub on : isOn s r ≡ true
+
+pub record SignsOff (s : Store) (r : ℕ) : Type 0 where
+  pub first : 1 ≤ r
+  pub last : r ≤ maxRadio
+  pub on : isOn s r ≡ true

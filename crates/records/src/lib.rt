@@ -7,7 +7,7 @@ ghost use Rattle.lists.specs.Rows.{Rising};
 ghost use Rattle.rules.specs.Records.{lengthField, kindField, lengthOf, radioField, placeField, rectField, requestOf, notAtHand, unknownKind, wrongLength, noRadio, reversed, onAlready, notOn, noRoom, refusal};
 ghost use Rattle.desk.specs.Views.{radiosOf};
 ghost use Rattle.waiting.specs.On.{onWith, WholeOn};
-ghost use Rattle.records.specs.Asked.{headBytes, signOffBytes, placedBytes, rangeBytes, Whole, onIn, caseOf, askedOf};
+ghost use Rattle.records.specs.Asked.{headBytes, signOffBytes, placedBytes, rangeBytes, Whole, onIn, asks, askedOf, checked};
 use desk::Desk;
 use terms::MAX_RADIO;
 
@@ -81,7 +81,8 @@ fn radio_field(bytes: &[u8]) -> u16
 // "radio, east, north"
 fn placed_body(bytes: &[u8]) -> Placed
     requires { ⌜ placedBytes ≤ length (now bytes) ⌝ }
-    ensures { λ r. ⌜ r ≡ record { radio = radioField (now (bytes .entry)); east = placeField (now (bytes .entry)) .east; north = placeField (now (bytes .entry)) .north } ⌝ }
+    ensures { λ r. ⌜ r
+        ≡ record { radio = radioField (now (bytes .entry)); east = placeField (now (bytes .entry)) .east; north = placeField (now (bytes .entry)) .north } ⌝ }
 {
     Placed {
         radio: radio_field(bytes),
@@ -93,7 +94,12 @@ fn placed_body(bytes: &[u8]) -> Placed
 // "west, east, south, north"
 fn range_body(bytes: &[u8]) -> Edges
     requires { ⌜ rangeBytes ≤ length (now bytes) ⌝ }
-    ensures { λ r. ⌜ r ≡ record { west = rectField (now (bytes .entry)) .easts .low; east = rectField (now (bytes .entry)) .easts .high; south = rectField (now (bytes .entry)) .norths .low; north = rectField (now (bytes .entry)) .norths .high } ⌝ }
+    ensures { λ r. ⌜ r ≡ record {
+      west = rectField (now (bytes .entry)) .easts .low;
+      east = rectField (now (bytes .entry)) .easts .high;
+      south = rectField (now (bytes .entry)) .norths .low;
+      north = rectField (now (bytes .entry)) .norths .high;
+    } ⌝ }
 {
     Edges {
         west: fields::read(bytes, 4),
@@ -252,7 +258,7 @@ fn refusal<'a>(bytes: &[u8], radios: &'a [u16; Desk::MAX_ON], n: usize) -> u16
 // What the bytes of a record ask.
 fn request(bytes: &[u8]) -> Asked
     requires { ⌜ Whole (now bytes) ⌝ }
-    ensures { λ r. ⌜ r ≡ caseOf (requestOf (now (bytes .entry))) ⌝ }
+    ensures { λ r. ⌜ askedOf r ≡ asks (requestOf (now (bytes .entry))) ⌝ }
 {
     let kind = kind_field(bytes);
     if kind == KIND_SIGN_ON {
@@ -273,7 +279,9 @@ fn request(bytes: &[u8]) -> Asked
 // What the bytes at hand ask, or the number of the first check that fails.
 pub fn asked_by<'a>(bytes: &[u8], radios: &'a [u16; Desk::MAX_ON], n: usize) -> Asked
     requires { ⌜ (n ≤ maxOn) × WholeOn (onWith n (now radios)) × Rising 0 (radiosOf (onWith n (now radios))) ⌝ }
-    ensures { λ r. ⌜ r ≡ askedOf (refusal (onIn (onWith n (now (radios .entry)))) (length (radiosOf (onWith n (now (radios .entry))))) (now (bytes .entry))) (requestOf (now (bytes .entry))) ⌝ }
+    ensures { λ r. ⌜ askedOf r
+        ≡ checked (refusal (onIn (onWith n (now (radios .entry)))) (length (radiosOf (onWith n (now (radios .entry))))) (now (bytes .entry)))
+        (requestOf (now (bytes .entry))) ⌝ }
 {
     let number = refusal(bytes, radios, n);
     if number != 0 {

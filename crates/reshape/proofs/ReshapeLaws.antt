@@ -16,8 +16,8 @@ use Rattle.rules.specs.Flush.{Flushed, grown, splitAt, joinedWith, neighbours, 
 use Rattle.desk.specs.declared.Grid.{Grid}
 use Rattle.desk.specs.declared.Memo.{Memo}
 use Rattle.desk.specs.Layout.{memoOf}
-use Rattle.cell_last.specs.Loose.{Lays}
-use Rattle.reshape.specs.Reshape.{Reshapes}
+use Rattle.desk.specs.Laid.{LaidGrid}
+use Rattle.reshape.specs.Reshape.{AfterReshape}
 
 many-allowed : (f : Flushed) (pick : ℕ) → ltb pageEntries (length (f .cell .entries)) ≡ true → allowedAt pick f ≡ true
 unfolding allowedAt
@@ -25,35 +25,34 @@ many-allowed f pick = either-left _
 
 module _ (f : Flushed) {g : Grid} {memo : Memo} {b : List ℕ} where
   -- the store of any of them, by an equation
-  reshapes-by : (pick : ℕ) (s : Store) → allowedAt pick f ≡ true → reshaped pick f ≡ s → Lays s g b → memo ≡ memoOf (s .memo) → Reshapes f g memo b
+  reshapes-by : (pick : ℕ) (s : Store) → allowedAt pick f ≡ true → reshaped pick f ≡ s → LaidGrid s g b → memo ≡ memoOf (s .memo) → AfterReshape f g memo b
   reshapes-by pick s a e l n = record {
     pick = pick;
     permitted = a;
-    lays = subst (λ (t : Store). Lays t g b) (sym e) l;
-    noted = n ∙ ap (λ (t : Store). memoOf (t .memo)) (sym e);
+    laid = record { in-grid = subst (λ (t : Store). LaidGrid t g b) (sym e) l; memo-is = n ∙ ap (λ (t : Store). memoOf (t .memo)) (sym e) };
   }
 
   -- "when d has more than 32 entries": no neighbour is asked for
   module _ (many : ltb pageEntries (length (f .cell .entries)) ≡ true) where
-    pub full-grown : ltb (length (f .store .cells)) maxCells ≡ false → Lays (grown f) g b → memo ≡ memoOf (f .store .memo) → Reshapes f g memo b
+    pub full-grown : ltb (length (f .store .cells)) maxCells ≡ false → LaidGrid (grown f) g b → memo ≡ memoOf (f .store .memo) → AfterReshape f g memo b
     unfolding reshaped grown
     full-grown t = reshapes-by 0 (grown f) (many-allowed f 0 many) (rw (many, t))
 
     module _ (few : ltb (length (f .store .cells)) maxCells ≡ true) where
-      pub uncut-grown : chosenCut (f .store .cuts) (f .cell .edges) (f .cell .entries) ≡ none → Lays (grown f) g b → memo ≡ memoOf (f .store .memo) → Reshapes f g memo b
+      pub uncut-grown : chosenCut (f .store .cuts) (f .cell .edges) (f .cell .entries) ≡ none → LaidGrid (grown f) g b → memo ≡ memoOf (f .store .memo) → AfterReshape f g memo b
       unfolding reshaped grown
       uncut-grown e = reshapes-by 0 (grown f) (many-allowed f 0 many) (rw (many, few, e))
 
-      pub cut-split : (cut : Cut) → chosenCut (f .store .cuts) (f .cell .edges) (f .cell .entries) ≡ some cut → Lays (splitAt cut f) g b → memo ≡ memoOf (f .store .memo) → Reshapes f g memo b
+      pub cut-split : (cut : Cut) → chosenCut (f .store .cuts) (f .cell .edges) (f .cell .entries) ≡ some cut → LaidGrid (splitAt cut f) g b → memo ≡ memoOf (f .store .memo) → AfterReshape f g memo b
       unfolding reshaped splitAt
       cut-split cut e = reshapes-by 0 (splitAt cut f) (many-allowed f 0 many) (rw (many, few, e))
 
   -- "after a flush that left d at most 32 entries"
   module _ (few : ltb pageEntries (length (f .cell .entries)) ≡ false) where
-    pub lone-grown : neighbours f ≡ [] → Lays (grown f) g b → memo ≡ memoOf (f .store .memo) → Reshapes f g memo b
+    pub lone-grown : neighbours f ≡ [] → LaidGrid (grown f) g b → memo ≡ memoOf (f .store .memo) → AfterReshape f g memo b
     unfolding reshaped grown allowedAt named
     lone-grown e = reshapes-by 0 (grown f) (either-right _ (either-left _ (rw e refl))) (rw (few, e) refl)
 
-    pub near-joined : (m : Cell) → named (m .number) (neighbours f) ≡ some m → Lays (joinedWith f m) g b → memo ≡ memoOf (sweptMemo (f .store .memo) (m .entries)) → Reshapes f g memo b
+    pub near-joined : (m : Cell) → named (m .number) (neighbours f) ≡ some m → LaidGrid (joinedWith f m) g b → memo ≡ memoOf (sweptMemo (f .store .memo) (m .entries)) → AfterReshape f g memo b
     unfolding reshaped joinedWith allowedAt
     near-joined m e = reshapes-by (m .number) (joinedWith f m) (either-right _ (either-right _ (rw e refl))) (rw (few, e))

@@ -1,13 +1,14 @@
-// What follows once the reports of a flush are in d: it is split, or joined with a neighbour, or its chain takes or gives up pages; and it goes to the end of the round.
+// What follows once the reports of a flush are in d: it is split, or joined with a neighbour, or its chain takes or gives up pages; and it goes to the end of
+// the round.
 ghost use mathlib.Core.Path.{_≡_};
 ghost use Prim.Native.Nat.{_<_, _≤_};
-ghost use Rattle.terms.specs.Terms.{maxOn, pages, pageEntries};
+ghost use Rattle.terms.specs.Terms.{pages, pageEntries};
 ghost use Rattle.entries.specs.Entries.{rowsOf};
 ghost use Rattle.page.specs.Buffer.{pagesOf};
 ghost use lib.ListN.{length};
 ghost use Rattle.memo.specs.Memo.{memoIn};
-ghost use Rattle.cell_last.specs.Loose.{Midway};
-ghost use Rattle.reshape.specs.Reshape.{Underway, Reshapes};
+ghost use Rattle.cell_last.specs.Settling.{HandFits, BeforeReshape};
+ghost use Rattle.reshape.specs.Reshape.{BeforeSplitOrGrow, AfterReshape};
 use cell_last::Reshaped;
 use cut::CutChoice;
 use desk::Desk;
@@ -19,11 +20,13 @@ use terms::PAGE_ENTRIES;
 
 // "when d has more than 32 entries": split, if there are "fewer than 64 cells" and a cut is found; else "d grows its chain".
 fn split_or_grown(buffer: &mut [u8], grid: Grid, at: usize, chain: Chain, table: Entries) -> Grid
-    requires { ⌜ (chain .n ≤ pages) × (table .n ≤ maxOn) × (pageEntries < length (rowsOf table)) × Underway grid at (pagesOf chain) (rowsOf table) (now buffer) ⌝ }
-    ensures { λ r. ⌜ ((x : Underway grid at (pagesOf chain) (rowsOf table) (now (buffer .entry))) → Reshapes (x .midway .flushed) r (x .memo) (now (buffer .exit))) ⌝ }
+    requires { ⌜ HandFits chain table × (pageEntries < length (rowsOf table))
+        × BeforeSplitOrGrow grid at (pagesOf chain) (rowsOf table) (now buffer) ⌝ }
+    ensures { λ r. ⌜ ((x : BeforeSplitOrGrow grid at (pagesOf chain) (rowsOf table) (now (buffer .entry)))
+        → AfterReshape (x .midway .flushed) r (x .memo) (now (buffer .exit))) ⌝ }
 {
     let cells = grid.cells;
-    if Desk::MAX_CELLS <= cells.n {
+    if Desk::MAX_CELLS <= cells.n as usize {
         return cell_last::settled_last(buffer, grid, at, chain, table);
     }
     let d = cells.slots[at];
@@ -43,10 +46,12 @@ fn joined_or_grown(
     chain: Chain,
     table: Entries,
     words: &mut [u16; Desk::MEMO_WORDS],
-    lines: usize,
+    lines: u16,
 ) -> Reshaped
-    requires { ⌜ (chain .n ≤ pages) × (table .n ≡ length (rowsOf table)) × (length (rowsOf table) ≤ pageEntries) × Midway grid at (pagesOf chain) (rowsOf table) (memoIn lines (now words)) (now buffer) ⌝ }
-    ensures { λ r. ⌜ ((x : Midway grid at (pagesOf chain) (rowsOf table) (memoIn lines (now (words .entry))) (now (buffer .entry))) → Reshapes (x .flushed) (r .grid) (memoIn (r .lines) (now (words .exit))) (now (buffer .exit))) ⌝ }
+    requires { ⌜ (chain .n ≤ pages) × (table .n ≡ length (rowsOf table)) × (length (rowsOf table) ≤ pageEntries)
+        × BeforeReshape grid at (pagesOf chain) (rowsOf table) (memoIn lines (now words)) (now buffer) ⌝ }
+    ensures { λ r. ⌜ ((x : BeforeReshape grid at (pagesOf chain) (rowsOf table) (memoIn lines (now (words .entry))) (now (buffer .entry)))
+        → AfterReshape (x .flushed) (r .grid) (memoIn (r .lines) (now (words .exit))) (now (buffer .exit))) ⌝ }
 {
     let cells = grid.cells;
     let d = cells.slots[at];
@@ -66,10 +71,12 @@ pub fn reshape(
     chain: Chain,
     table: Entries,
     words: &mut [u16; Desk::MEMO_WORDS],
-    lines: usize,
+    lines: u16,
 ) -> Reshaped
-    requires { ⌜ (chain .n ≤ pages) × (table .n ≤ maxOn) × (table .n ≡ length (rowsOf table)) × Midway grid at (pagesOf chain) (rowsOf table) (memoIn lines (now words)) (now buffer) ⌝ }
-    ensures { λ r. ⌜ ((x : Midway grid at (pagesOf chain) (rowsOf table) (memoIn lines (now (words .entry))) (now (buffer .entry))) → Reshapes (x .flushed) (r .grid) (memoIn (r .lines) (now (words .exit))) (now (buffer .exit))) ⌝ }
+    requires { ⌜ HandFits chain table × (table .n ≡ length (rowsOf table))
+        × BeforeReshape grid at (pagesOf chain) (rowsOf table) (memoIn lines (now words)) (now buffer) ⌝ }
+    ensures { λ r. ⌜ ((x : BeforeReshape grid at (pagesOf chain) (rowsOf table) (memoIn lines (now (words .entry))) (now (buffer .entry)))
+        → AfterReshape (x .flushed) (r .grid) (memoIn (r .lines) (now (words .exit))) (now (buffer .exit))) ⌝ }
 {
     if PAGE_ENTRIES < table.n {
         let shape = split_or_grown(buffer, grid, at, chain, table);

@@ -8,24 +8,24 @@ use native.Mathlib.Omega.{arith}
 use lib.Dec.{eqb, ltb}
 use lib.ListN.{length, drop}
 use borrow.Author.Tests.{ltb-true, ltb-false, eqb-true, eqb-false, ne-eqb, eq-eqb}
-use Rattle.terms.specs.Terms.{Place, maxRadio}
+use Rattle.terms.specs.Terms.{Place, Fix, maxRadio}
 use Rattle.lists.specs.Rows.{Row, Rows, Rising, UpTo, find, alter, insert, merge, countFound, passed}
 use Rattle.lists.specs.Sums.{sumBy, sumTo, filter}
 use Rattle.lists.specs.Tests.{one-if, isSome, orElse, Each}
+use Rattle.lists.specs.Among.{Among}
 use Rattle.lists.proofs.Cases.{by-cases, option-cases, none-some, orElse-cases}
-use Rattle.lists.proofs.AmongLaws.{Among}
 use Rattle.lists.proofs.TestsLaws.{not-true, each-map, each-append, each-split, each-for, each-every, each-zip, each-drop, each-filter, one-if-false, one-if-le}
 use Rattle.lists.proofs.SumsLaws.{sum-append, sum-ext, sum-add, sum-each, sumTo-ext, sumTo-le, sumTo-add, sumTo-sumBy, sum-zero-each, sum-drop-le, sum-le, length-sum}
 use Rattle.lists.proofs.RowsLaws.{find-below, rising-alter, find-alter, rising-filter, find-filter, sum-key, sum-zero-find, rising-merge, find-merge, each-find, find-each, sum-rows, rising-above, upTo-alter, upTo-merge, length-found, find-alter-other, find-alter-same}
 use Rattle.rules.specs.Grid.{samePlace, Rect, spanOf, inside}
-use Rattle.rules.specs.Store.{Report, Line, Cell}
+use Rattle.rules.specs.Store.{Report, Line, Cell, missedOf, withEntries}
 use Rattle.rules.specs.Sweep.{isAt, staleBy, stale, lowered, lowerEach, sweptEntries, sweptMemo, swept}
 use Rattle.rules.specs.Cut.{Cut, lowSide, through}
 use Rattle.rules.specs.Flush.{placed, raised, entered, Work, enter, enterEach, lowCell, highCell, beside, joinedEdges}
 use Rattle.rules.specs.Carry.{wasNew}
 use Rattle.rules.specs.Plain.{putAt}
 use Rattle.rules.specs.WellFormed.{countIf, liveOf, staleIn, InSquare, InSquareIf}
-use Rattle.rules.proofs.Parts.{staleR, missedOf, Rowed, Books, Clean, Signed, marks, onSet}
+use Rattle.rules.specs.Parts.{staleR, Rowed, Books, Clean, Signed, marks, onSet}
 use Rattle.rules.proofs.PlaceLaws.{samePlace-refl, samePlace-true, inside-cut, inside-low, inside-high, inside-joined-left, inside-joined-right, inside-joined-le}
 
 -- ---- one radio's entries: those that its line tells to be stale, the live ones, all
@@ -50,7 +50,7 @@ live-stale o r cells = sym (sum-add (liveC o r) (staleC o r) cells) ∙ sum-ext 
 judged-by : {o u : Option Line} (p : Place) → u ≡ o → staleBy u p ≡ staleBy o p
 judged-by p e = ap (λ o. staleBy o p) e
 
-pub count-passed : (t : Place → Bool) (u : Row Place → Bool) (r : ℕ) (x : Option Place) → countIf t (passed u r x) + countIf t (passed (λ e. not (u e)) r x) ≡ countIf t x
+pub count-passed : (t : Place → Bool) (u : Row Fix → Bool) (r : ℕ) (x : Option Place) → countIf t (passed u r x) + countIf t (passed (λ e. not (u e)) r x) ≡ countIf t x
 count-passed t u r none = refl
 count-passed t u r (some p) = by-cases (u (record { key = r; val = p })) (λ e. rw e (omega arith)) (λ e. rw e (omega arith))
 
@@ -135,10 +135,10 @@ books-swap a d rest b = books-front (a ∷ []) d rest b
 
 rowed-same : (d e : Cell) → e .edges ≡ d .edges → e .entries ≡ d .entries → Rowed d → Rowed e
 rowed-same d e edges entries k = record {
-  rising = subst (λ (l : Rows Place). Rising 0 l) (sym entries) (k .rising);
-  radios = subst (λ (l : Rows Place). UpTo maxRadio l) (sym entries) (k .radios);
+  rising = subst (λ (l : Rows Fix). Rising 0 l) (sym entries) (k .rising);
+  radios = subst (λ (l : Rows Fix). UpTo maxRadio l) (sym entries) (k .radios);
   placed =
-      subst (λ (l : Rows Place). Each (λ x. inside (e .edges) (x .val) ≡ true) l) (sym entries)
+      subst (λ (l : Rows Fix). Each (λ x. inside (e .edges) (x .val) ≡ true) l) (sym entries)
       (subst (λ (a : Rect). Each (λ x. inside a (x .val) ≡ true) (d .entries)) (sym edges) (k .placed));
 }
 
@@ -148,7 +148,7 @@ unfolding sumBy
 books-same d e rest edges entries b =
     books-from (rowed-same d e edges entries (b .cells-rowed .0), b .cells-rowed .1)
     (λ p. omega (arith, b .apart p, ap (λ (a : Rect). one-if (inside a p)) edges)) (b .memo-rises) (b .memo-radios) (b .lines)
-    (λ r. book-other (ap (λ (l : Rows Place). find l r) entries) (book-of b r))
+    (λ r. book-other (ap (λ (l : Rows Fix). find l r) entries) (book-of b r))
 
 pub books-ext : {cells : List Cell} {memo : Rows Line} {new new′ on on′ : ℕ → Bool} → ((r : ℕ) → new r ≡ new′ r) → ((r : ℕ) → on r ≡ on′ r) → Books cells memo new on → Books cells memo new′ on′
 books-ext h k b =
@@ -188,7 +188,7 @@ abbrev pub loweredIf : Option Place → Option Line → Option Line
 loweredIf none o = o
 loweredIf (some p) o = lowered o
 
-find-lowerEach : (r b : ℕ) (es : Rows Place) (memo : Rows Line) → Rising b es → Rising 0 memo → find (lowerEach es memo) r ≡ loweredIf (find es r) (find memo r)
+find-lowerEach : (r b : ℕ) (es : Rows Fix) (memo : Rows Line) → Rising b es → Rising 0 memo → find (lowerEach es memo) r ≡ loweredIf (find es r) (find memo r)
 unfolding lowerEach find
 find-lowerEach r b [] memo a m = refl
 find-lowerEach r b (e ∷ es) memo a m =
@@ -198,12 +198,12 @@ find-lowerEach r b (e ∷ es) memo a m =
     (λ t. rw (t, ih, find-below r (e .key) es (let z = eqb-true r (e .key) t in omega arith) (a .1), find-alter lowered 0 (e .key) r memo pos m, t))
     (λ t. rw (t, ih, find-alter lowered 0 (e .key) r memo pos m, t))
 
-rising-lowerEach : (b : ℕ) (es : Rows Place) (memo : Rows Line) → Rising b es → Rising 0 memo → Rising 0 (lowerEach es memo)
+rising-lowerEach : (b : ℕ) (es : Rows Fix) (memo : Rows Line) → Rising b es → Rising 0 memo → Rising 0 (lowerEach es memo)
 unfolding lowerEach
 rising-lowerEach b [] memo a m = m
 rising-lowerEach b (e ∷ es) memo a m = rising-lowerEach (e .key) es (alter lowered (e .key) memo) (a .1) (rising-alter lowered 0 (e .key) memo (omega arith) m)
 
-upTo-lowerEach : (n : ℕ) (es : Rows Place) (memo : Rows Line) → UpTo n es → UpTo n memo → UpTo n (lowerEach es memo)
+upTo-lowerEach : (n : ℕ) (es : Rows Fix) (memo : Rows Line) → UpTo n es → UpTo n memo → UpTo n (lowerEach es memo)
 unfolding lowerEach
 upTo-lowerEach n [] memo u v = v
 upTo-lowerEach n (e ∷ es) memo u v = upTo-lowerEach n es (alter lowered (e .key) memo) (u .1) (upTo-alter lowered n (e .key) memo (u .0) v)
@@ -225,7 +225,7 @@ lowered-judges : (o : Option Line) (p : Place) → (missedOf o ≤ 1 → staleBy
 lowered-judges none p h = refl
 lowered-judges (some l) p h = by-cases (ltb 1 (l .missed)) (λ t. rw t) (λ t. rw t (sym (h (omega (arith, ltb-false)))))
 
-pub find-sweptMemo : (memo : Rows Line) (es : Rows Place) → Rising 0 memo → Rising 0 es → (r : ℕ) → find (sweptMemo memo es) r ≡ loweredIf (passed (stale memo) r (find es r)) (find memo r)
+pub find-sweptMemo : (memo : Rows Line) (es : Rows Fix) → Rising 0 memo → Rising 0 es → (r : ℕ) → find (sweptMemo memo es) r ≡ loweredIf (passed (stale memo) r (find es r)) (find memo r)
 unfolding sweptMemo
 find-sweptMemo memo es m a r =
     find-lowerEach r 0 (filter (stale memo) es) memo (rising-filter (stale memo) 0 es a) m ∙ ap (λ o. loweredIf o (find memo r)) (find-filter (stale memo) 0 r es a)
@@ -472,10 +472,6 @@ away-stale none p r c h m k i = absurd (omega arith)
 away-stale (some l) p r c h m k i =
     count-same (staleBy (some l)) (λ _. true) (find (c .entries) r) (λ v e. ap (λ q. not (isAt q v)) h ∙ ap not (away c p k i r v e))
 
--- the cell with other entries
-abbrev pub withEntries : Rows Place → Cell → Cell
-withEntries es d = record { number = d .number; edges = d .edges; chain = d .chain; entries = es }
-
 -- radio r, on, reports the place p, which lies in d; d is clean, and n is the mark
 module _ {memo : Rows Line} {new on : ℕ → Bool} (d : Cell) (rest : List Cell) (b : Books (d ∷ rest) memo new on) (clean : Clean memo d) (r : ℕ) (p : Place) (n : Bool)
     (pos : 0 < r) (top : r ≤ maxRadio) (here : inside (d .edges) p ≡ true) (square : InSquare p) (mark : new r ≡ n) (is-on : on r ≡ true) where
@@ -486,7 +482,7 @@ module _ {memo : Rows Line} {new on : ℕ → Bool} (d : Cell) (rest : List Cell
   abbrev lineNow : Option Line
   lineNow = lineThen (find memo r)
 
-  abbrev entriesThen : Rows Place
+  abbrev entriesThen : Rows Fix
   entriesThen = insert r p (d .entries)
 
   entry-same : find entriesThen r ≡ some p

@@ -9,7 +9,7 @@ use native.Mathlib.Nat.{not-suc-le-zero}
 use lib.Dec.{eqb, leb, ltb}
 use lib.ListN.{length, getD}
 use borrow.Author.Tests.{lt-ltb, le-ltb, le-leb, ltb-true, ltb-false, leb-true, leb-false, eqb-true, eqb-false, eq-eqb}
-use Rattle.terms.specs.Terms.{Place, pageEntries}
+use Rattle.terms.specs.Terms.{Place, Fix, pageEntries}
 use Rattle.lists.specs.Parts.{tab}
 use Rattle.lists.specs.Rows.{Row, Rows, Rising, find, alter, countFound}
 use Rattle.lists.specs.Sort.{sortIn, sort}
@@ -38,7 +38,7 @@ through-good axis cuts edges =
     each-over-map (GoodCut cuts edges) (λ c. record { axis = axis; at = c }) (filter (through (spanOf axis edges)) l)
     (each-filter _ _ (through (spanOf axis edges)) l (λ x n t. record { crosses = t; valid = either-left (ltb (length l) maxCuts) (lt-ltb 0 (count x l) n) }) (each-counted l))
 
-existing-good : (cuts : Cuts) (edges : Rect) (es : Rows Place) (c : Cut) → existingCut cuts edges es ≡ some c → GoodCut cuts edges c
+existing-good : (cuts : Cuts) (edges : Rect) (es : Rows Fix) (c : Cut) → existingCut cuts edges es ≡ some c → GoodCut cuts edges c
 unfolding existingCut
 existing-good cuts edges es c =
     let east = cutsThrough eastward cuts edges in
@@ -91,17 +91,17 @@ median-through s l x h e =
     let highest = within-high s x (each-count (λ y. within s y ≡ true) x l h (r .1)) in
     both-intro (lt-ltb (s .low) x (omega (arith, lowest, r .0))) (le-leb x (s .high) highest)
 
-median-good : (axis : Axis) (cuts : Cuts) (edges : Rect) (es : Rows Place) (c : Cut) → Each (λ e. inside edges (e .val) ≡ true) es → medianCut axis cuts es ≡ some c → GoodCut cuts edges c
+median-good : (axis : Axis) (cuts : Cuts) (edges : Rect) (es : Rows Fix) (c : Cut) → Each (λ e. inside edges (e .val) ≡ true) es → medianCut axis cuts es ≡ some c → GoodCut cuts edges c
 unfolding medianCut
 median-good axis cuts edges es c h e =
-    let l = map (λ (w : Row Place). along axis (w .val)) es in
+    let l = map (λ (w : Row Fix). along axis (w .val)) es in
     let s = spanOf axis edges in
     let r = validAt-some axis cuts (median l) c e in
-    let held = each-over-map (λ y. within s y ≡ true) (λ (w : Row Place). along axis (w .val)) es
+    let held = each-over-map (λ y. within s y ≡ true) (λ (w : Row Fix). along axis (w .val)) es
     (each-map (λ w. inside edges (w .val) ≡ true) (λ w. within s (along axis (w .val)) ≡ true) es (λ w t. inside-along axis edges (w .val) t) h) in
     subst (GoodCut cuts edges) (r .2) (record { crosses = median-through s l (r .0) held (r .1); valid = r .3 })
 
-pub chosen-good : (cuts : Cuts) (edges : Rect) (es : Rows Place) (c : Cut) → Each (λ e. inside edges (e .val) ≡ true) es → chosenCut cuts edges es ≡ some c → GoodCut cuts edges c
+pub chosen-good : (cuts : Cuts) (edges : Rect) (es : Rows Fix) (c : Cut) → Each (λ e. inside edges (e .val) ≡ true) es → chosenCut cuts edges es ≡ some c → GoodCut cuts edges c
 unfolding chosenCut
 chosen-good cuts edges es c h e =
     let one = medianCut (longerSide edges) cuts es in

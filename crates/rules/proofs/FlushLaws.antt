@@ -12,8 +12,9 @@ use Rattle.terms.specs.Terms.{maxRadio, pageEntries}
 use Rattle.lists.specs.Rows.{Rows, Rising, find, passed}
 use Rattle.lists.specs.Sums.{sumBy, filter, count}
 use Rattle.lists.specs.Tests.{one-if, Each, isSome}
+use Rattle.lists.specs.Among.{Among}
 use Rattle.lists.proofs.Cases.{by-cases}
-use Rattle.lists.proofs.AmongLaws.{Among, each-among, among-tail}
+use Rattle.lists.proofs.AmongLaws.{each-among, among-tail}
 use Rattle.lists.proofs.RowsLaws.{find-filter, rising-filter, find-each, each-find, length-merge-le, find-filter-some}
 use Rattle.lists.proofs.SumsLaws.{sum-cons, length-filter-not, sum-middle, length-middle}
 use Rattle.lists.proofs.TestsLaws.{each-filter}
@@ -22,15 +23,15 @@ use Rattle.rules.specs.Grid.{Rect, inside, Cuts, Box, cornerOf}
 use Rattle.rules.specs.Store.{Report, Line, Cell, Store, others, settled, freeAfter}
 use Rattle.rules.specs.Sweep.{stale, sweptEntries, sweptMemo, swept}
 use Rattle.rules.specs.Cut.{Cut, chosenCut}
-use Rattle.rules.specs.Flush.{joined, inBox, Flushed, flushedInto, grown, lowCell, highCell, unusedNumber, splitAt, splitOr, beside, neighbours, named, joinedEdges, joinedWith, joinOr, reshaped}
+use Rattle.rules.specs.Flush.{joined, inBox, Flushed, flushedInto, grown, lowCell, highCell, unusedNumber, splitAt, splitOr, beside, neighbours, named, joinedEdges, joinedWith, joinOr, reshaped, lowEdges, highEdges}
 use Rattle.rules.specs.Carry.{wasNew}
 use Rattle.rules.specs.WellFormed.{staleIn}
-use Rattle.rules.proofs.Parts.{Edged, Tiling, Rowed, Books, Clean, Paged, Bounded, Signed, Waits, Core, marks, onSet}
+use Rattle.rules.specs.Parts.{Edged, Tiling, Rowed, Books, Clean, Paged, Bounded, Signed, Waits, Core, marks, onSet}
+use Rattle.rules.specs.Midway.{MidCall, size, mostEntries, MidFlush}
 use Rattle.rules.proofs.BooksLaws.{books-back, books-back2, books-same, books-swap, books-ext, books-sweep, clean-swept, stale-sweep, stale-sweep-sum, Enters, marksWithout, books-enterEach, clean-enterEach, stale-enterEach, books-split, books-join, clean-join, entries-total, books-among}
 use Rattle.rules.proofs.TilingLaws.{inside-home, tiling-among, others-among, others-split, tiling-move, GoodCut, cutsWith, tiling-split, tiling-join, named-neighbour, smaller-number, round-others}
 use Rattle.rules.proofs.CutLaws.{inBox-box, chosen-good, waiting-length, length-cleared}
-use Rattle.rules.proofs.PagedLaws.{size, mostEntries, grown-paged, splitAt-paged, joinedWith-paged}
-use Rattle.rules.proofs.PlaceLaws.{lowEdges, highEdges}
+use Rattle.rules.proofs.PagedLaws.{grown-paged, splitAt-paged, joinedWith-paged}
 use Rattle.rules.proofs.RoundLaws.{bounded-total, grown-bounded, splitAt-bounded, joinedWith-bounded}
 
 -- ---- the reports of a memory cell, and the others
@@ -55,30 +56,6 @@ marks-kept cuts m l a r =
     here : (o : Option Report) → cond (isSome (passed (inBox cuts m) r o)) false (wasNew o) ≡ wasNew (passed (λ x. not (inBox cuts m x)) r o)
     here none = refl
     here (some w) = by-cases (inBox cuts m (record { key = r; val = w })) (λ t. rw t) (λ t. rw t)
-
--- ---- what holds once the reports are in: d₀ stood between `before` and `after`, n reports went in
-
-pub record Ready (f : Flushed) (d₀ : Cell) (before after : List Cell) (memo : Rows Line) (n c : ℕ) : Type 0 where
-  pub rest : f .rest ≡ before ++ after
-  pub cells : f .store .cells ≡ before ++ (d₀ ∷ after)
-  pub number : f .cell .number ≡ d₀ .number
-  pub edges : f .cell .edges ≡ d₀ .edges
-  pub chain : f .cell .chain ≡ d₀ .chain
-  pub tiled : Tiling (f .store .cuts) (before ++ (d₀ ∷ after))
-  pub books : Books (f .cell ∷ (before ++ after)) (f .store .memo) (marks (f .store .waiting)) (onSet (f .store .on))
-  pub clean : Clean (f .store .memo) (f .cell)
-  pub paged : Paged (before ++ (d₀ ∷ after)) (f .store .free)
-  pub few : sumBy size (before ++ after) + size (f .cell) ≤ mostEntries
-  pub signed : Signed (f .store .on)
-  pub waits : Waits (f .store .waiting) (f .store .on)
-  pub bounded : Bounded memo (before ++ (d₀ ∷ after)) (length (f .store .waiting) + n) c
-  pub stale : (j : ℕ) → sumBy (staleIn (f .store .memo)) (drop j (before ++ after)) ≤ sumBy (staleIn memo) (drop j (before ++ after)) + n
-  pub room : length (f .store .waiting) ≤ c + (fullMemory - 1)
-
--- the parts, and the round's bound at c
-pub record Staged (s : Store) (c : ℕ) : Type 0 where
-  pub core : Core s
-  pub bounded : Bounded (s .memo) (s .cells) (length (s .waiting)) c
 
 -- ---- d once the reports are in
 
@@ -181,7 +158,7 @@ module _ (m : Box) (s : Store) (d : Cell) (k : Core s) (a : Among (s .cells) d) 
           sum-middle (staleIn (s .memo)) before d after,
         )
 
-    pub ready : length (flushedInto m s d .store .waiting) ≤ c + (fullMemory - 1) → Ready (flushedInto m s d) d before after (s .memo) (length reports) c
+    pub ready : length (flushedInto m s d .store .waiting) ≤ c + (fullMemory - 1) → MidFlush (flushedInto m s d) d before after (s .memo) (length reports) c
     unfolding flushedInto
     ready room = record {
       rest = rest-is;
@@ -203,7 +180,7 @@ module _ (m : Box) (s : Store) (d : Cell) (k : Core s) (a : Among (s .cells) d) 
 
 -- ---- grown
 
-module _ (f : Flushed) (d₀ : Cell) (before after : List Cell) (memo : Rows Line) (n c : ℕ) (r : Ready f d₀ before after memo n c) where
+module _ (f : Flushed) (d₀ : Cell) (before after : List Cell) (memo : Rows Line) (n c : ℕ) (r : MidFlush f d₀ before after memo n c) where
   tiling-grown : Tiling (f .store .cuts) ((before ++ after) ++ (settled (f .store .free) (f .cell) ∷ []))
   unfolding settled
   tiling-grown = tiling-move (f .store .cuts) before d₀ after _ (r .tiled) (r .number) (r .edges)
@@ -213,9 +190,9 @@ module _ (f : Flushed) (d₀ : Cell) (before after : List Cell) (memo : Rows Lin
   unfolding settled
   books-settled rest b = books-same (f .cell) _ rest refl refl b
 
-  pub grown-staged : Staged (grown f) c
+  pub grown-mid : MidCall (grown f) c
   unfolding grown
-  grown-staged =
+  grown-mid =
       let cell : Cell = settled (f .store .free) (f .cell) in
       record {
         core = record {
@@ -264,9 +241,9 @@ module _ (f : Flushed) (d₀ : Cell) (before after : List Cell) (memo : Rows Lin
         let h = books-same high highLaid (lowLaid ∷ (before ++ after)) refl refl (books-swap lowLaid high (before ++ after) l) in
         books-back2 lowLaid highLaid (before ++ after) (books-swap highLaid lowLaid (before ++ after) h)
 
-    pub split-staged : Staged (splitAt cut f) c
+    pub split-mid : MidCall (splitAt cut f) c
     unfolding splitAt
-    split-staged = record {
+    split-mid = record {
       core = record {
         tiling = subst (λ (l : List Cell). Tiling (cutsWith cut (f .store .cuts)) (l ++ (lowLaid ∷ highLaid ∷ []))) (sym (r .rest)) tiling-cut;
         books =
@@ -346,9 +323,9 @@ module _ (f : Flushed) (d₀ : Cell) (before after : List Cell) (memo : Rows Lin
           length-filter-not (stale (f .store .memo)) (m .entries),
         )
 
-    pub join-staged : Staged (joinedWith f m) c
+    pub join-mid : MidCall (joinedWith f m) c
     unfolding joinedWith
-    join-staged = record {
+    join-mid = record {
       core = record {
         tiling = subst (λ (l : List Cell). Tiling (f .store .cuts) (l ++ (whole ∷ []))) (sym others-left) tiling-whole;
         books =
@@ -367,21 +344,21 @@ module _ (f : Flushed) (d₀ : Cell) (before after : List Cell) (memo : Rows Lin
   placed-flushed : Each (λ e. inside (f .cell .edges) (e .val) ≡ true) (f .cell .entries)
   placed-flushed = r .books .cells-rowed .0 .placed
 
-  pub split-or : (o : Option Cut) → chosenCut (f .store .cuts) (f .cell .edges) (f .cell .entries) ≡ o → length (f .store .cells) < maxCells → Staged (splitOr o f) c
-  split-or none e few = grown-staged
-  split-or (some cut) e few = split-staged cut (chosen-good (f .store .cuts) (f .cell .edges) (f .cell .entries) cut placed-flushed e) few
+  pub split-or : (o : Option Cut) → chosenCut (f .store .cuts) (f .cell .edges) (f .cell .entries) ≡ o → length (f .store .cells) < maxCells → MidCall (splitOr o f) c
+  split-or none e few = grown-mid
+  split-or (some cut) e few = split-mid cut (chosen-good (f .store .cuts) (f .cell .edges) (f .cell .entries) cut placed-flushed e) few
 
-  pub join-or : (pick : ℕ) (o : Option Cell) → named pick (neighbours f) ≡ o → Staged (joinOr o f) c
-  join-or pick none e = grown-staged
+  pub join-or : (pick : ℕ) (o : Option Cell) → named pick (neighbours f) ≡ o → MidCall (joinOr o f) c
+  join-or pick none e = grown-mid
   join-or pick (some m) e =
       let q = named-neighbour pick f m e in
-      join-staged m (subst (λ (l : List Cell). Among l m) (r .rest) (q .3)) (q .1) (q .2)
+      join-mid m (subst (λ (l : List Cell). Among l m) (r .rest) (q .3)) (q .1) (q .2)
 
-  pub reshaped-staged : (pick : ℕ) → Staged (reshaped pick f) c
+  pub reshaped-mid : (pick : ℕ) → MidCall (reshaped pick f) c
   unfolding reshaped
-  reshaped-staged pick =
+  reshaped-mid pick =
       by-cases (ltb pageEntries (length (f .cell .entries)))
       (λ t. rw t (by-cases (ltb (length (f .store .cells)) maxCells)
       (λ u. rw u (split-or _ refl (ltb-true (length (f .store .cells)) maxCells u)))
-      (λ u. rw u grown-staged)))
+      (λ u. rw u grown-mid)))
       (λ t. rw t (join-or pick _ refl))

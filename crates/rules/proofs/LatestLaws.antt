@@ -13,7 +13,7 @@ use Rattle.lists.specs.Rows.{Rows, Rising, find, alter, passed}
 use Rattle.lists.specs.Sums.{sumBy, filter, count}
 use Rattle.lists.specs.Tests.{orElse, one-if}
 use Rattle.lists.proofs.Cases.{by-cases, option-cases, list-cases, none-some}
-use Rattle.lists.proofs.AmongLaws.{Among, sum-among, among-tail}
+use Rattle.lists.proofs.AmongLaws.{sum-among, among-tail}
 use Rattle.lists.proofs.SumsLaws.{sum-cons}
 use Rattle.lists.proofs.TestsLaws.{one-if-le}
 use Rattle.lists.proofs.RowsLaws.{find-alter, find-filter}
@@ -26,8 +26,9 @@ use Rattle.rules.specs.Flush.{joined, raised, inBox, Flushed, flushedInt
 use Rattle.rules.specs.Carry.{isOn, wasNew, placeOf, storedIn, signedOff, flushDue, afterReport, onCount, waitingIn, signedOn, reported, found, carriedOut, carry, latest}
 use Rattle.rules.specs.WellFormed.{WellFormed}
 use Rattle.rules.specs.Records.{Request, signOn, report, signOff, range, requestOf, refusal}
+use Rattle.rules.specs.Parts.{Books, Clean, Core, marks, onSet, Bounded}
 use Rattle.lists.specs.Words.{Bytes}
-use Rattle.rules.proofs.Parts.{Books, Clean, Core, marks, onSet, Bounded}
+use Rattle.lists.specs.Among.{Among}
 use Rattle.rules.proofs.WellLaws.{well-core}
 use Rattle.rules.proofs.LiveLaws.{liveBy, stored-none, stored-at, stored-same, live-one, live-order, live-back, live-swap, live-settled, live-sweep, live-off, live-off-other, live-split, live-join, live-flushed, live-flushed-other, sweptMemo-last}
 use Rattle.rules.proofs.BooksLaws.{books-swap, books-sweep, clean-swept, stale-sweep, books-among}
@@ -284,7 +285,7 @@ latestBy (range rect) before q = before q
 settled-latest : (pick : ℕ) (p : Place) (s : Store) → Core s → Bounded (s .memo) (s .cells) (length (s .waiting)) (s .tally + 1) → s .tally < sweepEvery → length (s .waiting) ≤ fullMemory
     → ((n : Box) → sameBox n (boxOf (s .cuts) p) ≡ false → waitingIn (s .cuts) (s .waiting) n < fullBox) → (q : ℕ) → latest (tick (afterReport pick p s)) q ≡ latest s q
 settled-latest pick p s c b t few boxes q =
-    latest-tick (afterReport pick p s) (report-done pick p s (s .tally + 1) c b (omega arith) few boxes .staged .core .books) q ∙ latest-after pick p s c q
+    latest-tick (afterReport pick p s) (report-done pick p s (s .tally + 1) c b (omega arith) few boxes .mid .core .books) q ∙ latest-after pick p s c q
 
 done-latest : (pick : ℕ) (k : Request) (s : Store) (buffer : List ℕ) → WellFormed s → Accepted (isOn s) (onCount s) k → (q : ℕ) → latest (carriedOut pick k s buffer .store) q ≡ latestBy k (latest s) q
 unfolding carriedOut latestBy signedOn reported

@@ -5,7 +5,6 @@ pub mod LatestLaws
 pub mod LinkLaws
 pub mod LiveLaws
 pub mod PagedLaws
-pub mod Parts
 pub mod PlaceLaws
 pub mod PlainLaws
 pub mod RecordLaws

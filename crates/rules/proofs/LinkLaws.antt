@@ -8,7 +8,7 @@ use native.Mathlib.Omega.{arith}
 use lib.Dec.{eqb}
 use lib.ListN.{length}
 use borrow.Author.Tests.{eqb-true, eq-eqb}
-use Rattle.terms.specs.Terms.{Place, maxRadio}
+use Rattle.terms.specs.Terms.{Place, Fix, maxRadio}
 use Rattle.lists.specs.Parts.{tab}
 use Rattle.lists.specs.Rows.{Rows, Rising, find, alter, insert, countFound}
 use Rattle.lists.specs.Sums.{sumTo}
@@ -17,12 +17,12 @@ use Rattle.lists.proofs.Cases.{by-cases, option-cases, false-true, isSome-true,
 use Rattle.lists.proofs.RowsLaws.{find-below, rising-less, find-alter, ext-find, sum-rows, rising-tab, find-tab, find-within, length-found}
 use Rattle.lists.proofs.SumsLaws.{sumTo-ext}
 use Rattle.rules.specs.Grid.{Rect, inside, Cuts, Box, sameBox, boxOf}
-use Rattle.rules.specs.Store.{Report, Line, Store, fresh}
+use Rattle.rules.specs.Store.{Report, Line, Store, withWaiting, withOn, fresh}
 use Rattle.rules.specs.Flush.{inBox}
 use Rattle.rules.specs.Records.{refusal}
 use Rattle.rules.specs.Carry.{isOn, onCount, wasNew, placeOf, liveIn, storedIn, latest, listIf, listOf, found, waitingIn, boxToFlush, flushDue, signedOn, reported}
 use Rattle.rules.specs.Plain.{Plain, plainFresh, plainOn, plainOnCount, putAt, waitsIn, plainIn, plainDue, plainPlace, plainRefusal, plainFound}
-use Rattle.rules.proofs.Parts.{Signed, Waits}
+use Rattle.rules.specs.Parts.{Signed, Waits}
 
 pub record Link (s : Store) (x : Plain) : Type 0 where
   pub on : (r : ℕ) → isOn s r ≡ plainOn x r
@@ -73,7 +73,7 @@ placeIn rect none = none
 placeIn rect (some p) = cond (inside rect p) (some p) none
 
 module _ (rect : Rect) (f : ℕ → Option Place) where
-  rising-listIf : (b r : ℕ) (o : Option Place) (l : Rows Place) → b < r → Rising r l → Rising b (listIf rect r o l)
+  rising-listIf : (b r : ℕ) (o : Option Place) (l : Rows Fix) → b < r → Rising r l → Rising b (listIf rect r o l)
   rising-listIf b r none l h a = rising-less b r l (omega arith) a
   rising-listIf b r (some p) l h a = by-cases (inside rect p) (λ t. rw t (h, a)) (λ t. rw t (rising-less b r l (omega arith) a))
 
@@ -82,12 +82,12 @@ module _ (rect : Rect) (f : ℕ → Option Place) where
   rising-listOf b [] a = tt
   rising-listOf b (x ∷ xs) a = rising-listIf b (x .key) (f (x .key)) (listOf rect f xs) (a .0) (rising-listOf (x .key) xs (a .1))
 
-  find-listIf-same : (r : ℕ) (o : Option Place) (l : Rows Place) → Rising r l → find (listIf rect r o l) r ≡ placeIn rect o
+  find-listIf-same : (r : ℕ) (o : Option Place) (l : Rows Fix) → Rising r l → find (listIf rect r o l) r ≡ placeIn rect o
   unfolding find
   find-listIf-same r none l a = find-below r r l (omega arith) a
   find-listIf-same r (some p) l a = by-cases (inside rect p) (λ t. rw (t, eq-eqb r r refl)) (λ t. rw t (find-below r r l (omega arith) a))
 
-  find-listIf-other : (r q : ℕ) (o : Option Place) (l : Rows Place) → eqb q r ≡ false → find (listIf rect r o l) q ≡ find l q
+  find-listIf-other : (r q : ℕ) (o : Option Place) (l : Rows Fix) → eqb q r ≡ false → find (listIf rect r o l) q ≡ find l q
   unfolding find
   find-listIf-other r q none l e = refl
   find-listIf-other r q (some p) l e = by-cases (inside rect p) (λ t. rw (t, e)) (λ t. rw t)
@@ -200,7 +200,7 @@ module _ (s : Store) (x : Plain) (k : Link s x) (r : ℕ) (p : Place) (h : 0 < r
       (λ t. rw t (λ e. k .waits-on q e))
 
   link-place : (on : Rows (Unit {0})) → ((q : ℕ) → isSome (find on q) ≡ isSome (putAt r (some p) (x .latest) q))
-      → Link (record { cuts = s .cuts; cells = s .cells; free = s .free; waiting = alter f r (s .waiting); memo = s .memo; on = on; tally = s .tally }) (plainPlace r p x)
+      → Link (withWaiting (alter f r (s .waiting)) (withOn on s)) (plainPlace r p x)
   unfolding plainPlace isOn plainOn
   link-place on same = record {
     on = same;

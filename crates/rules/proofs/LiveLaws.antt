@@ -8,7 +8,7 @@ use Prim.Native.Nat.{ℕ, _+_, _-_, _≤_, _<_}
 use native.Mathlib.Omega.{arith}
 use lib.Dec.{eqb, ltb}
 use borrow.Author.Tests.{ltb-false, eqb-true, ne-eqb, eq-eqb}
-use Rattle.terms.specs.Terms.{Place}
+use Rattle.terms.specs.Terms.{Place, Fix}
 use Rattle.lists.specs.Rows.{Row, Rows, Rising, find, alter, merge, passed}
 use Rattle.lists.specs.Sums.{sumBy, filter}
 use Rattle.lists.specs.Tests.{one-if, both, either, isSome, orElse, Each}
@@ -17,14 +17,14 @@ use Rattle.lists.proofs.TestsLaws.{both-true, true-both, both-left-false, one-i
 use Rattle.lists.proofs.SumsLaws.{sum-cons, sum-append, sum-ext, sum-le, sum-zero}
 use Rattle.lists.proofs.RowsLaws.{find-below, rising-alter, find-alter, rising-filter, find-filter}
 use Rattle.rules.specs.Grid.{samePlace, inside, Box}
-use Rattle.rules.specs.Store.{Report, Line, Cell, Store, others, settled}
+use Rattle.rules.specs.Store.{Report, Line, Cell, Store, others, settled, missedOf, withEntries}
 use Rattle.rules.specs.Sweep.{staleBy, stale, lowered, sweptMemo, swept}
 use Rattle.rules.specs.Cut.{Cut, lowSide}
 use Rattle.rules.specs.Flush.{raised, entered, Work, enter, enterEach, inBox, flushedInto, lowCell, highCell}
 use Rattle.rules.specs.Carry.{liveIn, storedIn, placeOf}
 use Rattle.rules.specs.WellFormed.{countIf, liveOf}
-use Rattle.rules.proofs.Parts.{staleR, missedOf, Rowed, Books, Clean}
-use Rattle.rules.proofs.BooksLaws.{loweredIf, find-sweptMemo, find-swept, withEntries, count-passed, away, count-joined}
+use Rattle.rules.specs.Parts.{staleR, Rowed, Books, Clean}
+use Rattle.rules.proofs.BooksLaws.{loweredIf, find-sweptMemo, find-swept, count-passed, away, count-joined}
 use Rattle.rules.proofs.PlaceLaws.{samePlace-refl, samePlace-true}
 
 -- ---- live entries by a test of the place
@@ -222,7 +222,7 @@ loweredIf-last none o l h = (l, h, refl)
 loweredIf-last (some p) o l h = lowered-last o l h
 
 -- a sweep changes no line's place
-pub sweptMemo-last : (r : ℕ) (memo : Rows Line) (es : Rows Place) → Rising 0 es → Rising 0 memo → (l : Line) → find (sweptMemo memo es) r ≡ some l
+pub sweptMemo-last : (r : ℕ) (memo : Rows Line) (es : Rows Fix) → Rising 0 es → Rising 0 memo → (l : Line) → find (sweptMemo memo es) r ≡ some l
     → (k : Line) × (find memo r ≡ some k) × (k .last ≡ l .last)
 sweptMemo-last r memo es a m l e = loweredIf-last (passed (stale memo) r (find es r)) (find memo r) l (sym (find-sweptMemo memo es m a r) ∙ e)
 

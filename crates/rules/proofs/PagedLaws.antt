@@ -6,7 +6,7 @@ use Prim.Native.Nat.{ℕ, _+_, _-_, _*_, _≤_, _<_}
 use native.Mathlib.Omega.{arith}
 use lib.Dec.{ltb}
 use lib.ListN.{length, length-append}
-use Rattle.terms.specs.Terms.{Place, pages, pageEntries, maxOn}
+use Rattle.terms.specs.Terms.{Fix, pages, pageEntries, maxOn}
 use Rattle.lists.specs.Chains.{settledFree}
 use Rattle.lists.specs.Rows.{Rows}
 use Rattle.lists.specs.Sums.{sumBy, concat}
@@ -19,20 +19,14 @@ use Rattle.rules.specs.Store.{Cell, Store, others, pagesFor, settled, fr
 use Rattle.rules.specs.Sweep.{stale, sweptEntries, swept, sweepFront}
 use Rattle.rules.specs.Cut.{Cut, lowSide}
 use Rattle.rules.specs.Flush.{joined, Flushed, grown, unusedNumber, lowCell, highCell, splitAt, smaller, larger, joinedWith}
-use Rattle.rules.proofs.Parts.{Paged}
+use Rattle.rules.specs.Parts.{Paged}
+use Rattle.rules.specs.Midway.{size, mostEntries}
 
 -- ---- pages that entries need
 
--- entries of a cell, and the pages that they need
-abbrev pub size : Cell → ℕ
-size c = length (c .entries)
-
+-- the pages that a cell's entries need
 abbrev pub needed : Cell → ℕ
 needed c = pagesFor (length (c .entries))
-
--- the most entries that are stored at a time: one for each radio on, and what is stale (`bounded-total`, at the full tally)
-abbrev pub mostEntries : ℕ
-mostEntries = maxOn + (sweepEvery * (maxCells - 1) + sweepEvery + (fullMemory - 1))
 
 pub pagesFor-some : (e : ℕ) → 1 ≤ pagesFor e
 unfolding pagesFor
@@ -239,7 +233,7 @@ paged-join xs ys xs′ ys′ d₀ d n j free p e s few e′ h =
     omega (arith, pagesFor-one (length (d .entries)) (omega arith), each-middle (λ c. length (c .chain) ≡ needed c) xs d₀ ys (p .cells-paged) .0, pagesFor-some (length (d₀ .entries))) in
     let q : Paged ((xs′ ++ (n ∷ ys′)) ++ (settled free d ∷ [])) (freeAfter free d) =
     subst (λ l. Paged (l ++ (settled free d ∷ [])) (freeAfter free d)) s (paged-end xs ys d₀ d free p e some) in
-    let same : length (settled free d .entries) ≡ length (d .entries) = ap (λ (l : Rows Place). length l) (entries-settled free d) in
+    let same : length (settled free d .entries) ≡ length (d .entries) = ap (λ (l : Rows Fix). length l) (entries-settled free d) in
     paged-joined xs′ ys′ n (settled free d) j (freeAfter free d) q e′ (omega arith) (omega arith)
 
 -- ---- the steps themselves: the rest of the round is xs ++ ys, where d₀ stood between

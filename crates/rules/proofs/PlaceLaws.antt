@@ -11,7 +11,7 @@ use Rattle.lists.proofs.Cases.{by-cases}
 use Rattle.lists.proofs.TestsLaws.{both-left, both-right, both-intro, either-cases, both-comm, one-if-parts}
 use Rattle.rules.specs.Grid.{Axis, eastward, northward, along, across, Span, within, sameSpan, Rect, spanOf, withSpan, inside, samePlace}
 use Rattle.rules.specs.Cut.{Cut, through}
-use Rattle.rules.specs.Flush.{touch, beside, hull, joinedEdges}
+use Rattle.rules.specs.Flush.{lowEdges, highEdges, touch, beside, hull, joinedEdges}
 
 -- ---- places
 
@@ -108,13 +108,6 @@ lowSpan s c = record { low = s .low; high = c - 1 }
 
 abbrev pub highSpan : Span → ℕ → Span
 highSpan s c = record { low = c; high = s .high }
-
--- "The low side keeps d's number; the other": their edges
-abbrev pub lowEdges : Cut → Rect → Rect
-lowEdges c r = withSpan (c .axis) (record { low = spanOf (c .axis) r .low; high = c .at - 1 }) r
-
-abbrev pub highEdges : Cut → Rect → Rect
-highEdges c r = withSpan (c .axis) (record { low = c .at; high = spanOf (c .axis) r .high }) r
 
 -- each place of the rectangle lies on one side
 pub inside-cut : (c : Cut) (r : Rect) (p : Place) → through (spanOf (c .axis) r) (c .at) ≡ true → one-if (inside r p) ≡ one-if (inside (lowEdges c r) p) + one-if (inside (highEdges c r) p)

@@ -13,7 +13,6 @@ use Rattle.lists.specs.Rows.{Rows, Rising, find, alter}
 use Rattle.lists.specs.Sums.{filter}
 use Rattle.lists.specs.Tests.{both, isSome}
 use Rattle.lists.proofs.Cases.{by-cases, option-cases, list-cases, none-some, isSome-false, false-true}
-use Rattle.lists.proofs.AmongLaws.{Among}
 use Rattle.lists.proofs.TestsLaws.{both-right, not-true}
 use Rattle.lists.proofs.RowsLaws.{find-alter, find-filter, rising-filter}
 use Rattle.rules.specs.Limits.{sweepEvery, fullBox, fullMemory}
@@ -25,8 +24,9 @@ use Rattle.rules.specs.Carry.{isOn, wasNew, placeOf, storedIn, signedOff
 use Rattle.rules.specs.Plain.{Plain, plainOn, plainIn, plainFlush, plainAfter, plainOff, plainPlace, plainDone, plainStep}
 use Rattle.rules.specs.WellFormed.{WellFormed}
 use Rattle.rules.specs.Records.{Request, requestOf, refusal}
+use Rattle.rules.specs.Parts.{Books, Core, marks, onSet, Bounded}
 use Rattle.lists.specs.Words.{Bytes}
-use Rattle.rules.proofs.Parts.{Books, Core, marks, onSet, Bounded}
+use Rattle.lists.specs.Among.{Among}
 use Rattle.rules.proofs.WellLaws.{well-core}
 use Rattle.rules.proofs.LiveLaws.{stored-none, stored-same, live-one, live-off, live-off-other, find-enterEach-memo, sweptMemo-last}
 use Rattle.rules.proofs.FlushLaws.{report-found}
@@ -228,7 +228,7 @@ report-link : (pick : ℕ) (p : Place) (s : Store) (x : Plain) → Link s x → 
     → length (s .waiting) ≤ fullMemory → ((n : Box) → sameBox n (boxOf (s .cuts) p) ≡ false → waitingIn (s .cuts) (s .waiting) n < fullBox)
     → Link (tick (afterReport pick p s)) (plainAfter (s .cuts) p x)
 report-link pick p s x l k b t few boxes =
-    link-tick (afterReport pick p s) (plainAfter (s .cuts) p x) (link-after pick p s x l k) (report-done pick p s (s .tally + 1) k b (omega arith) few boxes .staged .core .books)
+    link-tick (afterReport pick p s) (plainAfter (s .cuts) p x) (link-after pick p s x l k) (report-done pick p s (s .tally + 1) k b (omega arith) few boxes .mid .core .books)
 
 done-link : (pick : ℕ) (q : Request) (s : Store) (x : Plain) (buffer : List ℕ) → WellFormed s → Link s x → Accepted (isOn s) (onCount s) q
     → Link (carriedOut pick q s buffer .store) (plainDone (s .cuts) q x)

@@ -20,7 +20,7 @@ use Rattle.rules.specs.Grid.{Rect}
 use Rattle.rules.specs.Store.{Report}
 use Rattle.rules.specs.Records.{Request, signOn, report, signOff, range, requestOf, kindField, radioField, placeField, rectField, kindSignOn, kindReport, kindSignOff, kindRange, notAtHand, unknownKind, wrongLength, noRadio, reversed, onAlready, notOn, noRoom, refusal}
 use Rattle.rules.specs.WellFormed.{InSquare}
-use Rattle.rules.proofs.Parts.{Signed, Waits}
+use Rattle.rules.specs.Parts.{Signed, Waits}
 
 -- ---- the checks passed
 

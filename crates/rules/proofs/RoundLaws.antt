@@ -18,7 +18,7 @@ use Rattle.rules.specs.Sweep.{stale, sweptMemo, swept, sweepFront}
 use Rattle.rules.specs.Cut.{Cut, lowSide}
 use Rattle.rules.specs.Flush.{joined, Flushed, grown, unusedNumber, lowCell, highCell, splitAt, joinedWith}
 use Rattle.rules.specs.WellFormed.{staleIn}
-use Rattle.rules.proofs.Parts.{Clean, Bounded}
+use Rattle.rules.specs.Parts.{Clean, Bounded}
 
 -- ---- single changes
 

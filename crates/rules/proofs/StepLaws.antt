@@ -8,7 +8,7 @@ use native.Mathlib.Omega.{arith}
 use lib.Dec.{eqb, ltb}
 use lib.ListN.{length}
 use borrow.Author.Tests.{ltb-true, ltb-false, eqb-true, eq-eqb, ne-eqb}
-use Rattle.terms.specs.Terms.{Place, maxRadio, maxOn}
+use Rattle.terms.specs.Terms.{Place, Fix, maxRadio, maxOn}
 use Rattle.lists.specs.Rows.{Rows, find, alter, insert}
 use Rattle.lists.specs.Tests.{one-if}
 use Rattle.lists.specs.Words.{Bytes}
@@ -18,12 +18,13 @@ use Rattle.lists.proofs.TestsLaws.{both-intro, one-if-le}
 use Rattle.rules.specs.Limits.{fullBox, fullMemory, sweepEvery}
 use Rattle.rules.specs.Grid.{Box, sameBox, boxOf, cornerOf}
 use Rattle.rules.specs.Store.{Report, Cell, Store, settled}
-use Rattle.rules.specs.Sweep.{swept, sweptMemo, sweepFront, tick}
+use Rattle.rules.specs.Sweep.{swept, sweptMemo, sweepFront, counted, tick}
 use Rattle.rules.specs.Flush.{flushedInto, reshaped, cellOfBox, flush}
 use Rattle.rules.specs.Records.{Request, requestOf, refusal}
 use Rattle.rules.specs.Carry.{isOn, onCount, wasNew, signedOn, reported, signedOff, waitingIn, flushDue, afterReport, found, listBytes, answered, carriedOut, carry}
 use Rattle.rules.specs.WellFormed.{InSquare, WellFormed}
-use Rattle.rules.proofs.Parts.{Tiling, Books, Paged, Bounded, Core, marks, onSet}
+use Rattle.rules.specs.Parts.{Tiling, Books, Paged, Bounded, Core, marks, onSet}
+use Rattle.rules.specs.Midway.{Roomy, MidCallRoomy}
 use Rattle.rules.proofs.WellLaws.{well-core, well-bounded, core-well}
 use Rattle.rules.proofs.RecordLaws.{Accepted, on-passed, report-passed, off-passed, range-passed, accepted, signed-on, signed-off, waits-alter}
 use Rattle.rules.proofs.BooksLaws.{books-ext, books-on, books-off, stale-off, books-sweep, clean-swept, stale-sweep, books-same, books-back, marks-signedOn, marks-reported, marks-signedOff, on-signedOn, on-signedOff}
@@ -31,19 +32,9 @@ use Rattle.rules.proofs.TilingLaws.{cellAt-split, home-some, tiling-mov
 use Rattle.rules.proofs.CutLaws.{box-same, waiting-new, waiting-less, length-cleared, waiting-cleared, most-some, due-none, due-some, reshaped-waiting, reshaped-tally, waiting-reshaped, flush-cases}
 use Rattle.rules.proofs.PagedLaws.{sweepFront-paged}
 use Rattle.rules.proofs.RoundLaws.{bounded-record, sweepFront-bounded}
-use Rattle.rules.proofs.FlushLaws.{Staged, ready, reshaped-staged}
-
--- room for the next report: what holds of the waiting between two calls
-pub record Roomy (s : Store) : Type 0 where
-  pub few : length (s .waiting) < fullMemory
-  pub boxes : (m : Box) → waitingIn (s .cuts) (s .waiting) m < fullBox
+use Rattle.rules.proofs.FlushLaws.{ready, reshaped-mid}
 
 -- ---- a flush
-
--- the parts, the bound, and room: what holds once the flush is done
-pub record Done (s : Store) (c : ℕ) : Type 0 where
-  pub staged : Staged s c
-  pub roomy : Roomy s
 
 -- the reports of m wait no longer; no other memory cell was full
 module _ (pick : ℕ) (m : Box) (s : Store) (c : ℕ) (k : Core s) (b : Bounded (s .memo) (s .cells) (length (s .waiting)) c) (late : c ≤ sweepEvery)
@@ -57,19 +48,19 @@ module _ (pick : ℕ) (m : Box) (s : Store) (c : ℕ) (k : Core s) (b : Bounded 
   unfolding flushedInto
   flushed-boxes d n = waiting-cleared (s .cuts) (s .waiting) m fullBox (omega arith) others-few n
 
-  flushed-done : (d : Cell) → cellOfBox s m ≡ some d → Done (reshaped pick (flushedInto m s d)) c
+  flushed-done : (d : Cell) → cellOfBox s m ≡ some d → MidCallRoomy (reshaped pick (flushedInto m s d)) c
   unfolding cellOfBox
   flushed-done d e =
       let at = cellAt-split (s .cells) (cornerOf (s .cuts) m) d e in
       record {
-        staged = reshaped-staged (flushedInto m s d) d (at .0 .before) (at .0 .after) (s .memo) _ c (ready m s d k (at .0) (at .1) c b late (omega (arith, flushed-few d))) pick;
+        mid = reshaped-mid (flushedInto m s d) d (at .0 .before) (at .0 .after) (s .memo) _ c (ready m s d k (at .0) (at .1) c b late (omega (arith, flushed-few d))) pick;
         roomy = record {
           few = rw (reshaped-waiting pick (flushedInto m s d)) (flushed-few d);
           boxes = waiting-reshaped pick fullBox (flushedInto m s d) (flushed-boxes d);
         };
       }
 
-  pub flush-done : Done (flush pick m s) c
+  pub flush-done : MidCallRoomy (flush pick m s) c
   unfolding flush cellOfBox
   flush-done =
       let h = home-some (s .cuts) (s .cells) m (k .tiling) in
@@ -91,7 +82,7 @@ module _ (pick : ℕ) (p : Place) (s : Store) (c : ℕ) (k : Core s) (b : Bounde
   all-few : waitingIn (s .cuts) (s .waiting) (boxOf (s .cuts) p) < fullBox → (n : Box) → waitingIn (s .cuts) (s .waiting) n < fullBox
   all-few h n = by-cases (sameBox n (boxOf (s .cuts) p)) (λ t. rw (box-same n (boxOf (s .cuts) p) t) h) (others-few n)
 
-  some-due : (m : Box) → flushDue s p ≡ some m → Done (flush pick m s) c
+  some-due : (m : Box) → flushDue s p ≡ some m → MidCallRoomy (flush pick m s) c
   unfolding flushDue
   some-due m e =
       due-some (s .cuts) (waitingIn (s .cuts) (s .waiting)) (length (s .waiting)) p m e
@@ -101,22 +92,22 @@ module _ (pick : ℕ) (p : Place) (s : Store) (c : ℕ) (k : Core s) (b : Bounde
       let z : q .0 ≡ m = cc (q .1) in
       flush-done pick m s c k b late few (rw (← z) (q .2)) (λ n t. all-few h n))
 
-  pub report-done : Done (afterReport pick p s) c
+  pub report-done : MidCallRoomy (afterReport pick p s) c
   unfolding afterReport
   report-done =
       option-cases (flushDue s p)
-      (λ e. rw e (record { staged = record { core = k; bounded = b }; roomy = none-due e }))
+      (λ e. rw e (record { mid = record { core = k; bounded = b }; roomy = none-due e }))
       (λ m e. rw e (some-due m e))
 
 -- ---- the tally
 
 -- the front of the round is swept and goes to the end
-module _ (s : Store) (d : Cell) (cs : List Cell) (e : s .cells ≡ d ∷ cs) (x : Done s sweepEvery) where
+module _ (s : Store) (d : Cell) (cs : List Cell) (e : s .cells ≡ d ∷ cs) (x : MidCallRoomy s sweepEvery) where
   front-books : Books (d ∷ cs) (s .memo) (marks (s .waiting)) (onSet (s .on))
-  front-books = subst (λ (l : List Cell). Books l (s .memo) (marks (s .waiting)) (onSet (s .on))) e (x .staged .core .books)
+  front-books = subst (λ (l : List Cell). Books l (s .memo) (marks (s .waiting)) (onSet (s .on))) e (x .mid .core .books)
 
   front-tiling : Tiling (s .cuts) (d ∷ cs)
-  front-tiling = subst (Tiling (s .cuts)) e (x .staged .core .tiling)
+  front-tiling = subst (Tiling (s .cuts)) e (x .mid .core .tiling)
 
   front-kept : Tiling (s .cuts) (cs ++ (settled (s .free) (swept (s .memo) d) ∷ []))
   unfolding settled swept
@@ -131,31 +122,31 @@ module _ (s : Store) (d : Cell) (cs : List Cell) (e : s .cells ≡ d ∷ cs) (x 
   front-core = record {
     tiling = front-kept;
     books = front-swept;
-    paged = sweepFront-paged d cs s (subst (λ (l : List Cell). Paged l (s .free)) e (x .staged .core .paged));
-    signed = x .staged .core .signed;
-    waits = x .staged .core .waits;
+    paged = sweepFront-paged d cs s (subst (λ (l : List Cell). Paged l (s .free)) e (x .mid .core .paged));
+    signed = x .mid .core .signed;
+    waits = x .mid .core .waits;
   }
 
   pub front-well : WellFormed (sweepFront (d ∷ cs) s)
   unfolding sweepFront
   front-well =
       core-well (sweepFront (d ∷ cs) s) front-core
-      (sweepFront-bounded d cs s (length (s .waiting)) sweepEvery (subst (λ (l : List Cell). Bounded (s .memo) l (length (s .waiting)) sweepEvery) e (x .staged .bounded)) (omega arith)
+      (sweepFront-bounded d cs s (length (s .waiting)) sweepEvery (subst (λ (l : List Cell). Bounded (s .memo) l (length (s .waiting)) sweepEvery) e (x .mid .bounded)) (omega arith)
       (omega (arith, x .roomy .few)) (front-tiling .few-cells) (stale-sweep d cs front-books) (clean-swept d cs front-books))
       (x .roomy .few) (x .roomy .boxes) (omega arith)
 
-pub tick-well : (s : Store) → s .tally < sweepEvery → Done s (s .tally + 1) → WellFormed (tick s)
+pub tick-well : (s : Store) → s .tally < sweepEvery → MidCallRoomy s (s .tally + 1) → WellFormed (tick s)
 unfolding tick
 tick-well s t x =
     by-cases (ltb (s .tally + 1) sweepEvery)
-    (λ u. let h = ltb-true (s .tally + 1) sweepEvery u in rw u (core-well _ (counted-core (x .staged .core)) (x .staged .bounded) (x .roomy .few) (x .roomy .boxes) h))
+    (λ u. let h = ltb-true (s .tally + 1) sweepEvery u in rw u (core-well _ (counted-core (x .mid .core)) (x .mid .bounded) (x .roomy .few) (x .roomy .boxes) h))
     (λ u. let h = ltb-false (s .tally + 1) sweepEvery u in
     let z : s .tally + 1 ≡ sweepEvery = omega arith in
     rw u (list-cases (s .cells)
-    (λ e. absurd (omega (arith, some-cell (x .staged .core .tiling), ap length e)))
-    (λ d cs e. subst (λ (l : List Cell). WellFormed (sweepFront l s)) (sym e) (front-well s d cs e (subst (Done s) z x)))))
+    (λ e. absurd (omega (arith, some-cell (x .mid .core .tiling), ap length e)))
+    (λ d cs e. subst (λ (l : List Cell). WellFormed (sweepFront l s)) (sym e) (front-well s d cs e (subst (MidCallRoomy s) z x)))))
   where
-    counted-core : Core s → Core (record { cuts = s .cuts; cells = s .cells; free = s .free; waiting = s .waiting; memo = s .memo; on = s .on; tally = s .tally + 1 })
+    counted-core : Core s → Core (counted s)
     counted-core k = record { tiling = k .tiling; books = k .books; paged = k .paged; signed = k .signed; waits = k .waits }
 
 -- ---- a record's own effect
@@ -252,7 +243,7 @@ report-well : (pick : ℕ) (p : Place) (s : Store) → Core s → Bounded (s .me
     → ((n : Box) → sameBox n (boxOf (s .cuts) p) ≡ false → waitingIn (s .cuts) (s .waiting) n < fullBox) → WellFormed (tick (afterReport pick p s))
 report-well pick p s k b t few boxes =
     tick-well (afterReport pick p s) (subst (λ (c : ℕ). c < sweepEvery) (sym (after-tally pick p s)) t)
-    (subst (λ (c : ℕ). Done (afterReport pick p s) (c + 1)) (sym (after-tally pick p s)) (report-done pick p s (s .tally + 1) k b (omega arith) few boxes))
+    (subst (λ (c : ℕ). MidCallRoomy (afterReport pick p s) (c + 1)) (sym (after-tally pick p s)) (report-done pick p s (s .tally + 1) k b (omega arith) few boxes))
 
 on-well : (pick : ℕ) (s : Store) (w : WellFormed s) (r : ℕ) (p : Place) → 1 ≤ r → r ≤ maxRadio → InSquare p → isOn s r ≡ false → onCount s < maxOn
     → WellFormed (tick (afterReport pick p (signedOn r p s)))
@@ -269,12 +260,12 @@ report-on-well pick s w r p h k q on =
     report-well pick p (reported r p s) (report-core s w r p h k q on) (put-bounded s w r h f p b refl) (w .tallied) (put-few s w r h f p b refl) (put-boxes s w r h f p b refl)
 
 -- before the tally
-pub off-done : (s : Store) (w : WellFormed s) (r : ℕ) → 1 ≤ r → r ≤ maxRadio → isOn s r ≡ true → Done (signedOff r s) (signedOff r s .tally + 1)
+pub off-done : (s : Store) (w : WellFormed s) (r : ℕ) → 1 ≤ r → r ≤ maxRadio → isOn s r ≡ true → MidCallRoomy (signedOff r s) (signedOff r s .tally + 1)
 unfolding signedOff isOn
 off-done s w r h k on =
     let less = length-alter (λ _. none) 0 r (s .waiting) h (w .waiting-rises) in
     record {
-      staged = record {
+      mid = record {
         core = off-core s w r h k on;
         bounded =
             bounded-record (s .memo) _ (s .cells) (length (s .waiting)) (length (alter (λ _. none) r (s .waiting))) (s .tally) (well-bounded s w)
@@ -294,7 +285,7 @@ off-well s w r h k on = tick-well (signedOff r s) (off-early s w r) (off-done s 
 
 -- ---- any call
 
-pub answered-store : (l : Rows Place) (s : Store) (buffer : List ℕ) → answered l s buffer .store ≡ s
+pub answered-store : (l : Rows Fix) (s : Store) (buffer : List ℕ) → answered l s buffer .store ≡ s
 unfolding answered
 answered-store l s buffer = by-cases (ltb (length buffer) (listBytes * length l)) (λ t. rw t) (λ t. rw t)
 

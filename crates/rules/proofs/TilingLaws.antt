@@ -13,20 +13,21 @@ use Rattle.terms.specs.Terms.{Place}
 use Rattle.lists.specs.Sort.{sortIn}
 use Rattle.lists.specs.Sums.{sumBy, filter, count}
 use Rattle.lists.specs.Tests.{one-if, both, either, Each}
+use Rattle.lists.specs.Among.{Among}
 use Rattle.lists.proofs.Cases.{by-cases, option-cases, none-some, false-true, list-cases}
-use Rattle.lists.proofs.AmongLaws.{Among, among-head, among-tail, sum-among}
+use Rattle.lists.proofs.AmongLaws.{among-head, among-tail, sum-among}
 use Rattle.lists.proofs.SortLaws.{sum-sortIn, each-sortIn}
 use Rattle.lists.proofs.SumsLaws.{sum-const, sum-each, count-head, sum-middle, sum-one, sum-last, sum-last-two, length-sum, sum-map, sum-add-le, each-count, count-cons, sum-nil, firstAt-unused}
 use Rattle.lists.proofs.TestsLaws.{both-left, both-right, both-intro, either-cases, each-map, each-append, each-middle, each-getD-or, bool-ext, one-if-le}
 use Rattle.rules.specs.Limits.{lastMetre, maxCells, maxCuts, joinEntries}
 use Rattle.rules.specs.Grid.{Axis, eastward, northward, along, across, Span, within, Rect, spanOf, withSpan, inside, square}
-use Rattle.rules.specs.Grid.{Cuts, cutsOf, withCuts, stripe, stripeLow, Box, boxOf, cornerOf}
+use Rattle.rules.specs.Grid.{Cuts, cutsOf, withCutsOf, stripe, stripeLow, Box, boxOf, cornerOf}
 use Rattle.rules.specs.Store.{Cell, fresh, cellAt, others}
 use Rattle.rules.specs.Cut.{Cut, through}
-use Rattle.rules.specs.Flush.{Flushed, addCut, unusedNumber, beside, joinable, neighbours, named, hull, joinedEdges, smaller}
+use Rattle.rules.specs.Flush.{Flushed, addCut, unusedNumber, beside, joinable, neighbours, named, hull, joinedEdges, smaller, lowEdges, highEdges}
 use Rattle.rules.specs.WellFormed.{RisingCuts, OnCuts, InSquare}
-use Rattle.rules.proofs.Parts.{Edged, Tiling}
-use Rattle.rules.proofs.PlaceLaws.{within-true, within-low, within-high, inside-along, rect-parts, through-low, through-high, lowSpan, highSpan, lowEdges, highEdges, inside-cut, span-eq, hull-same, hull-touch, beside-cases, joined-span}
+use Rattle.rules.specs.Parts.{Edged, Tiling}
+use Rattle.rules.proofs.PlaceLaws.{within-true, within-low, within-high, inside-along, rect-parts, through-low, through-high, lowSpan, highSpan, inside-cut, span-eq, hull-same, hull-touch, beside-cases, joined-span}
 
 -- ---- one coordinate: stripes
 
@@ -356,7 +357,7 @@ length-addCut c cuts v h =
     (λ e. omega (arith, ltb-true (length cuts) maxCuts e, length-sum cuts, length-sum (sortIn c cuts), sum-sortIn (λ _. 1) c cuts))))
 
 -- a fact of both directions, after one of them has changed
-pub with-cuts : (P : Axis → List ℕ → Type 0) (axis : Axis) (l : List ℕ) (cuts : Cuts) → P axis l → ((a : Axis) → P a (cutsOf a cuts)) → (a : Axis) → P a (cutsOf a (withCuts axis l cuts))
+pub with-cuts : (P : Axis → List ℕ → Type 0) (axis : Axis) (l : List ℕ) (cuts : Cuts) → P axis l → ((a : Axis) → P a (cutsOf a cuts)) → (a : Axis) → P a (cutsOf a (withCutsOf axis l cuts))
 with-cuts P eastward l cuts h k eastward = h
 with-cuts P eastward l cuts h k northward = k northward
 with-cuts P northward l cuts h k eastward = k eastward
@@ -370,7 +371,7 @@ with-span P northward s r h k northward = h
 
 -- the cuts once c is made
 abbrev pub cutsWith : Cut → Cuts → Cuts
-cutsWith c cuts = withCuts (c .axis) (addCut (c .at) (cutsOf (c .axis) cuts)) cuts
+cutsWith c cuts = withCutsOf (c .axis) (addCut (c .at) (cutsOf (c .axis) cuts)) cuts
 
 pub count-cutsWith : (c : Cut) (cuts : Cuts) (axis : Axis) (x : ℕ) → count x (cutsOf axis cuts) ≤ count x (cutsOf axis (cutsWith c cuts))
 count-cutsWith c cuts axis x =
@@ -379,7 +380,7 @@ count-cutsWith c cuts axis x =
 pub has-cutsWith : (c : Cut) (cuts : Cuts) → 1 ≤ count (c .at) (cutsOf (c .axis) (cutsWith c cuts))
 has-cutsWith c cuts = subst (λ (l : List ℕ). 1 ≤ count (c .at) l) (sym (cutsOf-same (c .axis) (addCut (c .at) (cutsOf (c .axis) cuts)) cuts)) (has-addCut (c .at) (cutsOf (c .axis) cuts))
   where
-    cutsOf-same : (axis : Axis) (l : List ℕ) (k : Cuts) → cutsOf axis (withCuts axis l k) ≡ l
+    cutsOf-same : (axis : Axis) (l : List ℕ) (k : Cuts) → cutsOf axis (withCutsOf axis l k) ≡ l
     cutsOf-same eastward l k = refl
     cutsOf-same northward l k = refl
 

@@ -16,7 +16,7 @@ use Rattle.rules.specs.Store.{Store}
 use Rattle.rules.specs.Carry.{carry, carriedOut, answered, found, listBytes}
 use Rattle.rules.specs.Plain.{Plain, plainOn, plainOnCount, plainRefusal, plainFound}
 use Rattle.rules.specs.Told.{toldList, toldDone, told}
-use Rattle.rules.proofs.Parts.{Signed}
+use Rattle.rules.specs.Parts.{Signed}
 use Rattle.rules.proofs.LinkLaws.{Link, refusal-same, found-same}
 
 -- ---- the desk's answer is the plain rule's

@@ -13,10 +13,10 @@ use Rattle.lists.proofs.SumsLaws.{sum-zero}
 use Rattle.lists.proofs.TestsLaws.{each-map}
 use Rattle.rules.specs.Limits.{fullBox, fullMemory, sweepEvery}
 use Rattle.rules.specs.Grid.{Cuts, Box}
-use Rattle.rules.specs.Store.{Line, Cell, Store, pagesFor}
+use Rattle.rules.specs.Store.{Line, Cell, Store, pagesFor, missedOf}
 use Rattle.rules.specs.Carry.{isOn, waitingIn}
 use Rattle.rules.specs.WellFormed.{countIf, staleOf, chains, GoodCell, WellFormed}
-use Rattle.rules.proofs.Parts.{Edged, Tiling, staleR, missedOf, Rowed, Books, Paged, Bounded, Core, marks, onSet}
+use Rattle.rules.specs.Parts.{Edged, Tiling, staleR, Rowed, Books, Paged, Bounded, Core, marks, onSet}
 use Rattle.rules.proofs.TilingLaws.{apart}
 
 -- a radio with a line: its stale entries by the line's place; one without: none

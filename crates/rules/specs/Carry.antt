@@ -5,7 +5,7 @@ use mathlib.Core.Option.{Option, none, some}
 use Prim.Native.Nat.{ℕ, _*_}
 use lib.Dec.{eqb, leb, ltb}
 use lib.ListN.{length}
-use Rattle.terms.specs.Terms.{Place, fieldBytes}
+use Rattle.terms.specs.Terms.{Place, Fix, fieldBytes}
 use Rattle.lists.specs.Parts.{put}
 use Rattle.lists.specs.Rows.{Rows, find, alter, insert, passed}
 use Rattle.lists.specs.Sums.{sumBy, keep}
@@ -13,7 +13,7 @@ use Rattle.lists.specs.Tests.{one-if, isSome, orElse, best}
 use Rattle.lists.specs.Words.{le}
 use Rattle.rules.specs.Limits.{fullBox, fullMemory}
 use Rattle.rules.specs.Grid.{Rect, inside, Cuts, Box, boxOf, boxes}
-use Rattle.rules.specs.Store.{Report, Line, Cell, Store}
+use Rattle.rules.specs.Store.{Report, Line, Cell, Store, withWaiting, withMemo, withOn}
 use Rattle.rules.specs.Sweep.{stale, tick}
 use Rattle.rules.specs.Flush.{raised, inBox, flush, allowedFlush}
 use Rattle.rules.specs.Records.{Request, signOn, report, signOff, range, requestOf, refusal}
@@ -32,33 +32,21 @@ abbrev pub wasNew : Option Report → Bool
 wasNew none = false
 wasNew (some w) = w .new
 
-abbrev withWaiting : Rows Report → Rows Line → Rows (Unit {0}) → Store → Store
-withWaiting waiting memo on s = record {
-  cuts = s .cuts;
-  cells = s .cells;
-  free = s .free;
-  waiting = waiting;
-  memo = memo;
-  on = on;
-  tally = s .tally;
-}
-
 -- "Sign-on puts a report marked new among the waiting."
 unfoldable pub signedOn : ℕ → Place → Store → Store
-signedOn r p s = withWaiting (insert r (record { place = p; new = true }) (s .waiting)) (s .memo) (insert r tt (s .on)) s
+signedOn r p s = withWaiting (insert r (record { place = p; new = true }) (s .waiting)) (withOn (insert r tt (s .on)) s)
 
 -- "Report replaces a waiting report of that radio, keeping its mark new; otherwise it waits unmarked."
 unfoldable pub reported : ℕ → Place → Store → Store
-reported r p s = withWaiting (alter (λ w. some (record { place = p; new = wasNew w })) r (s .waiting)) (s .memo) (s .on) s
+reported r p s = withWaiting (alter (λ w. some (record { place = p; new = wasNew w })) r (s .waiting)) s
 
 -- "Sign-off discards a waiting report. If the discarded one was not marked new, or none waited, the memo's missed count for the radio grows by 1 (made as
 -- 1 if absent) and its place becomes none."
 unfoldable pub signedOff : ℕ → Store → Store
 signedOff r s =
     withWaiting (alter (λ _. none) r (s .waiting))
-    (cond (wasNew (find (s .waiting) r)) (s .memo) (alter (raised none) r (s .memo)))
-    (alter (λ _. none) r (s .on))
-    s
+    (withMemo (cond (wasNew (find (s .waiting) r)) (s .memo) (alter (raised none) r (s .memo)))
+    (withOn (alter (λ _. none) r (s .on)) s))
 
 -- ---- "After sign-on or report"
 
@@ -95,10 +83,10 @@ afterReport pick p s = flushIf pick (flushDue s p) s
 -- ---- range
 
 -- the entry of a radio in a cell that isn't stale
-unfoldable pub liveIn : Rows Line → ℕ → Cell → Option Place
+unfoldable pub liveIn : Rows Line → ℕ → Cell → Option Fix
 liveIn memo r c = passed (λ e. not (stale memo e)) r (find (c .entries) r)
 
-unfoldable pub storedIn : Rows Line → ℕ → List Cell → Option Place
+unfoldable pub storedIn : Rows Line → ℕ → List Cell → Option Fix
 storedIn memo r [] = none
 storedIn memo r (c ∷ cs) = orElse (liveIn memo r c) (storedIn memo r cs)
 
@@ -107,31 +95,31 @@ placeOf none = none
 placeOf (some w) = some (w .place)
 
 -- "latest place, a waiting report's before a stored one's"
-unfoldable pub latest : Store → ℕ → Option Place
+unfoldable pub latest : Store → ℕ → Option Fix
 latest s r = orElse (placeOf (find (s .waiting) r)) (storedIn (s .memo) r (s .cells))
 
 -- "All four edges count as inside."
-abbrev pub inRange : Rect → Option Place → Bool
+abbrev pub inRange : Rect → Option Fix → Bool
 inRange rect none = false
 inRange rect (some p) = inside rect p
 
-abbrev pub listIf : Rect → ℕ → Option Place → Rows Place → Rows Place
+abbrev pub listIf : Rect → ℕ → Option Fix → Rows Fix → Rows Fix
 listIf rect r none l = l
 listIf rect r (some p) l = keep (inside rect p) (record { key = r; val = p }) l
 
 -- "the radios on whose latest place .. lies in the rectangle, by rising number"
-unfoldable pub listOf : Rect → (ℕ → Option Place) → Rows (Unit {0}) → Rows Place
+unfoldable pub listOf : Rect → (ℕ → Option Fix) → Rows (Unit {0}) → Rows Fix
 listOf rect latestOf [] = []
 listOf rect latestOf (x ∷ xs) = listIf rect (x .key) (latestOf (x .key)) (listOf rect latestOf xs)
 
-unfoldable pub found : Store → Rect → Rows Place
+unfoldable pub found : Store → Rect → Rows Fix
 found s rect = listOf rect (latest s) (s .on)
 
 -- "6 × n bytes (radio, east, north)"
 abbrev pub listBytes : ℕ
 listBytes = 6
 
-unfoldable pub bytesOf : Rows Place → List ℕ
+unfoldable pub bytesOf : Rows Fix → List ℕ
 bytesOf [] = []
 bytesOf (x ∷ xs) = le fieldBytes (x .key) ++ (le fieldBytes (x .val .east) ++ (le fieldBytes (x .val .north) ++ bytesOf xs))
 
@@ -145,7 +133,7 @@ pub record Outcome : Type 0 where
   pub store : Store
 
 -- 11: "The answer buffer has fewer than 6 × n bytes for n radios found."; "An accepted range writes 6 × n bytes .. at the buffer's start and nothing else."
-unfoldable pub answered : Rows Place → Store → List ℕ → Outcome
+unfoldable pub answered : Rows Fix → Store → List ℕ → Outcome
 answered l s buffer =
     cond (ltb (length buffer) (listBytes * length l))
     (record { number = 11; count = length l; buffer = buffer; store = s })

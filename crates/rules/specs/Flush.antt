@@ -5,7 +5,7 @@ use mathlib.Core.Option.{Option, none, some}
 use Prim.Native.Nat.{ℕ, _+_, _-_, min, max}
 use lib.Dec.{eqb, leb, ltb}
 use lib.ListN.{length}
-use Rattle.terms.specs.Terms.{Place, pageEntries}
+use Rattle.terms.specs.Terms.{Place, Fix, pageEntries}
 use Rattle.lists.specs.Chains.{settledFree}
 use Rattle.lists.specs.Parts.{tab}
 use Rattle.lists.specs.Rows.{Row, Rows, find, alter, insert, merge}
@@ -13,8 +13,9 @@ use Rattle.lists.specs.Sort.{sortIn}
 use Rattle.lists.specs.Sums.{filter, count}
 use Rattle.lists.specs.Tests.{both, either, isSome, firstAt}
 use Rattle.rules.specs.Limits.{maxCells, joinEntries}
-use Rattle.rules.specs.Grid.{Span, sameSpan, Rect, spanOf, withSpan, Cuts, cutsOf, withCuts, Box, sameBox, boxOf, cornerOf}
-use Rattle.rules.specs.Store.{Report, Line, Cell, Store, cellAt, others, settled, freeAfter}
+use Rattle.rules.specs.Grid.{Span, sameSpan, Rect, spanOf, withSpan, Cuts, cutsOf, withCutsOf, Box, sameBox, boxOf, cornerOf}
+use Rattle.rules.specs.Store.{Report, Line, Cell, Store, withEdges, withEntries, withCuts, withCells, withFree, withWaiting, withMemo}
+use Rattle.rules.specs.Store.{cellAt, others, settled, freeAfter}
 use Rattle.rules.specs.Sweep.{sweptEntries, sweptMemo}
 use Rattle.rules.specs.Cut.{Cut, lowSide, chosenCut}
 
@@ -38,7 +39,7 @@ entered false false p = raised (some p)
 
 -- d's entries and the memo, as the reports come in
 pub record Work : Type 0 where
-  pub entries : Rows Place
+  pub entries : Rows Fix
   pub memo : Rows Line
 
 -- "if d has an entry of that radio, it and any memo line take the new place; else add the entry, and, if not marked new, add 1 to the missed count"
@@ -66,38 +67,20 @@ pub record Flushed : Type 0 where
 
 unfoldable pub flushedInto : Box → Store → Cell → Flushed
 flushedInto m s d =
-    let k : Work = enterEach (filter (inBox (s .cuts) m) (s .waiting)) (record { entries = sweptEntries (s .memo) (d .entries); memo = sweptMemo (s .memo) (d .entries) }) in
+    let k : Work =
+    enterEach (filter (inBox (s .cuts) m) (s .waiting))
+    (record { entries = sweptEntries (s .memo) (d .entries); memo = sweptMemo (s .memo) (d .entries) }) in
     record {
-      cell = record { number = d .number; edges = d .edges; chain = d .chain; entries = k .entries };
+      cell = withEntries (k .entries) d;
       rest = others (d .number) (s .cells);
-      store = record {
-        cuts = s .cuts;
-        cells = s .cells;
-        free = s .free;
-        waiting = filter (λ w. not (inBox (s .cuts) m w)) (s .waiting);
-        memo = k .memo;
-        on = s .on;
-        tally = s .tally;
-      };
+      store = withWaiting (filter (λ w. not (inBox (s .cuts) m w)) (s .waiting)) (withMemo (k .memo) s);
     }
-
--- the store with these cuts, cells, free chain and memo
-abbrev pub withCells : Cuts → List Cell → List ℕ → Rows Line → Store → Store
-withCells cuts cells free memo s = record {
-  cuts = cuts;
-  cells = cells;
-  free = free;
-  waiting = s .waiting;
-  memo = memo;
-  on = s .on;
-  tally = s .tally;
-}
 
 -- ---- "d goes to the end of the round", with the pages that it needs
 
 unfoldable pub grown : Flushed → Store
 grown f =
-    withCells (f .store .cuts) (f .rest ++ (settled (f .store .free) (f .cell) ∷ [])) (freeAfter (f .store .free) (f .cell)) (f .store .memo) (f .store)
+    withCells (f .rest ++ (settled (f .store .free) (f .cell) ∷ [])) (withFree (freeAfter (f .store .free) (f .cell)) (f .store))
 
 -- ---- split
 
@@ -113,19 +96,21 @@ orZero (some n) = n
 unfoldable pub unusedNumber : List Cell → ℕ
 unusedNumber cells = orZero (firstAt (λ n. eqb (count n (map (λ c. c .number) cells)) 0) (tab maxCells (λ n. n)))
 
+-- the edges of the low side of a cut, and of the other
+abbrev pub lowEdges : Cut → Rect → Rect
+lowEdges c r = withSpan (c .axis) (record { low = spanOf (c .axis) r .low; high = c .at - 1 }) r
+
+abbrev pub highEdges : Cut → Rect → Rect
+highEdges c r = withSpan (c .axis) (record { low = c .at; high = spanOf (c .axis) r .high }) r
+
 -- "The low side keeps d's number; the other takes the smallest unused number"
 unfoldable pub lowCell : Cut → Cell → Cell
-lowCell c d = record {
-  number = d .number;
-  edges = withSpan (c .axis) (record { low = spanOf (c .axis) (d .edges) .low; high = c .at - 1 }) (d .edges);
-  chain = d .chain;
-  entries = filter (lowSide c) (d .entries);
-}
+lowCell c d = withEdges (lowEdges c (d .edges)) (withEntries (filter (lowSide c) (d .entries)) d)
 
 unfoldable pub highCell : Cut → ℕ → Cell → Cell
 highCell c n d = record {
   number = n;
-  edges = withSpan (c .axis) (record { low = c .at; high = spanOf (c .axis) (d .edges) .high }) (d .edges);
+  edges = highEdges c (d .edges);
   chain = [];
   entries = filter (λ e. not (lowSide c e)) (d .entries);
 }
@@ -136,12 +121,8 @@ splitAt c f =
     let low : Cell = lowCell c (f .cell) in
     let high : Cell = highCell c (unusedNumber (f .store .cells)) (f .cell) in
     let free : List ℕ = freeAfter (f .store .free) low in
-    withCells
-    (withCuts (c .axis) (addCut (c .at) (cutsOf (c .axis) (f .store .cuts))) (f .store .cuts))
-    (f .rest ++ (settled (f .store .free) low ∷ settled free high ∷ []))
-    (freeAfter free high)
-    (f .store .memo)
-    (f .store)
+    withCuts (withCutsOf (c .axis) (addCut (c .at) (cutsOf (c .axis) (f .store .cuts))) (f .store .cuts))
+    (withCells (f .rest ++ (settled (f .store .free) low ∷ settled free high ∷ [])) (withFree (freeAfter free high) (f .store)))
 
 -- "If neither side gives one, d grows its chain."
 abbrev pub splitOr : Option Cut → Flushed → Store
@@ -199,12 +180,9 @@ joined f n =
 -- it "goes last in the round; pages of the other are freed." d is settled first.
 unfoldable pub joinedWith : Flushed → Cell → Store
 joinedWith f n =
-    withCells
-    (f .store .cuts)
-    (others (n .number) (f .rest) ++ (joined f n ∷ []))
-    (settledFree 0 (larger (settled (f .store .free) (f .cell)) n .chain) (freeAfter (f .store .free) (f .cell)))
-    (sweptMemo (f .store .memo) (n .entries))
-    (f .store)
+    withCells (others (n .number) (f .rest) ++ (joined f n ∷ []))
+    (withFree (settledFree 0 (larger (settled (f .store .free) (f .cell)) n .chain) (freeAfter (f .store .free) (f .cell)))
+    (withMemo (sweptMemo (f .store .memo) (n .entries)) (f .store)))
 
 -- "Any such neighbour may be taken": the one named
 abbrev pub joinOr : Option Cell → Flushed → Store

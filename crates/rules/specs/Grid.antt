@@ -70,9 +70,9 @@ abbrev pub cutsOf : Axis → Cuts → List ℕ
 cutsOf eastward c = c .easts
 cutsOf northward c = c .norths
 
-abbrev pub withCuts : Axis → List ℕ → Cuts → Cuts
-withCuts eastward l c = record { easts = l; norths = c .norths }
-withCuts northward l c = record { easts = c .easts; norths = l }
+abbrev pub withCutsOf : Axis → List ℕ → Cuts → Cuts
+withCutsOf eastward l c = record { easts = l; norths = c .norths }
+withCutsOf northward l c = record { easts = c .easts; norths = l }
 
 -- "a cut at c puts coordinates below c on the low side": the stripe of a coordinate, counted from 0
 unfoldable pub stripe : List ℕ → ℕ → ℕ

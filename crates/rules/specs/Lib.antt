@@ -3,6 +3,8 @@ pub mod Cut
 pub mod Flush
 pub mod Grid
 pub mod Limits
+pub mod Midway
+pub mod Parts
 pub mod Plain
 pub mod Records
 pub mod Store

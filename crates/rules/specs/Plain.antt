@@ -4,7 +4,7 @@ use mathlib.Core.List.{List}
 use mathlib.Core.Option.{Option, none, some}
 use Prim.Native.Nat.{ℕ, suc}
 use lib.Dec.{eqb}
-use Rattle.terms.specs.Terms.{Place, maxRadio}
+use Rattle.terms.specs.Terms.{Place, Fix, maxRadio}
 use Rattle.lists.specs.Parts.{tab}
 use Rattle.lists.specs.Rows.{Rows}
 use Rattle.lists.specs.Sums.{sumTo}
@@ -16,7 +16,7 @@ use Rattle.rules.specs.Carry.{boxToFlush, listOf}
 -- "It holds, for each radio, whether it is on, its latest place if so, whether it waits, and its last place flushed or none."
 pub record Plain : Type 0 where
   -- the latest place of a radio that is on
-  pub latest : ℕ → Option Place
+  pub latest : ℕ → Option Fix
   pub waits : ℕ → Bool
   pub flushed : ℕ → Option Place
 
@@ -82,5 +82,5 @@ unfoldable pub plainStep : Cuts → List ℕ → Plain → Plain
 plainStep cuts bytes x = cond (eqb (plainRefusal x bytes) 0) (plainDone cuts (requestOf bytes) x) x
 
 -- "A range lists the radios on whose latest place lies in it"
-unfoldable pub plainFound : Plain → Rect → Rows Place
+unfoldable pub plainFound : Plain → Rect → Rows Fix
 plainFound x rect = listOf rect (x .latest) (tab maxRadio (λ i. record { key = suc i; val = tt }))

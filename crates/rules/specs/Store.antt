@@ -5,7 +5,7 @@ use mathlib.Core.Option.{Option, none, some}
 use Prim.Native.Nat.{ℕ, suc, _+_, _-_, _/_, max}
 use lib.Dec.{eqb}
 use lib.ListN.{length}
-use Rattle.terms.specs.Terms.{Place, pages, pageEntries}
+use Rattle.terms.specs.Terms.{Place, Fix, pages, pageEntries}
 use Rattle.lists.specs.Chains.{settledChain, settledFree}
 use Rattle.lists.specs.Parts.{tab}
 use Rattle.lists.specs.Rows.{Rows}
@@ -22,12 +22,17 @@ pub record Line : Type 0 where
   pub missed : ℕ
   pub last : Option Place
 
+-- the missed count of a radio: 0 without a line
+abbrev pub missedOf : Option Line → ℕ
+missedOf none = 0
+missedOf (some l) = l .missed
+
 -- a cell of the directory with its pages, from the first on, and the entries on them, radio -> place
 pub record Cell : Type 0 where
   pub number : ℕ
   pub edges : Rect
   pub chain : List ℕ
-  pub entries : Rows Place
+  pub entries : Rows Fix
 
 -- "The desk has cuts, directory, the front of the free chain, waiting reports, memo, who is signed on, the round, and the tally c."
 pub record Store : Type 0 where
@@ -43,6 +48,40 @@ pub record Store : Type 0 where
   -- radios on
   pub on : Rows (Unit {0})
   pub tally : ℕ
+
+-- ---- a cell or a store with another part: what writes every field of them
+
+abbrev pub withEdges : Rect → Cell → Cell
+withEdges edges c = record { number = c .number; edges = edges; chain = c .chain; entries = c .entries }
+
+abbrev pub withChain : List ℕ → Cell → Cell
+withChain chain c = record { number = c .number; edges = c .edges; chain = chain; entries = c .entries }
+
+abbrev pub withEntries : Rows Fix → Cell → Cell
+withEntries entries c = record { number = c .number; edges = c .edges; chain = c .chain; entries = entries }
+
+abbrev pub withCuts : Cuts → Store → Store
+withCuts cuts s = record { cuts = cuts; cells = s .cells; free = s .free; waiting = s .waiting; memo = s .memo; on = s .on; tally = s .tally }
+
+abbrev pub withCells : List Cell → Store → Store
+withCells cells s = record { cuts = s .cuts; cells = cells; free = s .free; waiting = s .waiting; memo = s .memo; on = s .on; tally = s .tally }
+
+abbrev pub withFree : List ℕ → Store → Store
+withFree free s = record { cuts = s .cuts; cells = s .cells; free = free; waiting = s .waiting; memo = s .memo; on = s .on; tally = s .tally }
+
+abbrev pub withWaiting : Rows Report → Store → Store
+withWaiting waiting s = record { cuts = s .cuts; cells = s .cells; free = s .free; waiting = waiting; memo = s .memo; on = s .on; tally = s .tally }
+
+abbrev pub withMemo : Rows Line → Store → Store
+withMemo memo s = record { cuts = s .cuts; cells = s .cells; free = s .free; waiting = s .waiting; memo = memo; on = s .on; tally = s .tally }
+
+abbrev pub withOn : Rows (Unit {0}) → Store → Store
+withOn on s = record { cuts = s .cuts; cells = s .cells; free = s .free; waiting = s .waiting; memo = s .memo; on = on; tally = s .tally }
+
+abbrev pub withTally : ℕ → Store → Store
+withTally tally s = record { cuts = s .cuts; cells = s .cells; free = s .free; waiting = s .waiting; memo = s .memo; on = s .on; tally = tally }
+
+-- ---- a fresh store
 
 -- "A fresh store has no cut, one cell (0) on page 0, and pages 1 to 127 free in that order."
 unfoldable pub fresh : Store
@@ -75,12 +114,7 @@ pagesFor e = max 1 ((e + (pageEntries - 1)) / pageEntries)
 
 -- the cell with the pages that its entries need, and the free chain then
 unfoldable pub settled : List ℕ → Cell → Cell
-settled free c = record {
-  number = c .number;
-  edges = c .edges;
-  chain = settledChain (pagesFor (length (c .entries))) (c .chain) free;
-  entries = c .entries;
-}
+settled free c = withChain (settledChain (pagesFor (length (c .entries))) (c .chain) free) c
 
 unfoldable pub freeAfter : List ℕ → Cell → List ℕ
 freeAfter free c = settledFree (pagesFor (length (c .entries))) (c .chain) free

@@ -4,12 +4,12 @@ use mathlib.Core.List.{List, [], _∷_, _++_}
 use mathlib.Core.Option.{Option, none, some}
 use Prim.Native.Nat.{_-_, _+_}
 use lib.Dec.{ltb}
-use Rattle.terms.specs.Terms.{Place}
+use Rattle.terms.specs.Terms.{Place, Fix}
 use Rattle.lists.specs.Rows.{Row, Rows, find, alter}
 use Rattle.lists.specs.Sums.{filter}
 use Rattle.rules.specs.Limits.{sweepEvery}
 use Rattle.rules.specs.Grid.{samePlace}
-use Rattle.rules.specs.Store.{Line, Cell, Store, settled, freeAfter}
+use Rattle.rules.specs.Store.{Line, Cell, Store, withEntries, withCells, withFree, withMemo, withTally, settled, freeAfter}
 
 abbrev pub isAt : Option Place → Place → Bool
 isAt none p = false
@@ -21,7 +21,7 @@ staleBy none p = false
 staleBy (some l) p = not (isAt (l .last) p)
 
 -- an "entry whose radio has a memo line with another place or none"
-abbrev pub stale : Rows Line → Row Place → Bool
+abbrev pub stale : Rows Line → Row Fix → Bool
 stale memo e = staleBy (find memo (e .key)) (e .val)
 
 -- "lower the missed count by 1; drop the line at 0"
@@ -29,43 +29,29 @@ abbrev pub lowered : Option Line → Option Line
 lowered none = none
 lowered (some l) = cond (ltb 1 (l .missed)) (some (record { missed = l .missed - 1; last = l .last })) none
 
-unfoldable pub lowerEach : Rows Place → Rows Line → Rows Line
+unfoldable pub lowerEach : Rows Fix → Rows Line → Rows Line
 lowerEach [] memo = memo
 lowerEach (e ∷ es) memo = lowerEach es (alter lowered (e .key) memo)
 
 -- what stays, and the memo then
-unfoldable pub sweptEntries : Rows Line → Rows Place → Rows Place
+unfoldable pub sweptEntries : Rows Line → Rows Fix → Rows Fix
 sweptEntries memo es = filter (λ e. not (stale memo e)) es
 
-unfoldable pub sweptMemo : Rows Line → Rows Place → Rows Line
+unfoldable pub sweptMemo : Rows Line → Rows Fix → Rows Line
 sweptMemo memo es = lowerEach (filter (stale memo) es) memo
 
 unfoldable pub swept : Rows Line → Cell → Cell
-swept memo c = record { number = c .number; edges = c .edges; chain = c .chain; entries = sweptEntries memo (c .entries) }
+swept memo c = withEntries (sweptEntries memo (c .entries)) c
 
 -- "At 16, sweep the cell at the front of the round, move it to the end, set c to 0."
 unfoldable pub sweepFront : List Cell → Store → Store
 sweepFront [] s = s
-sweepFront (c ∷ cs) s = record {
-  cuts = s .cuts;
-  cells = cs ++ (settled (s .free) (swept (s .memo) c) ∷ []);
-  free = freeAfter (s .free) (swept (s .memo) c);
-  waiting = s .waiting;
-  memo = sweptMemo (s .memo) (c .entries);
-  on = s .on;
-  tally = 0;
-}
+sweepFront (c ∷ cs) s =
+    withCells (cs ++ (settled (s .free) (swept (s .memo) c) ∷ []))
+    (withFree (freeAfter (s .free) (swept (s .memo) c)) (withMemo (sweptMemo (s .memo) (c .entries)) (withTally 0 s)))
 
-abbrev counted : Store → Store
-counted s = record {
-  cuts = s .cuts;
-  cells = s .cells;
-  free = s .free;
-  waiting = s .waiting;
-  memo = s .memo;
-  on = s .on;
-  tally = s .tally + 1;
-}
+abbrev pub counted : Store → Store
+counted s = withTally (s .tally + 1) s
 
 -- "Each accepted sign-on, report or sign-off adds 1 to c."
 unfoldable pub tick : Store → Store

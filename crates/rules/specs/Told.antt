@@ -4,7 +4,7 @@ use mathlib.Core.List.{List}
 use Prim.Native.Nat.{ℕ, _*_}
 use lib.Dec.{eqb, ltb}
 use lib.ListN.{length}
-use Rattle.terms.specs.Terms.{Place}
+use Rattle.terms.specs.Terms.{Fix}
 use Rattle.lists.specs.Parts.{put}
 use Rattle.lists.specs.Rows.{Rows}
 use Rattle.rules.specs.Records.{Request, signOn, report, signOff, range, requestOf}
@@ -17,7 +17,7 @@ pub record Told : Type 0 where
   pub buffer : List ℕ
 
 -- "number 11 only where the bytes do not fit"
-unfoldable pub toldList : Rows Place → List ℕ → Told
+unfoldable pub toldList : Rows Fix → List ℕ → Told
 toldList l buffer =
     cond (ltb (length buffer) (listBytes * length l))
     (record { number = 11; count = length l; buffer = buffer })

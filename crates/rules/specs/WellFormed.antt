@@ -49,6 +49,10 @@ staleIn memo c = sumBy (λ e. one-if (stale memo e)) (c .entries)
 unfoldable pub chains : Store → List ℕ
 chains s = concat (map (λ c. c .chain) (s .cells)) ++ s .free
 
+-- "Each page is in one chain"
+abbrev pub PagesOnce : Store → Type 0
+PagesOnce s = (p : ℕ) → count p (chains s) ≡ one-if (ltb p pages)
+
 abbrev pub InSquare : Place → Type 0
 InSquare p = (p .east ≤ lastMetre) × (p .north ≤ lastMetre)
 
@@ -92,7 +96,7 @@ pub record WellFormed (s : Store) : Type 0 where
   pub tiled : (p : Place) → InSquare p → sumBy (λ c. one-if (inside (c .edges) p)) (s .cells) ≡ 1
   pub cells : Each (GoodCell (s .cuts)) (s .cells)
   -- "Each page is in one chain"
-  pub once : (p : ℕ) → count p (chains s) ≡ one-if (ltb p pages)
+  pub once : PagesOnce s
   -- "Each radio on has one entry that isn't stale or a waiting report marked new, and not both. A radio off has neither."
   pub present : (r : ℕ) → liveOf (s .memo) r (s .cells) + one-if (wasNew (find (s .waiting) r)) ≡ one-if (isOn s r)
   -- "An unmarked waiting report belongs to a radio on."

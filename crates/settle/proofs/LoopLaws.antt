@@ -11,7 +11,7 @@ use lib.Dec.{leb}
 use lib.ListN.{length, getD, take, drop, set, length-set, length-take, length-drop, drop-of-length-le}
 use lib.Seq.{drop-cons, getD-take, take-take, take-suc-set, take-append-le, length-take-le, take-all, drop-drop}
 use borrow.Author.Tests.{leb-true, leb-false, eq-eqb, ne-eqb}
-use Rattle.terms.specs.Terms.{Place, maxOn, pages, pageEntries, noPage}
+use Rattle.terms.specs.Terms.{Fix, maxOn, pages, pageEntries, noPage}
 use Rattle.lists.specs.Chains.{firstOf, Linked, settledChain}
 use Rattle.lists.specs.Parts.{part}
 use Rattle.lists.specs.Rows.{Rows}
@@ -22,8 +22,7 @@ use Rattle.entries.specs.Entries.{rowsOf}
 use Rattle.entries.specs.declared.Entries.{Entries}
 use Rattle.entries.proofs.TableLaws.{length-rows}
 use Rattle.page.specs.Page.{kindFirst, kindFurther, pageOf, freePageOf, next}
-use Rattle.page.specs.Buffer.{pageAt, putPage, there, chainFrom, endFrom}
-use Rattle.page.specs.declared.ChainEnd.the-variants.{Ended}
+use Rattle.page.specs.Buffer.{pageAt, putPage, there, chainFrom, atNone, endFrom}
 use Rattle.page.proofs.ChainLaws.{following, ended-chained}
 use Rattle.rules.specs.Store.{pagesFor}
 use Rattle.desk.specs.Layout.{leaves}
@@ -124,7 +123,7 @@ writing-start b ps n cell es s t h m w =
     record { size = l; below = w; rows = length-rows es (omega arith); need = m; high = omega arith; bytes = rw e; first = rw e }
 
 -- the rows of one page
-part-page : (rows : Rows Place) (e from : ℕ) → length rows ≡ e → part rows from (min pageEntries (e - from)) ≡ take pageEntries (drop from rows)
+part-page : (rows : Rows Fix) (e from : ℕ) → length rows ≡ e → part rows from (min pageEntries (e - from)) ≡ take pageEntries (drop from rows)
 unfolding part
 part-page rows e from l =
     by-cases (leb pageEntries (e - from))
@@ -182,7 +181,7 @@ pub record Growing (b ps₀ f : List ℕ) (n₀ need : ℕ) (ps : List ℕ) (fro
   pub list : take n ps ++ drop (n - n₀) f ≡ take n₀ ps₀ ++ f
   pub first : front ≡ firstOf noPage (drop (n - n₀) f)
 
-pub growing-start : (b ps : List ℕ) (free n need : ℕ) → length ps ≡ pages → n ≤ pages → need ≤ pages → endFrom pages b free ≡ Ended → need ≤ length (take n ps) + length (chainFrom pages b free)
+pub growing-start : (b ps : List ℕ) (free n need : ℕ) → length ps ≡ pages → n ≤ pages → need ≤ pages → endFrom pages b free ≡ atNone → need ≤ length (take n ps) + length (chainFrom pages b free)
     → Growing b ps (chainFrom pages b free) n need ps free n
 growing-start b ps free n need s h k e m =
     let c = ended-chained b pages free e in

@@ -16,8 +16,7 @@ use Rattle.entries.specs.Entries.{rowsOf}
 use Rattle.entries.specs.declared.Entries.{Entries}
 use Rattle.entries.proofs.TableLaws.{length-rows}
 use Rattle.page.specs.Page.{kindFirst}
-use Rattle.page.specs.Buffer.{putPage, chainFrom, endFrom}
-use Rattle.page.specs.declared.ChainEnd.the-variants.{Ended}
+use Rattle.page.specs.Buffer.{putPage, chainFrom, atNone, endFrom}
 use Rattle.page.proofs.ChainLaws.{ended-chained, there-bounds}
 use Rattle.rules.specs.Store.{pagesFor}
 use Rattle.desk.specs.Layout.{Leaf, leaves}
@@ -64,7 +63,7 @@ pub settle-few : (es : Entries) {need : ℕ} (k : ℕ) → length (es .all) ≡ 
 unfolding pagesFor
 settle-few es k a h e m = (omega arith, omega (arith, length-rows es (omega arith)))
 
-pub settled-below : (b ch : List ℕ) (free need : ℕ) {ps : List ℕ} → Below ch → endFrom pages b free ≡ Ended → ps ≡ settledChain need ch (chainFrom pages b free) → Below ps
+pub settled-below : (b ch : List ℕ) (free need : ℕ) {ps : List ℕ} → Below ch → endFrom pages b free ≡ atNone → ps ≡ settledChain need ch (chainFrom pages b free) → Below ps
 unfolding settledChain
 settled-below b ch free need w e q =
     let c = ended-chained b pages free e in

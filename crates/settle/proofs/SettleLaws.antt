@@ -8,7 +8,7 @@ use lib.Dec.{eqb, ltb}
 use lib.ListN.{length, drop}
 use lib.Seq.{take-at, drop-at}
 use borrow.Author.Tests.{ltb-true, eq-eqb}
-use Rattle.terms.specs.Terms.{Place, pages, noPage, noCell}
+use Rattle.terms.specs.Terms.{Fix, pages, noPage, noCell}
 use Rattle.lists.specs.Chains.{firstOf, Linked, settledChain, settledFree}
 use Rattle.lists.specs.Rows.{Rows}
 use Rattle.lists.specs.Sums.{sumBy, count, concat}
@@ -17,16 +17,15 @@ use Rattle.lists.proofs.Cases.{by-cases}
 use Rattle.lists.proofs.SumsLaws.{sum-append, sum-concat, sum-take-drop, sum-map, sum-middle, counted-below}
 use Rattle.lists.proofs.TestsLaws.{each-append, each-split, each-middle, each-concat-map, concat-map-each}
 use Rattle.page.specs.Page.{kindFree, kindFirst, freePageOf, next}
-use Rattle.page.specs.Buffer.{bufferBytes, pageAt, putPage, chainFrom, endFrom}
-use Rattle.page.specs.declared.ChainEnd.the-variants.{Ended}
+use Rattle.page.specs.Buffer.{bufferBytes, pageAt, putPage, chainFrom, atNone, endFrom}
 use Rattle.page.proofs.BufferLaws.{length-putPage, pageAt-same, pageAt-other}
 use Rattle.page.proofs.ChainLaws.{following}
 use Rattle.page.proofs.PageLaws.{length-pageOf, page-fields}
 use Rattle.rules.specs.Store.{Cell, Store, pagesFor, settled, freeAfter}
-use Rattle.rules.specs.WellFormed.{chains}
+use Rattle.rules.specs.WellFormed.{chains, PagesOnce}
 use Rattle.rules.proofs.PagedLaws.{sum-chain-settled}
 use Rattle.desk.specs.Layout.{Leaf, leaves, cellLeaves, cellsLeaves, freeLeaves, storeLeaves, At, Laid}
-use Rattle.desk.proofs.PagesLaws.{keys, Whole, keys-leaves, keys-cellsLeaves, keys-freeLeaves, whole-leaves, PagesOnce}
+use Rattle.desk.proofs.PagesLaws.{keys, Whole, keys-leaves, keys-cellsLeaves, keys-freeLeaves, whole-leaves}
 use Rattle.desk.proofs.ReadLaws.{ChainRead, chain-read}
 use Rattle.settle.specs.Settle.{written, givenLeaves, settledLeaves, settledEnds}
 use Rattle.settle.specs.declared.Settled.{Settled}
@@ -306,14 +305,14 @@ module _ {b : List ℕ} {rest : List Cell} {chain free : List ℕ} (a : Apart b 
 
 -- ---- in the words of the contracts
 
-module _ {b : List ℕ} {rest : List Cell} {free : List ℕ} (c : Cell) (a : Apart b rest (c .chain) free) {chain : List ℕ} {f : ℕ} {rows : Rows Place}
+module _ {b : List ℕ} {rest : List Cell} {free : List ℕ} (c : Cell) (a : Apart b rest (c .chain) free) {chain : List ℕ} {f : ℕ} {rows : Rows Fix}
     (is-chain : chain ≡ c .chain) (is-free : f ≡ firstOf noPage free) (are-rows : rows ≡ c .entries) where
   free-chain : chainFrom pages b f ≡ free
   free-chain = ap (chainFrom pages b) is-free ∙ apart-free a .chain
 
   -- what `settle` asks
   pub settle-asks : pagesFor (length (c .entries)) ≤ length (c .chain) + length free
-      → Below chain × (endFrom pages b f ≡ Ended) × (pagesFor (length rows) ≤ length chain + length (chainFrom pages b f))
+      → Below chain × (endFrom pages b f ≡ atNone) × (pagesFor (length rows) ≤ length chain + length (chainFrom pages b f))
   settle-asks h = (rw is-chain (apart-below a), ap (endFrom pages b) is-free ∙ apart-free a .ended, rw (are-rows, is-chain, free-chain) h)
 
   -- what it says

@@ -8,13 +8,12 @@ ghost use Rattle.lists.specs.Chains.{firstOf, settledChain};
 ghost use Rattle.lists.specs.Tests.{Each};
 ghost use Rattle.entries.specs.Entries.{rowsOf};
 ghost use Rattle.page.specs.Page.{kindFirst};
-ghost use Rattle.page.specs.Buffer.{bufferBytes, pagesOf, chainFrom, endFrom};
+ghost use Rattle.page.specs.Buffer.{bufferBytes, pagesOf, chainFrom, atNone, endFrom};
 ghost use Rattle.rules.specs.Store.{pagesFor};
 ghost use Rattle.desk.specs.Layout.{leaves};
 ghost use Rattle.settle.specs.Settle.{written, givenLeaves, settledLeaves, settledEnds, kindAt};
 use entries::Entries;
 use page::Chain;
-use page::ChainEnd;
 use page::KIND_FIRST;
 use page::KIND_FURTHER;
 use page::next_page;
@@ -22,6 +21,7 @@ use page_write::free_page;
 use page_write::write_page;
 use terms::NO_PAGE;
 use terms::PAGE_ENTRIES;
+use terms::PAGES;
 
 // Where a settled chain begins, and the free chain then.
 pub struct Settled {
@@ -31,7 +31,7 @@ pub struct Settled {
 
 // A chain's pages with those that it took, and the front of what it left of the free chain.
 struct Grown {
-    pages: [u16; 128],
+    pages: [u16; PAGES],
     free: u16,
 }
 
@@ -48,7 +48,8 @@ fn pages_for(n: usize) -> usize
 
 // The chain with as many pages from the front of the free chain as it needs more.
 fn grow(buffer: &[u8], chain: Chain, free: u16, need: usize) -> Grown
-    requires { ⌜ (chain .n ≤ pages) × (need ≤ pages) × (endFrom pages (now buffer) free ≡ ChainEnd.Ended) × (need ≤ length (pagesOf chain) + length (chainFrom pages (now buffer) free)) ⌝ }
+    requires { ⌜ (chain .n ≤ pages) × (need ≤ pages) × (endFrom pages (now buffer) free ≡ atNone)
+        × (need ≤ length (pagesOf chain) + length (chainFrom pages (now buffer) free)) ⌝ }
     ensures { λ r. ⌜ (take need (r .pages) ≡ settledChain need (pagesOf chain) (chainFrom pages (now (buffer .entry)) free))
         × (r .free ≡ firstOf noPage (drop (need - length (pagesOf chain)) (chainFrom pages (now (buffer .entry)) free))) ⌝ }
 {
@@ -66,7 +67,8 @@ fn grow(buffer: &[u8], chain: Chain, free: u16, need: usize) -> Grown
 // The pages from number `need` on go to the front of the free chain, the last first; answers the front then.
 pub fn give_up(buffer: &mut [u8], chain: Chain, free: u16, need: usize) -> u16
     requires { ⌜ (length (now buffer) ≡ bufferBytes) × (chain .n ≤ pages) × Each (λ p. p < pages) (pagesOf chain) ⌝ }
-    ensures { λ r. ⌜ (now (buffer .exit) ≡ written (now (buffer .entry)) (givenLeaves free (drop need (pagesOf chain)))) × (r ≡ firstOf free (drop need (pagesOf chain))) ⌝ }
+    ensures { λ r. ⌜ (now (buffer .exit) ≡ written (now (buffer .entry)) (givenLeaves free (drop need (pagesOf chain))))
+        × (r ≡ firstOf free (drop need (pagesOf chain))) ⌝ }
 {
     let pages = chain.pages;
     let mut front = free;
@@ -101,7 +103,7 @@ fn entries_from(n: usize, from: usize) -> usize
 }
 
 // The entries on the first `need` pages of `onto`, from the last to the first, so that each is led on to.
-fn write_chain(buffer: &mut [u8], onto: [u16; 128], need: usize, cell: u16, es: Entries)
+fn write_chain(buffer: &mut [u8], onto: [u16; PAGES], need: usize, cell: u16, es: Entries)
     requires { ⌜ (length (now buffer) ≡ bufferBytes) × Each (λ p. p < pages) (take need onto) × (es .n ≤ maxOn) × (need ≡ pagesFor (es .n)) ⌝ }
     ensures { λ _. ⌜ now (buffer .exit) ≡ written (now (buffer .entry)) (leaves kindFirst cell (take need onto) (rowsOf es)) ⌝ }
 {
@@ -132,9 +134,10 @@ pub fn settle(buffer: &mut [u8], chain: Chain, free: u16, cell: u16, es: Entries
         × (es .n ≤ maxOn)
         × (chain .n ≤ pages)
         × Each (λ p. p < pages) (pagesOf chain)
-        × (endFrom pages (now buffer) free ≡ ChainEnd.Ended)
+        × (endFrom pages (now buffer) free ≡ atNone)
         × (pagesFor (length (rowsOf es)) ≤ length (pagesOf chain) + length (chainFrom pages (now buffer) free)) ⌝ }
-    ensures { λ r. ⌜ (now (buffer .exit) ≡ written (now (buffer .entry)) (settledLeaves cell (pagesOf chain) (chainFrom pages (now (buffer .entry)) free) (rowsOf es)))
+    ensures { λ r. ⌜ (now (buffer .exit)
+        ≡ written (now (buffer .entry)) (settledLeaves cell (pagesOf chain) (chainFrom pages (now (buffer .entry)) free) (rowsOf es)))
         × (r ≡ settledEnds (pagesOf chain) (chainFrom pages (now (buffer .entry)) free) (rowsOf es)) ⌝ }
 {
     let need = pages_for(es.n);

@@ -70,11 +70,11 @@ fn print_desk(desk: Desk, pages: &[u8])
     let grid = desk.grid;
     print_grid(grid, pages);
     let waiting = desk.waiting;
-    print_waiting(waiting, within(waiting.n, 128));
+    print_waiting(waiting, within(waiting.n as usize, 128));
     let memo = desk.memo;
-    print_memo(memo, within(memo.n, 1151));
+    print_memo(memo, within(memo.n as usize, 1151));
     let on = desk.on;
-    print_on(on, within(on.n, 512));
+    print_on(on, within(on.n as usize, 512));
     print_field(b"tally ", desk.tally);
     print(b"\n");
 }
@@ -83,11 +83,11 @@ fn print_grid(grid: Grid, pages: &[u8])
     requires { ⌜ length (now pages) ≡ bufferBytes ⌝ }
 {
     let easts = grid.easts;
-    print_cuts(b"east cuts", easts, within(easts.n, 15));
+    print_cuts(b"east cuts", easts, within(easts.n as usize, 15));
     let norths = grid.norths;
-    print_cuts(b"north cuts", norths, within(norths.n, 15));
+    print_cuts(b"north cuts", norths, within(norths.n as usize, 15));
     let cells = grid.cells;
-    print_cells(cells, within(cells.n, 64), pages);
+    print_cells(cells, within(cells.n as usize, 64), pages);
     print_free(grid.free, page_chain::read_chain(pages, grid.free));
 }
 

@@ -1,5 +1,5 @@
-// Carries records from a fresh store on, one by one, and prints desk and pages before and after those whose flush splits a cell, joins two and lets a chain grow, and the one
-// whose tally sweeps.
+// Carries records from a fresh store on, one by one, and prints desk and pages before and after those whose flush splits a cell, joins two and lets a chain
+// grow, and the one whose tally sweeps.
 ghost use mathlib.Core.Path.{_≡_};
 ghost use Prim.Native.Nat.{_≤_};
 ghost use lib.ListN.{length};
@@ -28,8 +28,8 @@ fn show_apart(pages: &mut [u8])
     show_later(split, pages);
 }
 
-// Eight of the low cell sign off, and the tally sweeps their entries. Then three of the high cell sign off and two of the low cell come over, so that the two cells have 24
-// entries together, two of them stale, and are joined.
+// Eight of the low cell sign off, and the tally sweeps their entries. Then three of the high cell sign off and two of the low cell come over, so that the two
+// cells have 24 entries together, two of them stale, and are joined.
 fn show_later(desk: Desk, pages: &mut [u8])
     requires { ⌜ length (now pages) ≡ bufferBytes ⌝ }
     ensures { λ _. ⌜ length (now (pages .exit)) ≡ bufferBytes ⌝ }

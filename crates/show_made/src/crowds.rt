@@ -15,7 +15,7 @@ use terms::PAGES;
 const BOX: usize = 4096;
 
 fn all_cuts() -> CutList {
-    let mut at = [0u16; 15];
+    let mut at = [0u16; Desk::MAX_CUTS];
     let mut i: usize = 0;
     while i < 15 {
         at[i] = (BOX * (i + 1)) as u16;
@@ -46,26 +46,29 @@ fn report(i: usize, apart: bool) -> Report
 pub fn crowd(n: usize, apart: bool) -> Waiting
     requires { ⌜ n ≤ 128 ⌝ }
 {
-    let mut rows = [small::report(0, 0, 0, 0); 128];
+    let mut rows = [small::report(0, 0, 0, 0); Desk::WAITING_SLOTS];
     let mut i: usize = 0;
     while i < n {
         rows[i] = report(i, apart);
         i += 1;
     }
-    Waiting { n, rows }
+    Waiting { n: n as u16, rows }
 }
 
 // The radios from 1 to n.
 pub fn first_on(n: usize) -> On
     requires { ⌜ n ≤ 128 ⌝ }
 {
-    let mut radios = [0u16; 512];
+    let mut radios = [0u16; Desk::MAX_ON];
     let mut i: usize = 0;
     while i < n {
         radios[i] = (i + 1) as u16;
         i += 1;
     }
-    On { n, radios }
+    On {
+        n: n as u16,
+        radios,
+    }
 }
 
 // A fresh desk with every cut.

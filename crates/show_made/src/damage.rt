@@ -41,11 +41,11 @@ pub fn try_desk(name: &[u8], desk: Desk, buffer: &[u8]) {
 }
 
 // With these east cuts.
-pub fn try_easts(name: &[u8], desk: Desk, buffer: &[u8], n: usize, a: u16, b: u16) {
+pub fn try_easts(name: &[u8], desk: Desk, buffer: &[u8], n: u16, a: u16, b: u16) {
     try_desk(name, small::with_easts(desk, small::cuts(n, a, b)), buffer);
 }
 
-pub fn try_norths(name: &[u8], desk: Desk, buffer: &[u8], n: usize, a: u16) {
+pub fn try_norths(name: &[u8], desk: Desk, buffer: &[u8], n: u16, a: u16) {
     try_desk(name, small::with_norths(desk, small::cuts(n, a, 0)), buffer);
 }
 

@@ -1,5 +1,6 @@
-// The store that is damaged: one east cut, a low cell (0) and a high cell (1). The low cell's 34 entries are on pages 3 and 5, the high cell's three on page 0. Radio 10
-// moved from the high to the low cell and radio 7 signed off, so that each has a stale entry in the high cell and a memo line. Radios 20 and 400 wait, 400 since its sign-on.
+// The store that is damaged: one east cut, a low cell (0) and a high cell (1). The low cell's 34 entries are on pages 3 and 5, the high cell's three on page 0.
+// Radio 10 moved from the high to the low cell and radio 7 signed off, so that each has a stale entry in the high cell and a memo line. Radios 20 and 400 wait,
+// 400 since its sign-on.
 ghost use mathlib.Core.Path.{_≡_};
 ghost use Prim.Native.Nat.{_<_, _≤_};
 ghost use lib.ListN.{length};
@@ -38,8 +39,8 @@ pub const LOW_ENTRIES: usize = 34;
 
 // ---- the desk
 
-pub fn cuts(n: usize, a: u16, b: u16) -> CutList {
-    let mut at = [0u16; 15];
+pub fn cuts(n: u16, a: u16, b: u16) -> CutList {
+    let mut at = [0u16; Desk::MAX_CUTS];
     at[0] = a;
     at[1] = b;
     CutList { n, at }
@@ -69,7 +70,7 @@ pub fn no_slot() -> Slot {
 }
 
 pub fn two_cells(a: Slot, b: Slot) -> Directory {
-    let mut slots = [no_slot(); 64];
+    let mut slots = [no_slot(); Desk::MAX_CELLS];
     slots[0] = a;
     slots[1] = b;
     Directory { n: 2, slots }
@@ -94,7 +95,7 @@ pub fn report(radio: u16, east: u16, north: u16, new: u16) -> Report {
 
 // The reports of radios 20 and 400, so marked.
 pub fn two_reports(mark_20: u16, mark_400: u16) -> Waiting {
-    let mut rows = [report(0, 0, 0, 0); 128];
+    let mut rows = [report(0, 0, 0, 0); Desk::WAITING_SLOTS];
     rows[0] = report(20, 50, 60, mark_20);
     rows[1] = report(400, 40000, 500, mark_400);
     Waiting { n: 2, rows }
@@ -111,7 +112,7 @@ pub fn line(radio: u16, missed: u16, placed: u16, east: u16, north: u16) -> Line
 }
 
 // A memo with so many lines, all of them zero yet.
-pub fn blank_memo(n: usize) -> Memo {
+pub fn blank_memo(n: u16) -> Memo {
     Memo {
         n,
         words: [0; Desk::MEMO_WORDS],
@@ -143,7 +144,7 @@ pub fn line_10() -> Line {
 pub fn radios_on(entries: usize) -> On
     requires { ⌜ entries ≤ 34 ⌝ }
 {
-    let mut radios = [0u16; 512];
+    let mut radios = [0u16; Desk::MAX_ON];
     radios[0] = 5;
     let mut i: usize = 0;
     while i < entries {
@@ -152,7 +153,7 @@ pub fn radios_on(entries: usize) -> On
     }
     radios[entries + 1] = 400;
     On {
-        n: entries + 2,
+        n: (entries + 2) as u16,
         radios,
     }
 }

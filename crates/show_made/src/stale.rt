@@ -1,4 +1,5 @@
-// Many stale entries: "for every k below the number of cells the stale entries in cells at place k and later, plus all waiting, are at most 16 × (63 − k) + c + 127."
+// Many stale entries: "for every k below the number of cells the stale entries in cells at place k and later, plus all waiting, are at most 16 × (63 − k) + c +
+// 127."
 ghost use mathlib.Core.Path.{_≡_};
 ghost use Prim.Native.Nat.{_<_, _≤_};
 ghost use lib.ListN.{length};
@@ -29,7 +30,7 @@ fn stale_line(i: usize) -> Line
 fn stale_memo(n: usize) -> Memo
     requires { ⌜ n ≤ 1151 ⌝ }
 {
-    let mut memo = small::blank_memo(n);
+    let mut memo = small::blank_memo(n as u16);
     let mut i: usize = 0;
     while i < n {
         memo = small::with_line(memo, i, stale_line(i));

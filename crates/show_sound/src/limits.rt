@@ -4,11 +4,11 @@ ghost use Prim.Native.Nat.{_<_, _≤_};
 ghost use lib.ListN.{length};
 ghost use Rattle.page.specs.Buffer.{bufferBytes};
 use desk::Desk;
+use page::BUFFER_BYTES;
 use show_made::crowds;
 use show_made::damage::try_desk;
 use show_made::small;
 use show_made::stale;
-use page::BUFFER_BYTES;
 
 // ---- "at most 127, fewer than 8 a memory cell"
 

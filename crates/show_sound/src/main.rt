@@ -1,11 +1,12 @@
-// Builds a sound store by hand, breaks its desk in one clause of "A sound store" at a time, and prints what the test of number 2 says of each. `show_sound_pages` breaks its pages.
+// Builds a sound store by hand, breaks its desk in one clause of "A sound store" at a time, and prints what the test of number 2 says of each.
+// `show_sound_pages` breaks its pages.
 mod desk_clauses;
 mod limits;
 mod radio_clauses;
 
+use page::BUFFER_BYTES;
 use show_made::damage;
 use show_made::small;
-use page::BUFFER_BYTES;
 
 fn main() {
     let mut buffer = [0u8; BUFFER_BYTES];

@@ -5,9 +5,9 @@ ghost use lib.ListN.{length};
 ghost use Rattle.terms.specs.Terms.{pages};
 ghost use Rattle.page.specs.Buffer.{bufferBytes};
 use desk::Desk;
+use page::PAGE_BYTES;
 use show_made::damage::say_count;
 use show_made::small;
-use page::PAGE_BYTES;
 
 fn flip(buffer: &mut [u8], at: usize, bit: u8)
     requires { ⌜ at < length (now buffer) ⌝ }
@@ -63,8 +63,8 @@ fn flips_of(desk: Desk, buffer: &mut [u8], p: usize) -> usize
     taken
 }
 
-// None is: the used bytes follow from the entries, for every entry has a radio and the bytes past them are zero; kind and cell follow from the chain; and with another
-// next page some page is in no chain or in two.
+// None is: the used bytes follow from the entries, for every entry has a radio and the bytes past them are zero; kind and cell follow from the chain; and with
+// another next page some page is in no chain or in two.
 pub fn show_flips(desk: Desk, buffer: &mut [u8])
     requires { ⌜ length (now buffer) ≡ bufferBytes ⌝ }
 {

@@ -2,9 +2,9 @@
 mod flips;
 mod page_clauses;
 
+use page::BUFFER_BYTES;
 use show_made::damage;
 use show_made::small;
-use page::BUFFER_BYTES;
 
 fn main() {
     let mut buffer = [0u8; BUFFER_BYTES];

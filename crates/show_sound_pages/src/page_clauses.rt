@@ -4,6 +4,8 @@ ghost use Prim.Native.Nat.{_≤_};
 ghost use lib.ListN.{length};
 ghost use Rattle.page.specs.Buffer.{bufferBytes};
 use desk::Desk;
+use page::BUFFER_BYTES;
+use page::PAGE_BYTES;
 use show_made::damage::CELL_AT;
 use show_made::damage::EAST_AT;
 use show_made::damage::KIND_AT;
@@ -24,8 +26,6 @@ use show_made::small::HIGH_FIRST;
 use show_made::small::LAST;
 use show_made::small::LOW_FIRST;
 use show_made::small::LOW_FURTHER;
-use page::BUFFER_BYTES;
-use page::PAGE_BYTES;
 use terms::NO_PAGE;
 use terms::PAGE_ENTRIES;
 

@@ -13,7 +13,7 @@ use Rattle.desk.specs.Sound.{Sound}
 use Rattle.sound_desk.specs.Sound.{deskSound, shown, Shaped}
 use Rattle.sound_pages.specs.PagesSound.{PagesSound}
 use Rattle.sound_pages.proofs.StoreLaws.{desk-pages}
-use Rattle.terms.specs.Terms.{Place}
+use Rattle.terms.specs.Terms.{Fix}
 use Rattle.sound_entries.specs.Entries.{rowsRead}
 use Rattle.sound_radios.specs.Entries.{entriesTest}
 use Rattle.sound_radios.proofs.ReadLaws.{rows-read}
@@ -45,7 +45,7 @@ module _ (d : Desk) (b : List ℕ) where
           → (r ≡ true → Sound d b) × (Sound d b → r ≡ true)
       radios-say {a} shape e f q =
           let desk = sym e ∙ not-false a f in
-          let rows = q ∙ ap (λ (l : List (Rows Place)). entriesTest (shown d .memo) (shown d .waiting) (shown d .on) (d .tally) l) (rows-read pages-passed) in
+          let rows = q ∙ ap (λ (l : List (Rows Fix)). entriesTest (shown d .memo) (shown d .waiting) (shown d .on) (d .tally) l) (rows-read pages-passed) in
           (λ t. radios-sound d b shape desk pages-passed (sym rows ∙ t), λ y. rows ∙ sound-radios d b shape desk pages-passed y)
 
 -- what is told of a desk's parts is told of the desk

@@ -10,18 +10,17 @@ use Rattle.lists.specs.Tests.{Each, all}
 use Rattle.lists.proofs.TestsLaws.{both-left, both-right, both-intro, each-map, each-all}
 use Rattle.rules.specs.Limits.{maxCells}
 use Rattle.rules.specs.Store.{Cell, Store}
-use Rattle.rules.specs.WellFormed.{chains}
+use Rattle.rules.specs.WellFormed.{chains, PagesOnce}
 use Rattle.desk.specs.declared.Desk.{Desk}
 use Rattle.desk.specs.Layout.{slotted, cutListOf, slotOf, noSlot, directoryOf, gridOf, waitingOf, memoOf, onOf, deskOf}
 use Rattle.desk.specs.Sound.{Sound}
-use Rattle.desk.proofs.PagesLaws.{PagesOnce}
 use Rattle.desk.proofs.ReadLaws.{Paged}
 use Rattle.desk.proofs.UniqueLaws.{take-slots, same-store}
 use Rattle.sound_clauses.specs.Cells.{rowsOf, chainTest, radiosTest, insideTest}
 use Rattle.sound_clauses.proofs.LoopsLaws.{each-to-map}
 use Rattle.sound_clauses.proofs.CellsLaws.{true-pages, true-chain, true-radios, true-inside}
 use Rattle.sound_clauses.proofs.WellLaws.{Passes, passes-well, well-passes}
-use Rattle.sweep.proofs.CellLaws.{well-memo}
+use Rattle.memo.proofs.MemoLaws.{well-memo}
 use Rattle.sound_desk.specs.Sound.{deskSound, shown, DeskTests, Shaped}
 use Rattle.sound_desk.proofs.DeskLaws.{desk-shown, desk-store, tested-desk, well-tests}
 use Rattle.sound_pages.specs.PagesSound.{CellSound, PagesSound}

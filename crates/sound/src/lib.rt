@@ -9,11 +9,12 @@ ghost use Rattle.desk.specs.Sound.{Sound};
 use desk::Desk;
 use desk::Parts;
 
-// Whether desk and pages, in any condition, are those of a sound store; the desk comes in its parts, with the memo's array lent. First the desk, for it is the smallest; what reads
-// the pages may then rely on it.
+// Whether desk and pages, in any condition, are those of a sound store; the desk comes in its parts, with the memo's array lent. First the desk, for it is the
+// smallest; what reads the pages may then rely on it.
 pub fn parts_sound<'a>(parts: Parts, words: &'a [u16; Desk::MEMO_WORDS], pages: &'a [u8]) -> bool
     requires { ⌜ length (now words) ≡ lineFields * lineSlots ⌝ }
-    ensures { λ r. ⌜ (r ≡ true → Sound (deskWith parts (now (words .entry))) (now (pages .entry))) × (Sound (deskWith parts (now (words .entry))) (now (pages .entry)) → r ≡ true) ⌝ }
+    ensures { λ r. ⌜ (r ≡ true → Sound (deskWith parts (now (words .entry))) (now (pages .entry)))
+        × (Sound (deskWith parts (now (words .entry))) (now (pages .entry)) → r ≡ true) ⌝ }
 {
     let n = parts.lines;
     let tally = parts.tally;

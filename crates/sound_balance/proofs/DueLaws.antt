@@ -27,7 +27,7 @@ use Rattle.desk.specs.Layout.{noReport, lineSlots, lineFields, noLine}
 use Rattle.desk.specs.Views.{linesIn, radioRow, radiosOf}
 use Rattle.desk.proofs.LinesLaws.{length-lines-in}
 use Rattle.memo.specs.Memo.{rowOf, linesOf}
-use Rattle.sound_directory.proofs.LoopLaws.{all-nil}
+use Rattle.lists.proofs.SlotsLaws.{all-nil}
 use Rattle.waiting.specs.Waiting.{rowOf as reportRow, reportsOf}
 use Rattle.sound_balance.specs.Tables.{tableSize, fieldEnd, half, Blank, added, written, Named, lineNamed, judged, markNew, belongsBy, missedOff, oneOff}
 use Rattle.sound_balance.proofs.TableLaws.{row-next, row-none, Adding, adding-start, adding-end, adding-key, adding-turn}

@@ -6,7 +6,7 @@ use lib.ListN.{length, getD, set, take, drop}
 use Rattle.terms.specs.Terms.{maxRadio}
 use Rattle.lists.specs.Rows.{Row, Rows, UpTo}
 use Rattle.lists.proofs.MapLaws.{map-drop}
-use Rattle.sound_directory.proofs.LoopLaws.{used-cons, used-none}
+use Rattle.lists.proofs.SlotsLaws.{used-cons, used-none}
 use Rattle.sound_balance.specs.Tables.{fieldEnd, added}
 
 -- ---- what the slots in use stand for

@@ -6,7 +6,7 @@ use mathlib.Core.Option.{Option, none, some}
 use Prim.Native.Nat.{ℕ, zero, suc, _+_, _-_, _*_, _%_, _≤_, min}
 use lib.Dec.{eqb}
 use lib.ListN.{length, getD, set}
-use Rattle.terms.specs.Terms.{Place, maxRadio}
+use Rattle.terms.specs.Terms.{Fix, maxRadio}
 use Rattle.lists.specs.Rows.{Row, Rows}
 use Rattle.lists.specs.Tests.{one-if, either}
 use Rattle.rules.specs.Store.{Report, Line}
@@ -57,7 +57,7 @@ pub record Named (words lines : List ℕ) : Type 0 where
   pub place : (q : ℕ) → getD lines q 0 ≤ lineSlots
 
 -- stale by the line that the table names: there is one "with another place or none"
-unfoldable pub judged : List ℕ → List ℕ → Row Place → Bool
+unfoldable pub judged : List ℕ → List ℕ → Row Fix → Bool
 judged words lines e = staleBy (lineNamed words (getD lines (e .key) 0)) (e .val)
 
 -- ---- what is found of a radio, less what is due: two counts in one number

@@ -1,4 +1,5 @@
-// What is due and what is found of each radio, in one table by radio: what is due is taken off a radio's number, and what is found is added. Each must come to 0 again.
+// What is due and what is found of each radio, in one table by radio: what is due is taken off a radio's number, and what is found is added. Each must come to
+// 0 again.
 ghost use mathlib.Core.Bool.{not};
 ghost use mathlib.Core.Path.{_≡_};
 ghost use Prim.Native.Nat.{_+_, _-_, _*_, _%_, _<_, _≤_, min};
@@ -101,15 +102,18 @@ fn place_from_one(i: usize) -> u16
 // Each line takes its missed count off, and writes where it stands.
 pub fn lines_due<'a>(
     words: &'a [u16; Desk::MEMO_WORDS],
-    n: usize,
+    n: u16,
     balance: &'a mut [u16; RADIOS],
     lines: &'a mut [u16; RADIOS],
 )
-    requires { ⌜ (length (now words) ≡ lineFields * lineSlots) × (n ≤ lineSlots) × Rising 0 (linesOf (memoIn n (now words))) × UpTo maxRadio (linesOf (memoIn n (now words))) × Blank (now lines) ⌝ }
-    ensures { λ _. ⌜ (now (balance .exit) ≡ added missedOff (now (balance .entry)) (linesOf (memoIn n (now (words .entry))))) × Named (now (words .entry)) (now (lines .exit)) × (judged (now (words .entry)) (now (lines .exit)) ≡ stale (linesOf (memoIn n (now (words .entry))))) ⌝ }
+    requires { ⌜ (length (now words) ≡ lineFields * lineSlots) × (n ≤ lineSlots) × Rising 0 (linesOf (memoIn n (now words)))
+        × UpTo maxRadio (linesOf (memoIn n (now words))) × Blank (now lines) ⌝ }
+    ensures { λ _. ⌜ (now (balance .exit) ≡ added missedOff (now (balance .entry)) (linesOf (memoIn n (now (words .entry)))))
+        × Named (now (words .entry)) (now (lines .exit))
+        × (judged (now (words .entry)) (now (lines .exit)) ≡ stale (linesOf (memoIn n (now (words .entry))))) ⌝ }
 {
     let mut i: usize = 0;
-    while i < n {
+    while i < n as usize {
         let x = desk::line_at(words, i);
         let k = radio_index(x.radio);
         let before = balance[k];
@@ -128,13 +132,13 @@ fn belongs(new: u16, number: u16) -> bool
     (new != UNMARKED) | (number % HALF != 0)
 }
 
-// Each waiting report marked new adds 1 to its radio's low half; whether each unmarked one belongs to a radio on. One loop does both, for another function would get a copy
-// of all slots; a radio waits once, so what others add does not change its number.
+// Each waiting report marked new adds 1 to its radio's low half; whether each unmarked one belongs to a radio on. One loop does both, for another function
+// would get a copy of all slots; a radio waits once, so what others add does not change its number.
 pub fn tally_new<'a>(w: Waiting, balance: &'a mut [u16; RADIOS]) -> bool
     requires { ⌜ (w .n ≤ fullMemory) × Rising 0 (reportsOf w) × UpTo maxRadio (reportsOf w) ⌝ }
     ensures { λ r. ⌜ (now (balance .exit) ≡ added markNew (now (balance .entry)) (reportsOf w)) × (r ≡ all (belongsBy (now (balance .entry))) (reportsOf w)) ⌝ }
 {
-    let n = w.n;
+    let n = w.n as usize;
     let mut so = true;
     let mut i: usize = 0;
     while i < n {

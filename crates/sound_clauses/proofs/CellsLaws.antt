@@ -6,7 +6,7 @@ use Prim.Native.Nat.{ℕ, _≤_, _<_}
 use lib.Dec.{ltb}
 use lib.ListN.{length}
 use borrow.Author.Tests.{lt-ltb, ltb-true, eqb-true, eq-eqb}
-use Rattle.terms.specs.Terms.{Place, maxRadio, pages}
+use Rattle.terms.specs.Terms.{Fix, maxRadio, pages}
 use Rattle.lists.specs.Rows.{Rows, Rising, UpTo}
 use Rattle.lists.specs.Sums.{count}
 use Rattle.lists.specs.Tests.{one-if, Each}
@@ -45,28 +45,28 @@ pub true-pages : (chained : List ℕ) → ((p : ℕ) → count p chained ≡ one
 unfolding pagesTest
 true-pages chained h = true-once pages chained h
 
-pub chain-true : (chain : List ℕ) (es : Rows Place) → chainTest chain es ≡ true → length chain ≡ pagesFor (length es)
+pub chain-true : (chain : List ℕ) (es : Rows Fix) → chainTest chain es ≡ true → length chain ≡ pagesFor (length es)
 unfolding chainTest
 chain-true chain es e = eqb-true (length chain) (pagesFor (length es)) e
 
-pub true-chain : (chain : List ℕ) (es : Rows Place) → length chain ≡ pagesFor (length es) → chainTest chain es ≡ true
+pub true-chain : (chain : List ℕ) (es : Rows Fix) → length chain ≡ pagesFor (length es) → chainTest chain es ≡ true
 unfolding chainTest
 true-chain chain es e = eq-eqb (length chain) (pagesFor (length es)) e
 
 -- ---- entries
 
-pub radios-true : (es : Rows Place) → radiosTest es ≡ true → Rising 0 es × UpTo maxRadio es
+pub radios-true : (es : Rows Fix) → radiosTest es ≡ true → Rising 0 es × UpTo maxRadio es
 unfolding radiosTest
 radios-true es e = rises-rows maxRadio 0 es e
 
-pub true-radios : (es : Rows Place) → Rising 0 es → UpTo maxRadio es → radiosTest es ≡ true
+pub true-radios : (es : Rows Fix) → Rising 0 es → UpTo maxRadio es → radiosTest es ≡ true
 unfolding radiosTest
 true-radios es r u = rows-rise maxRadio 0 es r u
 
-pub inside-true : (edges : Rect) (es : Rows Place) → insideTest edges es ≡ true → Each (λ e. inside edges (e .val) ≡ true) es
+pub inside-true : (edges : Rect) (es : Rows Fix) → insideTest edges es ≡ true → Each (λ e. inside edges (e .val) ≡ true) es
 unfolding insideTest
 inside-true edges es e = all-each (λ x. inside edges (x .val)) (λ x. inside edges (x .val) ≡ true) es (λ x t. t) e
 
-pub true-inside : (edges : Rect) (es : Rows Place) → Each (λ e. inside edges (e .val) ≡ true) es → insideTest edges es ≡ true
+pub true-inside : (edges : Rect) (es : Rows Fix) → Each (λ e. inside edges (e .val) ≡ true) es → insideTest edges es ≡ true
 unfolding insideTest
 true-inside edges es e = each-all (λ x. inside edges (x .val)) (λ x. inside edges (x .val) ≡ true) es (λ x t. t) e

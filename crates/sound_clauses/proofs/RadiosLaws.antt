@@ -8,7 +8,7 @@ use native.Mathlib.Omega.{arith}
 use lib.Dec.{eqb, leb, ltb}
 use lib.ListN.{length}
 use borrow.Author.Tests.{lt-ltb, le-leb, ltb-true, ltb-false, leb-true, eqb-true, eq-eqb, ne-eqb}
-use Rattle.terms.specs.Terms.{Place, maxRadio, maxOn}
+use Rattle.terms.specs.Terms.{Place, Fix, maxRadio, maxOn}
 use Rattle.lists.specs.Rows.{Row, Rows, Rising, UpTo, find, countFound}
 use Rattle.lists.specs.Sums.{sumBy, concat}
 use Rattle.lists.specs.Tests.{one-if, both, either, Each, isSome}
@@ -47,7 +47,7 @@ abbrev pub RowsUpTo : List Cell → Type 0
 RowsUpTo cells = Each (λ c. UpTo maxRadio (c .entries)) cells
 
 -- of one cell: what is found, if it passes
-passing-cell : (t : Row Place → Bool) (g : Place → Bool) (r : ℕ) (es : Rows Place) → ((p : Place) → t (record { key = r; val = p }) ≡ g p) → Rising 0 es
+passing-cell : (t : Row Fix → Bool) (g : Place → Bool) (r : ℕ) (es : Rows Fix) → ((p : Place) → t (record { key = r; val = p }) ≡ g p) → Rising 0 es
     → countIf g (find es r) ≡ passing t r es
 passing-cell t g r es h a = same (find es r) ∙ sym (passing-found t 0 r es a)
   where
@@ -56,7 +56,7 @@ passing-cell t g r es h a = same (find es r) ∙ sym (passing-found t 0 r es a)
     same (some p) = ap one-if (sym (h p))
 
 -- of all
-passing-cells : (t : Row Place → Bool) (g : Place → Bool) (r : ℕ) (cells : List Cell) → ((p : Place) → t (record { key = r; val = p }) ≡ g p) → RowsRise cells
+passing-cells : (t : Row Fix → Bool) (g : Place → Bool) (r : ℕ) (cells : List Cell) → ((p : Place) → t (record { key = r; val = p }) ≡ g p) → RowsRise cells
     → sumBy (λ c. countIf g (find (c .entries) r)) cells ≡ passing t r (concat (rowsOf cells))
 passing-cells t g r cells h a =
     sum-each (λ c. countIf g (find (c .entries) r)) (λ c. passing t r (c .entries)) cells
@@ -75,7 +75,7 @@ unfolding staleOf staleAt
 stale-cells memo r l cells e a = passing-cells (stale memo) (λ p. not (isAt (l .last) p)) r cells (λ p. ap (λ (o : Option Line). staleBy o p) e) a
 
 -- all entries of a radio
-pub stale-live : (memo : Rows Line) (r : ℕ) (es : Rows Place) → staleAt memo r es + liveAt memo r es ≡ entriesAt r es
+pub stale-live : (memo : Rows Line) (r : ℕ) (es : Rows Fix) → staleAt memo r es + liveAt memo r es ≡ entriesAt r es
 unfolding liveAt staleAt entriesAt
 stale-live memo r es = passing-parts (stale memo) r es
 
@@ -174,21 +174,21 @@ true-last none h = refl
 true-last (some p) h = true-place p h
 
 -- a line of the radio, against all entries
-abbrev Counted : Rows Line → Rows Place → ℕ → Line → Type 0
+abbrev Counted : Rows Line → Rows Fix → ℕ → Line → Type 0
 Counted memo es r l = (1 ≤ l .missed) × (staleAt memo r es ≡ l .missed)
 
-line-true : (memo : Rows Line) (es : Rows Place) (x : Row Line) → lineTest memo es x ≡ true → Counted memo es (x .key) (x .val)
+line-true : (memo : Rows Line) (es : Rows Fix) (x : Row Line) → lineTest memo es x ≡ true → Counted memo es (x .key) (x .val)
 unfolding lineTest
 line-true memo es x t =
     let a = ltb 0 (x .val .missed) in
     let b = eqb (staleAt memo (x .key) es) (x .val .missed) in
     (ltb-true 0 (x .val .missed) (both-left a b t), eqb-true (staleAt memo (x .key) es) (x .val .missed) (both-right a b t))
 
-true-line : (memo : Rows Line) (es : Rows Place) (x : Row Line) → Counted memo es (x .key) (x .val) → lineTest memo es x ≡ true
+true-line : (memo : Rows Line) (es : Rows Fix) (x : Row Line) → Counted memo es (x .key) (x .val) → lineTest memo es x ≡ true
 unfolding lineTest
 true-line memo es x c = both-intro (lt-ltb 0 (x .val .missed) (c .0)) (eq-eqb (staleAt memo (x .key) es) (x .val .missed) (c .1))
 
-line-found : (memo : Rows Line) (es : Rows Place) → linesTest memo es ≡ true → (r : ℕ) (l : Line) → find memo r ≡ some l → Counted memo es r l
+line-found : (memo : Rows Line) (es : Rows Fix) → linesTest memo es ≡ true → (r : ℕ) (l : Line) → find memo r ≡ some l → Counted memo es r l
 unfolding linesTest
 line-found memo es e r l = each-find (Counted memo es) r l memo (all-each (lineTest memo es) (λ x. Counted memo es (x .key) (x .val)) memo (line-true memo es) e)
 
@@ -242,13 +242,13 @@ missed-found r b memo a =
     here (some l) = rw (eq-eqb r r refl)
 
 -- without a line nothing is stale
-stale-none : (memo : Rows Line) (r : ℕ) (es : Rows Place) → find memo r ≡ none → staleAt memo r es ≡ 0
+stale-none : (memo : Rows Line) (r : ℕ) (es : Rows Fix) → find memo r ≡ none → staleAt memo r es ≡ 0
 unfolding staleAt passing both
 stale-none memo r es e =
     sum-zero (λ x. one-if (both (eqb r (x .key)) (stale memo x))) es
     (λ x. by-cases (eqb r (x .key)) (λ t. rw (t, ← eqb-true r (x .key) t, e)) (λ t. rw t))
 
-module _ (memo : Rows Line) (es : Rows Place) (rise : Rising 0 memo) (lines : linesTest memo es ≡ true) where
+module _ (memo : Rows Line) (es : Rows Fix) (rise : Rising 0 memo) (lines : linesTest memo es ≡ true) where
   -- the lines' missed counts are the stale entries of every radio
   pub stale-missed : (r : ℕ) → staleAt memo r es ≡ missedAt r memo
   stale-missed r =

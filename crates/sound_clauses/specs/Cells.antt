@@ -4,7 +4,7 @@ use mathlib.Core.List.{List, map}
 use Prim.Native.Nat.{ℕ}
 use lib.Dec.{eqb, ltb}
 use lib.ListN.{length}
-use Rattle.terms.specs.Terms.{Place, maxRadio, pages}
+use Rattle.terms.specs.Terms.{Fix, maxRadio, pages}
 use Rattle.lists.specs.Rows.{Rows}
 use Rattle.lists.specs.Tests.{all}
 use Rattle.rules.specs.Limits.{maxCells}
@@ -20,7 +20,7 @@ numbersOf cells = map (λ c. c .number) cells
 abbrev pub edgesOf : List Cell → List Rect
 edgesOf cells = map (λ c. c .edges) cells
 
-abbrev pub rowsOf : List Cell → List (Rows Place)
+abbrev pub rowsOf : List Cell → List (Rows Fix)
 rowsOf cells = map (λ c. c .entries) cells
 
 -- ---- tests
@@ -38,13 +38,13 @@ unfoldable pub pagesTest : List ℕ → Bool
 pagesTest chained = eachOnce pages chained
 
 -- "A cell with e entries has max(1, ⌈e/32⌉) pages"
-unfoldable pub chainTest : List ℕ → Rows Place → Bool
+unfoldable pub chainTest : List ℕ → Rows Fix → Bool
 chainTest chain es = eqb (length chain) (pagesFor (length es))
 
 -- "entries by rising radio", "one a radio in each cell", "A radio number is 1 to 4,095."
-unfoldable pub radiosTest : Rows Place → Bool
+unfoldable pub radiosTest : Rows Fix → Bool
 radiosTest es = risesTo maxRadio 0 (keys es)
 
 -- "Entries lie in their cell's rectangle"
-unfoldable pub insideTest : Rect → Rows Place → Bool
+unfoldable pub insideTest : Rect → Rows Fix → Bool
 insideTest edges es = all (λ e. inside edges (e .val)) es

@@ -4,7 +4,7 @@ use mathlib.Core.List.{List, map}
 use Prim.Native.Nat.{ℕ, _+_, _-_, _*_}
 use lib.Dec.{leb, ltb}
 use lib.ListN.{length, drop}
-use Rattle.terms.specs.Terms.{Place}
+use Rattle.terms.specs.Terms.{Fix}
 use Rattle.lists.specs.Rows.{Rows}
 use Rattle.lists.specs.Sums.{sumBy}
 use Rattle.lists.specs.Tests.{one-if}
@@ -18,11 +18,11 @@ unfoldable pub tallyTest : ℕ → Bool
 tallyTest c = ltb c sweepEvery
 
 -- the stale ones of a cell's entries
-unfoldable pub staleCount : Rows Line → Rows Place → ℕ
+unfoldable pub staleCount : Rows Line → Rows Fix → ℕ
 staleCount memo es = sumBy (λ e. one-if (stale memo e)) es
 
 -- of each cell, in the order of the round
-abbrev pub staleCounts : Rows Line → List (Rows Place) → List ℕ
+abbrev pub staleCounts : Rows Line → List (Rows Fix) → List ℕ
 staleCounts memo rows = map (staleCount memo) rows
 
 -- what stands at place k and later

@@ -34,13 +34,13 @@ use Rattle.sound_clauses.proofs.WellLaws.{Passes}
 use Rattle.sound_grid.specs.Views.{rectsIn}
 use Rattle.sound_grid.specs.Sound.{edgesSound, tileSound, gridSound}
 use Rattle.sound_directory.specs.Sound.{slotsTest, cutsSound, directorySound}
-use Rattle.sound_directory.proofs.LoopLaws.{stops, goes}
+use Rattle.lists.proofs.SlotsLaws.{stops, goes}
 use Rattle.sound_directory.proofs.SlotLaws.{slots-count}
 use Rattle.sound_directory.proofs.CutsLaws.{cuts-whole, cuts-in, whole-cuts}
 use Rattle.sound_directory.proofs.DirectoryLaws.{directory-count, directory-whole, slots-in, whole-directory}
 use Rattle.waiting.proofs.WaitingLaws.{reports-waitingOf}
 use Rattle.sound_rows.specs.Sound.{onSound, reportWeight, waitingSound, missedTest, memoSound}
-use Rattle.sound_rows.proofs.CodeLaws.{map-map, map-same}
+use Rattle.lists.proofs.MapLaws.{map-map, map-same}
 use Rattle.sound_desk.specs.Views.{cellOf}
 use Rattle.sound_desk.specs.Sound.{fewSound, radiosSound, deskSound, shown, Tests, DeskTests, Shaped}
 use Rattle.sound_desk.proofs.WholeLaws.{on-whole, whole-on, waiting-whole, whole-waiting, memo-whole, whole-memo-sound}

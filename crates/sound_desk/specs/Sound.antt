@@ -59,7 +59,8 @@ shown d = record {
 }
 
 -- the mirror's tests that look neither at chains nor at entries, by what they look at
-pub record Tests (cuts : Cuts) (numbers : List ℕ) (rects : List Rect) (waits : Rows StoreReport) (lines : Rows StoreLine) (heard : Rows (Unit {0})) (c : ℕ) : Type 0 where
+pub record Tests (cuts : Cuts) (numbers : List ℕ) (rects : List Rect) (waits : Rows StoreReport)
+    (lines : Rows StoreLine) (heard : Rows (Unit {0})) (c : ℕ) : Type 0 where
   pub few : leb (length numbers) maxCells ≡ true
   pub on : onTest heard ≡ true
   pub easts : cutsTest (cuts .easts) ≡ true

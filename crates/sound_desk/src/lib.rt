@@ -1,5 +1,5 @@
-// The test of soundness as far as it looks at the desk alone: with what each of its parts says by itself, how many wait in a memory cell. The desk may be in any condition: a
-// count is tested before a slot is looked at.
+// The test of soundness as far as it looks at the desk alone: with what each of its parts says by itself, how many wait in a memory cell. The desk may be in
+// any condition: a count is tested before a slot is looked at.
 ghost use mathlib.Core.Path.{_≡_};
 ghost use Prim.Native.Nat.{_*_, _≤_};
 ghost use lib.ListN.{length};
@@ -27,7 +27,7 @@ fn few_sound(easts: CutList, norths: CutList, w: Waiting) -> bool
     let at = boxes::boxes_of(easts, norths, w);
     let mut crowd: [usize; BOXES] = [0; BOXES];
     let mut i: usize = 0;
-    while i < w.n {
+    while i < w.n as usize {
         let k = boxes::box_index(at.easts[i], at.norths[i]);
         let others = crowd[k];
         if MOST_IN_BOX <= others {
@@ -60,7 +60,7 @@ pub fn desk_sound<'a>(
     grid: Grid,
     waiting: Waiting,
     words: &'a [u16; Desk::MEMO_WORDS],
-    n: usize,
+    n: u16,
     on: On,
     tally: u16,
 ) -> bool

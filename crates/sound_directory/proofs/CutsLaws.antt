@@ -16,7 +16,7 @@ use Rattle.desk.proofs.UniqueLaws.{take-cuts}
 use Rattle.sound_clauses.specs.Loops.{risesTo}
 use Rattle.sound_clauses.specs.Grid.{cutsTest}
 use Rattle.sound_directory.specs.Sound.{weighs, slotsTest, number, cutsSound}
-use Rattle.sound_directory.proofs.LoopLaws.{true-both, few-used}
+use Rattle.lists.proofs.SlotsLaws.{true-both, few-used}
 use Rattle.sound_directory.proofs.SlotLaws.{slots-long, slots-unclear, slots-clear, slots-used, slots-slotted, slotted-slots}
 
 module _ (c : CutList) where

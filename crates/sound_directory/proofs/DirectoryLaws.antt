@@ -25,7 +25,7 @@ use Rattle.sound_clauses.specs.Cells.{numbersTest, roundTest}
 use Rattle.sound_clauses.proofs.LoopsLaws.{all-false, at-most-twice, marks-at-most}
 use Rattle.sound_directory.specs.Views.{numbersIn}
 use Rattle.sound_directory.specs.Sound.{weighs, slotsTest, slotWeight, namesSound, directorySound}
-use Rattle.sound_directory.proofs.LoopLaws.{true-both, same-at}
+use Rattle.lists.proofs.SlotsLaws.{true-both, same-at}
 use Rattle.sound_directory.proofs.SlotLaws.{slots-long, slots-heavy, slots-fit, slots-count, slots-used, slots-slotted, slotted-slots}
 
 -- ---- numbers by marks

@@ -1,67 +1,22 @@
 -- Loops over the slots of a part of the desk: over those in use, that they rise, and over the others, that they are zero.
 use mathlib.Core.Path.{_≡_, refl, sym, ap, _∙_}
-use mathlib.Core.Bool.{Bool, true, false, not, _&&_}
-use mathlib.Core.List.{List, [], _∷_, map}
+use mathlib.Core.Bool.{Bool, true, not, _&&_}
+use mathlib.Core.List.{List}
 use Prim.Native.Nat.{ℕ, _+_, _≤_, _<_}
 use native.Mathlib.Omega.{arith}
 use native.Mathlib.Numerals.{add-one}
 use lib.Dec.{eqb, leb, ltb}
-use lib.ListN.{length, getD, take, drop, replicate, length-take, length-replicate, getD-replicate, drop-of-length-le, List·getD-eq-default}
-use lib.Seq.{drop-cons, getD-take}
-use borrow.Author.Tests.{ltb-true, ltb-false, eqb-true, eqb-false, eq-eqb, ne-eqb}
+use lib.ListN.{length, getD, take, drop, drop-of-length-le}
+use lib.Seq.{drop-cons}
+use borrow.Author.Tests.{eqb-true, eqb-false, eq-eqb, ne-eqb}
 use Rattle.lists.specs.Sums.{sumBy}
-use Rattle.lists.specs.Tests.{both, all}
+use Rattle.lists.specs.Tests.{both}
 use Rattle.lists.proofs.Cases.{by-cases}
-use Rattle.lists.proofs.TestsLaws.{both-left-false, both-true, not-true, not-false, and-both}
+use Rattle.lists.proofs.SlotsLaws.{used-cons, used-none}
+use Rattle.lists.proofs.TestsLaws.{both-true, and-both}
 use Rattle.sound_clauses.specs.Loops.{risesTo}
 use Rattle.sound_clauses.proofs.LoopsLaws.{rises-nil, rises-cons}
 use Rattle.sound_directory.specs.Sound.{weighs, number}
-
--- ---- lists
-
-pub true-both : {a : Bool} (b : Bool) → a ≡ true → both a b ≡ b
-unfolding both
-true-both b e = rw e
-
-pub all-nil : {A : Type 0} (p : A → Bool) → all p [] ≡ true
-unfolding all
-all-nil p = refl
-
-module _ {A : Type 0} where
-  -- the slots in use from i on
-  pub used-cons : (xs : List A) (n i : ℕ) (d : A) → n ≤ length xs → i < n → drop i (take n xs) ≡ getD xs i d ∷ drop (i + 1) (take n xs)
-  used-cons xs n i d h k =
-      let l : i < length (take n xs) = rw length-take (omega arith) in
-      rw (add-one, drop-cons (take n xs) i d l, getD-take n xs i d k)
-
-  pub used-none : (xs : List A) (n i : ℕ) → n ≤ i → drop i (take n xs) ≡ []
-  used-none xs n i h = drop-of-length-le (take n xs) {i = i} (rw length-take (omega arith))
-
-pub all-map : {A B : Type 0} (p : B → Bool) (f : A → B) (l : List A) → all p (map f l) ≡ all (λ x. p (f x)) l
-unfolding all
-all-map p f [] = refl
-all-map p f (x ∷ xs) = ap (both (p (f x))) (all-map p f xs)
-
-pub few-used : {A : Type 0} (n most : ℕ) (xs : List A) → n ≤ most → length (take n xs) ≤ most
-few-used n most xs h = rw length-take (omega arith)
-
--- a list of the same at any place
-pub same-at : {A : Type 0} (z : A) (n k : ℕ) → getD (replicate n z) k z ≡ z
-same-at z n k =
-    by-cases (ltb k n)
-    (λ t. getD-replicate n k z z (ltb-true k n t))
-    (λ t. List·getD-eq-default (replicate n z) z {n = k} (rw (length-replicate n z) (ltb-false k n t)))
-
--- ---- one test after the other
-
-pub stops : {a x : Bool} (rest : Bool) → a ≡ x → not a ≡ true → false ≡ both x rest
-stops {a} rest e f = sym (both-left-false rest (sym e ∙ not-true a f))
-
-pub goes : {a x r rest : Bool} → a ≡ x → not a ≡ false → r ≡ rest → r ≡ both x rest
-goes {a} {x} {r} {rest} e f q = q ∙ sym (true-both rest (sym e ∙ not-false a f))
-
-pub passed-true : {a x : Bool} → a ≡ x → not a ≡ false → x ≡ true
-passed-true {a} e f = sym e ∙ not-false a f
 
 -- ---- numbers that rise
 

@@ -1,5 +1,5 @@
--- The test of soundness as far as it looks at the cuts of one direction or at the directory's numbers alone (01, "A sound store"). They may be in any condition, with a count
--- beyond their slots or anything in the slots that are not used.
+-- The test of soundness as far as it looks at the cuts of one direction or at the directory's numbers alone (01, "A sound store"). They may be in any
+-- condition, with a count beyond their slots or anything in the slots that are not used.
 use mathlib.Core.Bool.{Bool}
 use mathlib.Core.List.{List}
 use Prim.Native.Nat.{ℕ, _+_}

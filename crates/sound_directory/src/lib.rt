@@ -1,5 +1,5 @@
-// The test of soundness as far as it looks at the cuts of one direction or at the directory's numbers alone. They may be in any condition: a count is tested before a slot is
-// looked at.
+// The test of soundness as far as it looks at the cuts of one direction or at the directory's numbers alone. They may be in any condition: a count is tested
+// before a slot is looked at.
 ghost use mathlib.Core.Bool.{true};
 ghost use mathlib.Core.Path.{_≡_};
 ghost use Prim.Native.Nat.{_+_, _*_, _<_, _≤_};
@@ -66,13 +66,13 @@ pub fn is_clear(slots: &[u16], n: usize) -> bool
 pub fn cuts_sound(c: CutList) -> bool
     ensures { λ r. ⌜ r ≡ cutsSound c ⌝ }
 {
-    if Desk::MAX_CUTS < c.n {
+    if Desk::MAX_CUTS < c.n as usize {
         return false;
     }
-    if !is_clear(&c.at, c.n) {
+    if !is_clear(&c.at, c.n as usize) {
         return false;
     }
-    rises(&c.at, c.n, Desk::LAST_METRE)
+    rises(&c.at, c.n as usize, Desk::LAST_METRE)
 }
 
 // ---- the directory
@@ -89,7 +89,7 @@ fn slots_rest(d: Directory) -> u32
     ensures { λ r. ⌜ r ≡ weighs slotWeight (d .n) (d .slots) ⌝ }
 {
     let mut sum: u32 = 0;
-    let mut i = d.n;
+    let mut i = d.n as usize;
     while i < Desk::MAX_CELLS {
         sum = sum + slot_weight(d.slots[i]);
         i += 1;
@@ -110,7 +110,7 @@ fn names_sound(d: Directory) -> bool
 {
     let mut marks = [false; Desk::MAX_CELLS];
     let mut i: usize = 0;
-    while i < d.n {
+    while i < d.n as usize {
         let x = d.slots[i];
         let k = index(x.number);
         if Desk::MAX_CELLS <= k {
@@ -129,7 +129,7 @@ fn names_sound(d: Directory) -> bool
 pub fn directory_sound(d: Directory) -> bool
     ensures { λ r. ⌜ r ≡ directorySound d ⌝ }
 {
-    if Desk::MAX_CELLS < d.n {
+    if Desk::MAX_CELLS < d.n as usize {
         return false;
     }
     if slots_rest(d) != 0 {

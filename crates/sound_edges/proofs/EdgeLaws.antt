@@ -3,6 +3,7 @@ use mathlib.Core.Path.{_≡_, refl, sym, ap, ap₂, _∙_}
 use mathlib.Core.Bool.{Bool, true, false}
 use mathlib.Core.List.{List, [], _∷_}
 use mathlib.Core.Logic.{_≢_}
+use mathlib.Core.Option.{Option, none, some}
 use Prim.Native.Nat.{ℕ, suc, _+_, _-_, _≤_, _<_}
 use native.Mathlib.Omega.{arith}
 use lib.Dec.{eqb, leb, ltb}
@@ -11,19 +12,17 @@ use lib.Seq.{getD-take, length-take-le}
 use borrow.Author.Tests.{ltb-true, eqb-true, eqb-false, eq-eqb, ne-eqb, leb-true, leb-false, le-leb, lt-leb}
 use Rattle.lists.specs.Sums.{sumBy, count}
 use Rattle.lists.specs.Tests.{one-if, both, either, Each}
-use Rattle.lists.proofs.Cases.{by-cases}
+use Rattle.lists.proofs.Cases.{by-cases, none-some, some-injective}
 use Rattle.lists.proofs.TestsLaws.{both-intro, both-left-false, both-right-false, either-left}
 use Rattle.rules.specs.Limits.{lastMetre, maxCuts}
-use Rattle.rules.specs.Grid.{stripe, stripeLow}
+use Rattle.rules.specs.Grid.{Span, stripe, stripeLow}
 use Rattle.rules.specs.WellFormed.{RisingCuts}
 use Rattle.rules.proofs.TilingLaws.{stripe-most, stripe-low}
 use Rattle.sound_clauses.specs.Grid.{cutsTest, lowTest, highTest, spanTest, stripes}
 use Rattle.sound_clauses.proofs.GridLaws.{cuts-true}
 use Rattle.sound_edges.specs.declared.Edge.{Edge}
 use Rattle.sound_edges.specs.declared.Edge.the-variants.{Bounds, Loose}
-use Rattle.sound_edges.specs.declared.Extent.{Extent}
-use Rattle.sound_edges.specs.declared.Extent.the-variants.{Whole, Broken}
-use Rattle.sound_edges.specs.Edges.{edgeOf, extentOf}
+use Rattle.sound_edges.specs.Edges.{edgeOf, passing}
 use Rattle.sound_edges.proofs.SeekLaws.{Sought, seek-found, seek-end}
 
 -- ---- cuts that rise
@@ -85,80 +84,95 @@ module _ (cuts : List ℕ) (rise : cutsTest cuts ≡ true) where
 -- ---- a cut among the first n
 
 module _ {x : ℕ} {xs : List ℕ} {n i : ℕ} (r : Sought x xs n i) where
-  pub ended-found : cutsTest (take n xs) ≡ true → i < n → getD xs i 0 ≡ x → Bounds i ≡ edgeOf (ltb 0 (count x (take n xs))) (stripe (take n xs) (x - 1))
+  pub ended-found : cutsTest (take n xs) ≡ true → i < n → getD xs i 0 ≡ x → some i ≡ passing (ltb 0 (count x (take n xs))) (stripe (take n xs) (x - 1))
   ended-found rise more e =
       let so = sym (seek-found r more e) in
       let inside : i < length (take n xs) = omega (arith, length-take-le n xs (r .fits)) in
-      rw so (ap Bounds (stripe-ended (take n xs) rise x i inside (getD-take n xs i 0 more ∙ e) (ltb-true 0 (count x (take n xs)) so)))
+      rw so (ap some (stripe-ended (take n xs) rise x i inside (getD-take n xs i 0 more ∙ e) (ltb-true 0 (count x (take n xs)) so)))
 
-  pub ended-not : n ≤ i → Loose ≡ edgeOf (ltb 0 (count x (take n xs))) (stripe (take n xs) (x - 1))
+  pub ended-not : n ≤ i → none ≡ passing (ltb 0 (count x (take n xs))) (stripe (take n xs) (x - 1))
   ended-not h = rw (sym (seek-end r h))
 
 -- ---- an edge
 
-edge-loose : (b : Bool) (s : ℕ) {o : Edge} → o ≡ edgeOf b s → o ≡ Loose → b ≡ false
-edge-loose true s e f = let z : Bounds s ≡ Loose = sym e ∙ f in cc
-edge-loose false s e f = refl
+-- the test passes where there is a value, and only there
+module _ {A : Type 0} where
+  pub passing-none : (b : Bool) (a : A) → none ≡ passing b a → b ≡ false
+  passing-none true a e = none-some e
+  passing-none false a e = refl
 
-edge-bounds : (b : Bool) (s : ℕ) {o : Edge} {at : ℕ} → o ≡ edgeOf b s → o ≡ Bounds at → (b ≡ true) × (at ≡ s)
-edge-bounds true s {at = at} e f = let z : Bounds s ≡ Bounds at = sym e ∙ f in (refl, cc)
-edge-bounds false s {at = at} e f = let z : Loose ≡ Bounds at = sym e ∙ f in (cc, cc)
+  pub passing-some : (b : Bool) (a : A) {x : A} → some x ≡ passing b a → (b ≡ true) × (x ≡ a)
+  passing-some true a e = (refl, some-injective e)
+  passing-some false a e = none-some (sym e)
+
+module _ (b : Bool) (s : ℕ) {o : Edge} (said : edgeOf o ≡ passing b s) where
+  means-loose : o ≡ Loose → b ≡ false
+  means-loose f = passing-none b s (sym (ap edgeOf f) ∙ said)
+
+  means-bounds : {at : ℕ} → o ≡ Bounds at → (b ≡ true) × (at ≡ s)
+  means-bounds f = passing-some b s (sym (ap edgeOf f) ∙ said)
 
 module _ (cuts : List ℕ) (x : ℕ) where
-  pub low-first : cutsTest cuts ≡ true → x ≡ 0 → Bounds 0 ≡ edgeOf (lowTest cuts x) (stripe cuts x)
+  pub low-first : cutsTest cuts ≡ true → x ≡ 0 → some 0 ≡ passing (lowTest cuts x) (stripe cuts x)
   unfolding lowTest
-  low-first rise e = rw (either-left (ltb 0 (count x cuts)) (eq-eqb x 0 e)) (ap Bounds (sym (ap (stripe cuts) e ∙ stripe-first cuts rise)))
+  low-first rise e = rw (either-left (ltb 0 (count x cuts)) (eq-eqb x 0 e)) (ap some (sym (ap (stripe cuts) e ∙ stripe-first cuts rise)))
 
-  module _ {o : Edge} (said : o ≡ edgeOf (ltb 0 (count x cuts)) (stripe cuts (x - 1))) where
-    pub low-loose : x ≢ 0 → o ≡ Loose → Loose ≡ edgeOf (lowTest cuts x) (stripe cuts x)
+  module _ {o : Edge} (said : edgeOf o ≡ passing (ltb 0 (count x cuts)) (stripe cuts (x - 1))) where
+    pub low-loose : x ≢ 0 → o ≡ Loose → none ≡ passing (lowTest cuts x) (stripe cuts x)
     unfolding lowTest either
-    low-loose h f = rw (ne-eqb x 0 h, edge-loose (ltb 0 (count x cuts)) (stripe cuts (x - 1)) said f)
+    low-loose h f = rw (ne-eqb x 0 h, means-loose (ltb 0 (count x cuts)) (stripe cuts (x - 1)) said f)
 
     -- there is room for the stripe after it
     pub low-room : {at : ℕ} → cutsTest cuts ≡ true → o ≡ Bounds at → at ≤ maxCuts
-    low-room rise f = omega (arith, edge-bounds (ltb 0 (count x cuts)) (stripe cuts (x - 1)) said f .1, stripe-most cuts (x - 1), cuts-true cuts rise .0)
+    low-room rise f = omega (arith, means-bounds (ltb 0 (count x cuts)) (stripe cuts (x - 1)) said f .1, stripe-most cuts (x - 1), cuts-true cuts rise .0)
 
-    pub low-cut : {at : ℕ} → cutsTest cuts ≡ true → x ≢ 0 → o ≡ Bounds at → Bounds (at + 1) ≡ edgeOf (lowTest cuts x) (stripe cuts x)
+    pub low-cut : {at : ℕ} → cutsTest cuts ≡ true → x ≢ 0 → o ≡ Bounds at → some (at + 1) ≡ passing (lowTest cuts x) (stripe cuts x)
     unfolding lowTest either
     low-cut {at} rise h f =
-        let b = edge-bounds (ltb 0 (count x cuts)) (stripe cuts (x - 1)) said f in
+        let b = means-bounds (ltb 0 (count x cuts)) (stripe cuts (x - 1)) said f in
         let s : at + 1 ≡ stripe cuts x = omega (arith, b .1, stripe-begun cuts rise x (omega (arith, h)) (ltb-true 0 (count x cuts) (b .0))) in
-        rw (ne-eqb x 0 h, b .0) (ap Bounds s)
+        rw (ne-eqb x 0 h, b .0) (ap some s)
 
-  pub high-cut : {o : Edge} → x ≢ lastMetre → o ≡ edgeOf (ltb 0 (count (x + 1) cuts)) (stripe cuts (x + 1 - 1)) → o ≡ edgeOf (highTest cuts x) (stripe cuts x)
+  pub high-cut : {o : Option ℕ} → x ≢ lastMetre → o ≡ passing (ltb 0 (count (x + 1) cuts)) (stripe cuts (x + 1 - 1))
+      → o ≡ passing (highTest cuts x) (stripe cuts x)
   unfolding highTest either
   high-cut h said =
       let s : x + 1 - 1 ≡ x = omega arith in
-      rw (ne-eqb x lastMetre h) (said ∙ ap (λ (k : ℕ). edgeOf (ltb 0 (count (x + 1) cuts)) (stripe cuts k)) s)
+      rw (ne-eqb x lastMetre h) (said ∙ ap (λ (k : ℕ). passing (ltb 0 (count (x + 1) cuts)) (stripe cuts k)) s)
 
-pub high-last : (xs : List ℕ) (n x : ℕ) → n ≤ length xs → cutsTest (take n xs) ≡ true → x ≡ lastMetre → Bounds n ≡ edgeOf (highTest (take n xs) x) (stripe (take n xs) x)
+pub high-last : (xs : List ℕ) (n x : ℕ) → n ≤ length xs → cutsTest (take n xs) ≡ true → x ≡ lastMetre → some n ≡ passing (highTest (take n xs) x) (stripe (take n xs) x)
 unfolding highTest
 high-last xs n x h rise e =
     let s : n ≡ stripe (take n xs) x = sym (ap (stripe (take n xs)) e ∙ stripe-all (take n xs) lastMetre (cuts-true (take n xs) rise .2) ∙ length-take-le n xs h) in
-    rw (either-left (ltb 0 (count (x + 1) (take n xs))) (eq-eqb x lastMetre e)) (ap Bounds s)
+    rw (either-left (ltb 0 (count (x + 1) (take n xs))) (eq-eqb x lastMetre e)) (ap some s)
 
 -- ---- the stripes between two edges
 
-module _ (cuts : List ℕ) (low high : ℕ) {o : Edge} (lowest : o ≡ edgeOf (lowTest cuts low) (stripe cuts low)) where
-  abbrev between : Bool → Extent
-  between b = extentOf b (stripes cuts (record { low = low; high = high }))
+module _ (cuts : List ℕ) (low high : ℕ) where
+  abbrev span : Span
+  span = record { low = low; high = high }
 
-  pub span-low : o ≡ Loose → Broken ≡ extentOf (spanTest cuts (record { low = low; high = high })) (stripes cuts (record { low = low; high = high }))
+  abbrev between : Bool → Option Span
+  between b = passing b (stripes cuts span)
+
+  pub span-low : {o : Edge} → edgeOf o ≡ passing (lowTest cuts low) (stripe cuts low) → o ≡ Loose → none ≡ between (spanTest cuts span)
   unfolding spanTest
-  span-low f = ap between (sym (both-left-false (leb low high) (both-left-false (highTest cuts high) (edge-loose (lowTest cuts low) (stripe cuts low) lowest f))))
+  span-low lowest f = ap between (sym (both-left-false (leb low high) (both-left-false (highTest cuts high) (means-loose (lowTest cuts low) (stripe cuts low) lowest f))))
 
-  module _ {p : Edge} (highest : p ≡ edgeOf (highTest cuts high) (stripe cuts high)) where
-    pub span-high : p ≡ Loose → Broken ≡ extentOf (spanTest cuts (record { low = low; high = high })) (stripes cuts (record { low = low; high = high }))
-    unfolding spanTest
-    span-high f = ap between (sym (both-left-false (leb low high) (both-right-false (lowTest cuts low) (edge-loose (highTest cuts high) (stripe cuts high) highest f))))
+  pub span-high : {p : Edge} → edgeOf p ≡ passing (highTest cuts high) (stripe cuts high) → p ≡ Loose → none ≡ between (spanTest cuts span)
+  unfolding spanTest
+  span-high highest f =
+      ap between (sym (both-left-false (leb low high) (both-right-false (lowTest cuts low) (means-loose (highTest cuts high) (stripe cuts high) highest f))))
 
-    pub span-whole : {first last : ℕ} → o ≡ Bounds first → p ≡ Bounds last → low ≤ high → Whole first last ≡ extentOf (spanTest cuts (record { low = low; high = high })) (stripes cuts (record { low = low; high = high }))
-    unfolding spanTest
-    span-whole f g h =
-        let a = edge-bounds (lowTest cuts low) (stripe cuts low) lowest f in
-        let b = edge-bounds (highTest cuts high) (stripe cuts high) highest g in
-        ap₂ Whole (a .1) (b .1) ∙ ap between (sym (both-intro (both-intro (a .0) (b .0)) (le-leb low high h)))
+  pub span-back : high < low → none ≡ between (spanTest cuts span)
+  unfolding spanTest
+  span-back h = ap between (sym (both-right-false (both (lowTest cuts low) (highTest cuts high)) (lt-leb low high h)))
 
-pub span-back : (cuts : List ℕ) (low high : ℕ) → high < low → Broken ≡ extentOf (spanTest cuts (record { low = low; high = high })) (stripes cuts (record { low = low; high = high }))
-unfolding spanTest
-span-back cuts low high h = ap (λ (b : Bool). extentOf b (stripes cuts (record { low = low; high = high }))) (sym (both-right-false (both (lowTest cuts low) (highTest cuts high)) (lt-leb low high h)))
+  pub span-whole : {o p : Edge} {first last : ℕ} → edgeOf o ≡ passing (lowTest cuts low) (stripe cuts low)
+      → edgeOf p ≡ passing (highTest cuts high) (stripe cuts high)
+      → o ≡ Bounds first → p ≡ Bounds last → low ≤ high → some (record { low = first; high = last }) ≡ between (spanTest cuts span)
+  unfolding spanTest
+  span-whole lowest highest f g h =
+      let a = means-bounds (lowTest cuts low) (stripe cuts low) lowest f in
+      let b = means-bounds (highTest cuts high) (stripe cuts high) highest g in
+      ap₂ (λ (j k : ℕ). some (record { low = j; high = k })) (a .1) (b .1) ∙ ap between (sym (both-intro (both-intro (a .0) (b .0)) (le-leb low high h)))

@@ -11,7 +11,7 @@ use borrow.Author.Tests.{lt-ltb, le-ltb, eq-eqb, ne-eqb}
 use Rattle.lists.specs.Sums.{count}
 use Rattle.lists.specs.Tests.{one-if}
 use Rattle.lists.proofs.SumsLaws.{sum-nil, sum-cons}
-use Rattle.sound_directory.proofs.LoopLaws.{used-cons, used-none}
+use Rattle.lists.proofs.SlotsLaws.{used-cons, used-none}
 
 -- up to i it is not: where it is left to be is where it is
 pub record Sought (x : ℕ) (xs : List ℕ) (n i : ℕ) : Type 0 where

@@ -1,5 +1,6 @@
 -- Which stripe an edge bounds, and which stripes lie between two edges.
 use mathlib.Core.Bool.{Bool, true, false}
+use mathlib.Core.Option.{Option, none, some}
 use Prim.Native.Nat.{ℕ}
 use Rattle.rules.specs.Grid.{Span}
 use Rattle.sound_edges.specs.declared.Edge.{Edge}
@@ -7,12 +8,17 @@ use Rattle.sound_edges.specs.declared.Edge.the-variants.{Bounds, Loose}
 use Rattle.sound_edges.specs.declared.Extent.{Extent}
 use Rattle.sound_edges.specs.declared.Extent.the-variants.{Whole, Broken}
 
--- a stripe, where the edge bounds it
-abbrev pub edgeOf : Bool → ℕ → Edge
-edgeOf true stripe = Bounds stripe
-edgeOf false stripe = Loose
+-- the value of each case of an edge: the stripe that it bounds, or none
+abbrev pub edgeOf : Edge → Option ℕ
+edgeOf (Bounds stripe) = some stripe
+edgeOf Loose = none
 
--- stripes, where the edges are those of whole ones
-abbrev pub extentOf : Bool → Span → Extent
-extentOf true stripes = Whole (stripes .low) (stripes .high)
-extentOf false stripes = Broken
+-- the values of each case of an extent: the first and the last of the stripes, or none
+abbrev pub extentOf : Extent → Option Span
+extentOf (Whole first last) = some (record { low = first; high = last })
+extentOf Broken = none
+
+-- a value, where a test passes
+abbrev pub passing : {A : Type 0} → Bool → A → Option A
+passing true a = some a
+passing false a = none

@@ -7,7 +7,7 @@ ghost use lib.ListN.{length, take};
 ghost use Rattle.lists.specs.Sums.{count};
 ghost use Rattle.rules.specs.Grid.{stripe};
 ghost use Rattle.sound_clauses.specs.Grid.{cutsTest, lowTest, highTest, spanTest, stripes};
-ghost use Rattle.sound_edges.specs.Edges.{edgeOf, extentOf};
+ghost use Rattle.sound_edges.specs.Edges.{edgeOf, extentOf, passing};
 use desk::Desk;
 
 // The stripe that an edge bounds, where it bounds one.
@@ -25,7 +25,7 @@ pub enum Extent {
 // The stripe that a cut at x ends, where there is such a cut among the first n: as the cuts rise, it is the cut's own place.
 fn ended_at(slots: &[u16], n: usize, x: u16) -> Edge
     requires { ⌜ (n ≤ length (now slots)) × (cutsTest (take n (now slots)) ≡ true) ⌝ }
-    ensures { λ r. ⌜ r ≡ edgeOf (ltb 0 (count x (take n (now (slots .entry))))) (stripe (take n (now (slots .entry))) (x - 1)) ⌝ }
+    ensures { λ r. ⌜ edgeOf r ≡ passing (ltb 0 (count x (take n (now (slots .entry))))) (stripe (take n (now (slots .entry))) (x - 1)) ⌝ }
 {
     let mut i: usize = 0;
     while i < n {
@@ -40,7 +40,7 @@ fn ended_at(slots: &[u16], n: usize, x: u16) -> Edge
 // The stripe whose least coordinate is x.
 fn low_edge(slots: &[u16], n: usize, x: u16) -> Edge
     requires { ⌜ (n ≤ length (now slots)) × (cutsTest (take n (now slots)) ≡ true) ⌝ }
-    ensures { λ r. ⌜ r ≡ edgeOf (lowTest (take n (now (slots .entry))) x) (stripe (take n (now (slots .entry))) x) ⌝ }
+    ensures { λ r. ⌜ edgeOf r ≡ passing (lowTest (take n (now (slots .entry))) x) (stripe (take n (now (slots .entry))) x) ⌝ }
 {
     if x == 0 {
         return Edge::Bounds(0);
@@ -54,7 +54,7 @@ fn low_edge(slots: &[u16], n: usize, x: u16) -> Edge
 // The stripe whose greatest coordinate is x.
 fn high_edge(slots: &[u16], n: usize, x: u16) -> Edge
     requires { ⌜ (n ≤ length (now slots)) × (cutsTest (take n (now slots)) ≡ true) ⌝ }
-    ensures { λ r. ⌜ r ≡ edgeOf (highTest (take n (now (slots .entry))) x) (stripe (take n (now (slots .entry))) x) ⌝ }
+    ensures { λ r. ⌜ edgeOf r ≡ passing (highTest (take n (now (slots .entry))) x) (stripe (take n (now (slots .entry))) x) ⌝ }
 {
     if x == Desk::LAST_METRE {
         return Edge::Bounds(n);
@@ -65,7 +65,9 @@ fn high_edge(slots: &[u16], n: usize, x: u16) -> Edge
 // The stripes between two edges, if the edges are those of whole stripes.
 pub fn extent_of(slots: &[u16], n: usize, low: u16, high: u16) -> Extent
     requires { ⌜ (n ≤ length (now slots)) × (cutsTest (take n (now slots)) ≡ true) ⌝ }
-    ensures { λ r. ⌜ r ≡ extentOf (spanTest (take n (now (slots .entry))) (record { low = low; high = high })) (stripes (take n (now (slots .entry))) (record { low = low; high = high })) ⌝ }
+    ensures { λ r. ⌜ extentOf r
+        ≡ passing (spanTest (take n (now (slots .entry))) (record { low = low; high = high }))
+        (stripes (take n (now (slots .entry))) (record { low = low; high = high })) ⌝ }
 {
     let Edge::Bounds(first) = low_edge(slots, n, low) else {
         return Extent::Broken;

@@ -9,7 +9,7 @@ use borrow.Author.Tests.{eqb-true, eqb-false}
 use lib.Dec.{eqb}
 use lib.ListN.{length, getD, set, take, drop, drop-of-length-le, length-set}
 use lib.Seq.{drop-cons, take-suc-set}
-use Rattle.terms.specs.Terms.{Place, maxRadio, pages, pageEntries, noPage}
+use Rattle.terms.specs.Terms.{Fix, maxRadio, pages, pageEntries, noPage}
 use Rattle.lists.specs.Parts.{tab}
 use Rattle.lists.specs.Rows.{Row, Rows, UpTo}
 use Rattle.lists.specs.Sums.{concat}
@@ -21,17 +21,16 @@ use Rattle.lists.proofs.TestsLaws.{one-if-le, not-true, each-split}
 use Rattle.entries.specs.declared.Entry.{Entry}
 use Rattle.entries.specs.Entries.{rowOf, noRow}
 use Rattle.page.specs.Page.{pageBytes, next, count, entryAt, entries}
-use Rattle.page.specs.Buffer.{pageAt, there, chainFrom}
+use Rattle.page.specs.Buffer.{pageAt, there, chainFrom, entriesOn, entriesFrom}
 use Rattle.page.proofs.PageLaws.{count-le}
 use Rattle.page.proofs.ChainLaws.{there-bounds, was-there, chain-ended, chain-not-there, chain-there, chain-out}
 use Rattle.rules.specs.Limits.{maxCells}
 use Rattle.desk.specs.declared.Directory.{Directory}
 use Rattle.desk.specs.Layout.{noSlot}
 use Rattle.desk.specs.Views.{slotsIn}
-use Rattle.sweep.specs.Sweep.{entriesOn}
 use Rattle.sound_balance.specs.Tables.{fieldEnd, half, added}
 use Rattle.sound_balance.proofs.TableLaws.{row-next, row-none, addedOne, Adding, adding-start, adding-end, adding-key, adding-turn}
-use Rattle.sound_entries.specs.Entries.{entriesFrom, rowsRead, weight, weigh, staleSum}
+use Rattle.sound_entries.specs.Entries.{rowsRead, weight, weigh, staleSum}
 
 -- ---- one entry after the other
 
@@ -44,33 +43,33 @@ pub weight-is : (b : Bool) → weight b ≡ 1 + (half - 1) * one-if b
 weight-is true = refl
 weight-is false = refl
 
-pub stale-nil : (old : Row Place → Bool) → staleSum old [] ≡ 0
+pub stale-nil : (old : Row Fix → Bool) → staleSum old [] ≡ 0
 unfolding staleSum
 stale-nil old = sum-nil (λ e. one-if (old e))
 
-pub stale-cons : (old : Row Place → Bool) (e : Row Place) (es : Rows Place) → staleSum old (e ∷ es) ≡ one-if (old e) + staleSum old es
+pub stale-cons : (old : Row Fix → Bool) (e : Row Fix) (es : Rows Fix) → staleSum old (e ∷ es) ≡ one-if (old e) + staleSum old es
 unfolding staleSum
 stale-cons old e es = sum-cons (λ x. one-if (old x)) e es
 
-pub stale-append : (old : Row Place → Bool) (a b : Rows Place) → staleSum old (a ++ b) ≡ staleSum old a + staleSum old b
+pub stale-append : (old : Row Fix → Bool) (a b : Rows Fix) → staleSum old (a ++ b) ≡ staleSum old a + staleSum old b
 unfolding staleSum
 stale-append old a b = sum-append (λ x. one-if (old x)) a b
 
-pub stale-le : (old : Row Place → Bool) (es : Rows Place) → staleSum old es ≤ length es
+pub stale-le : (old : Row Fix → Bool) (es : Rows Fix) → staleSum old es ≤ length es
 unfolding staleSum
 stale-le old es = omega (arith, sum-le (λ e. one-if (old e)) (λ _. 1) es (λ e. one-if-le (old e)), length-sum es)
 
 -- the entries before i are added, and sum of them are stale: with the rest it is the whole
-pub record Tallying (old : Row Place → Bool) (t₀ : List ℕ) (es : Rows Place) (i : ℕ) (t : List ℕ) (sum : ℕ) : Type 0 where
+pub record Tallying (old : Row Fix → Bool) (t₀ : List ℕ) (es : Rows Fix) (i : ℕ) (t : List ℕ) (sum : ℕ) : Type 0 where
   pub adding : Adding (weigh old) t₀ es i t
   pub stale : sum + staleSum old (drop i es) ≡ staleSum old es
 
-pub tally-start : (old : Row Place → Bool) {t : List ℕ} {es : Rows Place} → UpTo maxRadio es → Tallying old t es 0 t 0
+pub tally-start : (old : Row Fix → Bool) {t : List ℕ} {es : Rows Fix} → UpTo maxRadio es → Tallying old t es 0 t 0
 tally-start old u = record { adding = adding-start (weigh old) u; stale = omega arith }
 
 -- ---- the entries of a page
 
-module _ {old : Row Place → Bool} {t₀ : List ℕ} (v : List ℕ) {i : ℕ} {t : List ℕ} {sum : ℕ} (a : Tallying old t₀ (entries v) i t sum) {n : ℕ} (many : n ≡ count v) where
+module _ {old : Row Fix → Bool} {t₀ : List ℕ} (v : List ℕ) {i : ℕ} {t : List ℕ} {sum : ℕ} (a : Tallying old t₀ (entries v) i t sum) {n : ℕ} (many : n ≡ count v) where
   pub page-end : n ≤ i → (t ≡ added (weigh old) t₀ (entries v)) × (sum ≡ staleSum old (entries v)) × (sum ≤ pageEntries)
   unfolding entries
   page-end h =
@@ -115,16 +114,16 @@ pub page-asks : (b : List ℕ) (p : ℕ) {k : ℕ} {r : Bool} → k ≡ p → r 
 page-asks b p e t f = rw e (there-bounds b p (was-there b p t f))
 
 -- the entries read are added, and sum of them are stale: with those of the rest of the chain it is the whole
-pub record Chaining (old : Row Place → Bool) (b : List ℕ) (first : ℕ) (t₀ t : List ℕ) (sum p fuel : ℕ) : Type 0 where
+pub record Chaining (old : Row Fix → Bool) (b : List ℕ) (first : ℕ) (t₀ t : List ℕ) (sum p fuel : ℕ) : Type 0 where
   pub radios : UpTo maxRadio (entriesOn b (chainFrom fuel b p))
   pub same : added (weigh old) t (entriesOn b (chainFrom fuel b p)) ≡ added (weigh old) t₀ (entriesFrom b first)
   pub stale : sum + staleSum old (entriesOn b (chainFrom fuel b p)) ≡ staleSum old (entriesFrom b first)
 
-pub chaining-start : (old : Row Place → Bool) (b : List ℕ) {first : ℕ} {t : List ℕ} → UpTo maxRadio (entriesFrom b first) → Chaining old b first t t 0 first pages
+pub chaining-start : (old : Row Fix → Bool) (b : List ℕ) {first : ℕ} {t : List ℕ} → UpTo maxRadio (entriesFrom b first) → Chaining old b first t t 0 first pages
 unfolding entriesFrom
 chaining-start old b u = record { radios = u; same = refl; stale = omega arith }
 
-module _ {old : Row Place → Bool} {b : List ℕ} {first : ℕ} {t₀ t : List ℕ} {sum p fuel : ℕ} (a : Chaining old b first t₀ t sum p fuel) where
+module _ {old : Row Fix → Bool} {b : List ℕ} {first : ℕ} {t₀ t : List ℕ} {sum p fuel : ℕ} (a : Chaining old b first t₀ t sum p fuel) where
   stops : chainFrom fuel b p ≡ [] → (t ≡ added (weigh old) t₀ (entriesFrom b first)) × (sum ≡ staleSum old (entriesFrom b first))
   unfolding added
   stops e =
@@ -145,7 +144,7 @@ module _ {old : Row Place → Bool} {b : List ℕ} {first : ℕ} {t₀ t : List 
         ∙ on-cons b p (chainFrom (fuel - 1) b (next (pageAt b p))) ∙ ap (λ (y : List ℕ). entries y ++ entriesOn b (chainFrom (fuel - 1) b (next (pageAt b p)))) (sym (page ∙ ap (pageAt b) at))
 
     radios-both : UpTo maxRadio (entries v) × UpTo maxRadio (entriesOn b (chainFrom (fuel - 1) b (next (pageAt b p))))
-    radios-both = each-split (λ x. x .key ≤ maxRadio) (entries v) (entriesOn b (chainFrom (fuel - 1) b (next (pageAt b p)))) (subst (λ (es : Rows Place). UpTo maxRadio es) after (a .radios))
+    radios-both = each-split (λ x. x .key ≤ maxRadio) (entries v) (entriesOn b (chainFrom (fuel - 1) b (next (pageAt b p)))) (subst (λ (es : Rows Fix). UpTo maxRadio es) after (a .radios))
 
     pub chaining-radios : UpTo maxRadio (entries v)
     chaining-radios = radios-both .0
@@ -175,28 +174,28 @@ unfolding concat
 concat-cons l ls = refl
 
 -- the entries of the cells before i are added, and the stale ones of each counted: with the rest it is the whole
-pub record Cells (old : Row Place → Bool) (b : List ℕ) (d : Directory) (t₀ t counts : List ℕ) (i : ℕ) : Type 0 where
+pub record Cells (old : Row Fix → Bool) (b : List ℕ) (d : Directory) (t₀ t counts : List ℕ) (i : ℕ) : Type 0 where
   pub radios : UpTo maxRadio (concat (drop i (rowsRead b d)))
   pub same : added (weigh old) t (concat (drop i (rowsRead b d))) ≡ added (weigh old) t₀ (concat (rowsRead b d))
   pub counted : take i counts ++ map (staleSum old) (drop i (rowsRead b d)) ≡ map (staleSum old) (rowsRead b d)
   pub size : length counts ≡ maxCells
 
-pub cells-start : (old : Row Place → Bool) (b : List ℕ) (d : Directory) {t counts : List ℕ} → UpTo maxRadio (concat (rowsRead b d)) → length counts ≡ maxCells → Cells old b d t t counts 0
+pub cells-start : (old : Row Fix → Bool) (b : List ℕ) (d : Directory) {t counts : List ℕ} → UpTo maxRadio (concat (rowsRead b d)) → length counts ≡ maxCells → Cells old b d t t counts 0
 cells-start old b d u l = record { radios = u; same = refl; counted = refl; size = l }
 
-module _ {old : Row Place → Bool} {b : List ℕ} (d : Directory) {t₀ t counts : List ℕ} {i : ℕ} (a : Cells old b d t₀ t counts i) where
+module _ {old : Row Fix → Bool} {b : List ℕ} (d : Directory) {t₀ t counts : List ℕ} {i : ℕ} (a : Cells old b d t₀ t counts i) where
   pub cells-end : i ≤ d .n → d .n ≤ i → (t ≡ added (weigh old) t₀ (concat (rowsRead b d))) × (take (d .n) counts ≡ map (staleSum old) (rowsRead b d))
   unfolding rowsRead slotsIn added
   cells-end h k =
       let e = row-none (λ s. entriesFrom b (s .first)) (d .slots) (d .n) i k in
       let z : i ≡ d .n = omega arith in
-      let m : take i counts ++ map (staleSum old) [] ≡ map (staleSum old) (rowsRead b d) = ap (λ (l : List (Rows Place)). take i counts ++ map (staleSum old) l) (sym e) ∙ a .counted in (
+      let m : take i counts ++ map (staleSum old) [] ≡ map (staleSum old) (rowsRead b d) = ap (λ (l : List (Rows Fix)). take i counts ++ map (staleSum old) l) (sym e) ∙ a .counted in (
         ap (added (weigh old) t) (sym (ap concat e ∙ concat-none)) ∙ a .same,
         ap (λ (n : ℕ). take n counts) (sym z) ∙ sym (append-nil (take i counts)) ∙ m,
       )
 
   module _ (slots : length (d .slots) ≡ maxCells) (few : d .n ≤ maxCells) (more : i < d .n) where
-    abbrev here : Rows Place
+    abbrev here : Rows Fix
     here = entriesFrom b (getD (d .slots) i noSlot .first)
 
     rows-next : drop i (rowsRead b d) ≡ here ∷ drop (i + 1) (rowsRead b d)
@@ -207,7 +206,7 @@ module _ {old : Row Place → Bool} {b : List ℕ} (d : Directory) {t₀ t count
     all-next = ap concat rows-next ∙ concat-cons here (drop (i + 1) (rowsRead b d))
 
     radios-here : UpTo maxRadio here × UpTo maxRadio (concat (drop (i + 1) (rowsRead b d)))
-    radios-here = each-split (λ x. x .key ≤ maxRadio) here (concat (drop (i + 1) (rowsRead b d))) (subst (λ (es : Rows Place). UpTo maxRadio es) all-next (a .radios))
+    radios-here = each-split (λ x. x .key ≤ maxRadio) here (concat (drop (i + 1) (rowsRead b d))) (subst (λ (es : Rows Fix). UpTo maxRadio es) all-next (a .radios))
 
     pub cells-radios : UpTo maxRadio (entriesFrom b (getD (d .slots) i noSlot .first))
     cells-radios = radios-here .0
@@ -227,7 +226,7 @@ module _ {old : Row Place → Bool} {b : List ℕ} (d : Directory) {t₀ t count
               ap (λ (z : List ℕ). z ++ map f rest) cut
               ∙ append-assoc (take i counts) (s ∷ []) (map f rest)
               ∙ ap (λ (n : ℕ). take i counts ++ (n ∷ map f rest)) h
-              ∙ ap (λ (z : List (Rows Place)). take i counts ++ map f z) (sym rows-next)
+              ∙ ap (λ (z : List (Rows Fix)). take i counts ++ map f z) (sym rows-next)
               ∙ a .counted;
           size = length-set counts i s ∙ l;
         })

@@ -14,16 +14,17 @@ ghost use Rattle.rules.specs.Limits.{maxCells};
 ghost use Rattle.rules.specs.Sweep.{isAt};
 ghost use Rattle.memo.specs.Memo.{lastOf};
 ghost use Rattle.sound_balance.specs.Tables.{fieldEnd, half, added, Named, judged};
-ghost use Rattle.sound_entries.specs.Entries.{entriesFrom, rowsRead, weigh, staleSum};
+ghost use Rattle.page.specs.Buffer.{entriesFrom};
+ghost use Rattle.sound_entries.specs.Entries.{rowsRead, weigh, staleSum};
+use desk::Desk;
+use desk::Directory;
+use desk::Line;
+use entries::Entry;
 use sound_balance::HALF;
 use sound_balance::RADIOS;
 use sound_balance::apart;
 use sound_balance::plus;
 use sound_balance::radio_index;
-use desk::Desk;
-use desk::Directory;
-use desk::Line;
-use entries::Entry;
 use terms::PAGES;
 
 pub const CELLS: usize = Desk::MAX_CELLS;
@@ -83,7 +84,9 @@ fn tally_page<'a>(
     balance: &'a mut [u16; RADIOS],
 ) -> u16
     requires { ⌜ (length (now page) ≡ pageBytes) × Named (now words) (now lines) × UpTo maxRadio (entries (now page)) ⌝ }
-    ensures { λ r. ⌜ (now (balance .exit) ≡ added (weigh (judged (now (words .entry)) (now (lines .entry)))) (now (balance .entry)) (entries (now (page .entry)))) × (r ≡ staleSum (judged (now (words .entry)) (now (lines .entry))) (entries (now (page .entry)))) × (r ≤ pageEntries) ⌝ }
+    ensures { λ r. ⌜ (now (balance .exit)
+        ≡ added (weigh (judged (now (words .entry)) (now (lines .entry)))) (now (balance .entry)) (entries (now (page .entry))))
+        × (r ≡ staleSum (judged (now (words .entry)) (now (lines .entry))) (entries (now (page .entry)))) × (r ≤ pageEntries) ⌝ }
 {
     let n = page::entry_count(page);
     let mut sum: u16 = 0;
@@ -109,7 +112,9 @@ fn tally_chain<'a>(
     balance: &'a mut [u16; RADIOS],
 ) -> u16
     requires { ⌜ Named (now words) (now lines) × UpTo maxRadio (entriesFrom (now pages) first) ⌝ }
-    ensures { λ r. ⌜ (now (balance .exit) ≡ added (weigh (judged (now (words .entry)) (now (lines .entry)))) (now (balance .entry)) (entriesFrom (now (pages .entry)) first)) × (r ≡ staleSum (judged (now (words .entry)) (now (lines .entry))) (entriesFrom (now (pages .entry)) first)) ⌝ }
+    ensures { λ r. ⌜ (now (balance .exit)
+        ≡ added (weigh (judged (now (words .entry)) (now (lines .entry)))) (now (balance .entry)) (entriesFrom (now (pages .entry)) first))
+        × (r ≡ staleSum (judged (now (words .entry)) (now (lines .entry))) (entriesFrom (now (pages .entry)) first)) ⌝ }
 {
     let mut sum: u16 = 0;
     let mut p = first;
@@ -135,10 +140,12 @@ pub fn tally_cells<'a>(
     balance: &'a mut [u16; RADIOS],
 ) -> [u16; CELLS]
     requires { ⌜ (cells .n ≤ maxCells) × Named (now words) (now lines) × UpTo maxRadio (concat (rowsRead (now pages) cells)) ⌝ }
-    ensures { λ r. ⌜ (now (balance .exit) ≡ added (weigh (judged (now (words .entry)) (now (lines .entry)))) (now (balance .entry)) (concat (rowsRead (now (pages .entry)) cells))) × (take (cells .n) r ≡ map (staleSum (judged (now (words .entry)) (now (lines .entry)))) (rowsRead (now (pages .entry)) cells)) ⌝ }
+    ensures { λ r. ⌜ (now (balance .exit)
+        ≡ added (weigh (judged (now (words .entry)) (now (lines .entry)))) (now (balance .entry)) (concat (rowsRead (now (pages .entry)) cells)))
+        × (take (cells .n) r ≡ map (staleSum (judged (now (words .entry)) (now (lines .entry)))) (rowsRead (now (pages .entry)) cells)) ⌝ }
 {
     let mut counts = [0u16; CELLS];
-    let n = cells.n;
+    let n = cells.n as usize;
     let mut i: usize = 0;
     while i < n {
         let s = cells.slots[i];

@@ -11,7 +11,7 @@ use Rattle.desk.specs.Layout.{noSlot}
 use Rattle.desk.specs.Views.{cutsBy, slotsIn, edgesOf as rectOf}
 use Rattle.sound_clauses.specs.Grid.{edgesTest}
 use Rattle.sound_grid.specs.Sound.{edgesSound}
-use Rattle.sound_directory.proofs.LoopLaws.{all-map}
+use Rattle.lists.proofs.SlotsLaws.{all-map}
 use Rattle.sound_grid.proofs.LoopLaws.{Passes, pass-fails, pass-turn, pass-end}
 
 -- a slot's edges are whole

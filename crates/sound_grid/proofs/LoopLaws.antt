@@ -7,7 +7,7 @@ use native.Mathlib.Omega.{arith}
 use lib.ListN.{length, getD, take, drop}
 use Rattle.lists.specs.Tests.{both, all}
 use Rattle.lists.proofs.TestsLaws.{both-left-false, all-cons, not-true, not-false}
-use Rattle.sound_directory.proofs.LoopLaws.{true-both, all-nil, used-cons, used-none}
+use Rattle.lists.proofs.SlotsLaws.{true-both, all-nil, used-cons, used-none}
 
 -- up to i they do: what is left to test is the test
 pub record Passes {A : Type 0} (p : A → Bool) (xs : List A) (n i : ℕ) : Type 0 where

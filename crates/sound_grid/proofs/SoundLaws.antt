@@ -9,7 +9,7 @@ use Rattle.desk.specs.declared.CutList.{CutList}
 use Rattle.desk.specs.declared.Directory.{Directory}
 use Rattle.sound_grid.specs.Sound.{edgesSound, tileSound, gridSound}
 use Rattle.sound_directory.specs.Sound.{slotsTest, number, cutsSound, directorySound}
-use Rattle.sound_directory.proofs.LoopLaws.{stops, goes}
+use Rattle.lists.proofs.SlotsLaws.{stops, goes}
 use Rattle.sound_directory.proofs.SlotLaws.{slots-count}
 use Rattle.sound_directory.proofs.DirectoryLaws.{directory-count}
 

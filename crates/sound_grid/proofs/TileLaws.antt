@@ -31,12 +31,13 @@ use Rattle.sound_clauses.proofs.LoopsLaws.{allTo-zero, allTo-suc, allTo-false, 
 use Rattle.sound_clauses.proofs.GridLaws.{WholeBoxes, by-axis, cuts-true, edges-true, tile-boxes}
 use Rattle.sound_edges.specs.declared.Extent.{Extent}
 use Rattle.sound_edges.specs.declared.Extent.the-variants.{Whole}
+use Rattle.sound_edges.specs.Edges.{extentOf}
 use Rattle.sound_grid.specs.Views.{rectsIn}
 use Rattle.boxes.specs.Boxes.{maxStripes, tableSize, boxAt}
 use Rattle.sound_grid.specs.Sound.{edgesSound, several, Raised, RaisedIf, inRow, inStripes, holders, rowOnce, rowsOnce, tileSound}
 use Rattle.sound_directory.specs.Sound.{slotsTest, number, cutsSound}
-use Rattle.sound_directory.proofs.LoopLaws.{same-at, goes, passed-true}
-use Rattle.sound_grid.proofs.ExtentLaws.{extent-whole, extentIn}
+use Rattle.lists.proofs.SlotsLaws.{same-at, goes, passed-true}
+use Rattle.sound_grid.proofs.ExtentLaws.{means-whole, extentIn}
 
 -- ---- lists
 
@@ -208,12 +209,12 @@ rect-at d i h = List·getD-map rectOf (take (d .n) (d .slots)) i noSlot ∙ ap r
 
 -- a cell's memory cells are those of its stripes
 pub slot-held : (easts norths : CutList) (x : Slot) {t u : List ℕ} {o p : Extent} {west east south north : ℕ}
-    → o ≡ extentIn easts (x .west) (x .east) → o ≡ Whole west east → p ≡ extentIn norths (x .south) (x .north) → p ≡ Whole south north
+    → extentOf o ≡ extentIn easts (x .west) (x .east) → o ≡ Whole west east → extentOf p ≡ extentIn norths (x .south) (x .north) → p ≡ Whole south north
     → Raised t u (inStripes west east south north) → RaisedIf true t u (holders (cutsBy easts norths) (rectOf x ∷ []))
 unfolding inStripes holders holdingBox sumBy holdsBox cutsIn
 slot-held easts norths x {west = west} {east = east} {south = south} {north = north} f g h k q =
-    let w = extent-whole (spanTest (cutsIn easts) (rectOf x .easts)) (stripes (cutsIn easts) (rectOf x .easts)) f g in
-    let s = extent-whole (spanTest (cutsIn norths) (rectOf x .norths)) (stripes (cutsIn norths) (rectOf x .norths)) h k in
+    let w = means-whole (spanTest (cutsIn easts) (rectOf x .easts)) (stripes (cutsIn easts) (rectOf x .easts)) f g in
+    let s = means-whole (spanTest (cutsIn norths) (rectOf x .norths)) (stripes (cutsIn norths) (rectOf x .norths)) h k in
     record {
       raised = λ _. raised-ext (holders (cutsBy easts norths) (rectOf x ∷ [])) q
           (λ m. let same : inStripes west east south north m ≡ one-if (holdsBox (cutsBy easts norths) m (rectOf x)) =

@@ -1,5 +1,5 @@
--- The test of soundness as far as it looks at cuts and directory alone (01, "A sound store"): the edges of each cell, and that the cells tile the area. They may be in any
--- condition, with a count beyond their slots or anything in the slots that are not used.
+-- The test of soundness as far as it looks at cuts and directory alone (01, "A sound store"): the edges of each cell, and that the cells tile the area. They
+-- may be in any condition, with a count beyond their slots or anything in the slots that are not used.
 use mathlib.Core.Bool.{Bool, true}
 use mathlib.Core.List.{List}
 use mathlib.Core.Path.{_≡_}
@@ -41,7 +41,8 @@ inRow west east row m = one-if (both (within (record { low = west; high = east }
 
 -- one more in a rectangle of stripes
 unfoldable pub inStripes : ℕ → ℕ → ℕ → ℕ → Box → ℕ
-inStripes west east south north m = one-if (both (within (record { low = west; high = east }) (m .east)) (within (record { low = south; high = north }) (m .north)))
+inStripes west east south north m =
+    one-if (both (within (record { low = west; high = east }) (m .east)) (within (record { low = south; high = north }) (m .north)))
 
 -- one more for each rectangle that has the memory cell
 unfoldable pub holders : Cuts → List Rect → Box → ℕ

@@ -1,4 +1,5 @@
-// The test of soundness as far as it looks at cuts and directory alone: with what each of them says by itself, the edges of each cell, and that the cells tile the area. They may be in any condition: a count is tested before a slot is looked at.
+// The test of soundness as far as it looks at cuts and directory alone: with what each of them says by itself, the edges of each cell, and that the cells tile
+// the area. They may be in any condition: a count is tested before a slot is looked at.
 ghost use mathlib.Core.Bool.{true};
 ghost use mathlib.Core.Path.{_≡_};
 ghost use mathlib.Core.List.{[], _∷_};
@@ -62,12 +63,14 @@ fn mark_cell<'a>(table: &'a mut [u8; BOXES], west: usize, east: usize, south: us
 // So are the memory cells of a cell, if it is a rectangle of whole ones.
 fn mark_slot<'a>(easts: CutList, norths: CutList, x: Slot, table: &'a mut [u8; BOXES]) -> bool
     requires { ⌜ (easts .n ≤ maxCuts) × (norths .n ≤ maxCuts) × (cutsSound easts ≡ true) × (cutsSound norths ≡ true) × (length (now table) ≡ tableSize) ⌝ }
-    ensures { λ r. ⌜ (r ≡ edgesTest (cutsBy easts norths) (rectOf x)) × RaisedIf r (now (table .entry)) (now (table .exit)) (holders (cutsBy easts norths) (rectOf x ∷ [])) ⌝ }
+    ensures { λ r. ⌜ (r ≡ edgesTest (cutsBy easts norths) (rectOf x))
+        × RaisedIf r (now (table .entry)) (now (table .exit)) (holders (cutsBy easts norths) (rectOf x ∷ [])) ⌝ }
 {
-    let Extent::Whole(west, east) = extent_of(&easts.at, easts.n, x.west, x.east) else {
+    let Extent::Whole(west, east) = extent_of(&easts.at, easts.n as usize, x.west, x.east) else {
         return false;
     };
-    let Extent::Whole(south, north) = extent_of(&norths.at, norths.n, x.south, x.north) else {
+    let Extent::Whole(south, north) = extent_of(&norths.at, norths.n as usize, x.south, x.north)
+    else {
         return false;
     };
     mark_cell(table, west, east, south, north);
@@ -76,11 +79,12 @@ fn mark_slot<'a>(easts: CutList, norths: CutList, x: Slot, table: &'a mut [u8; B
 
 // So are those of all cells, if each is such a rectangle.
 fn mark_cells<'a>(easts: CutList, norths: CutList, d: Directory, table: &'a mut [u8; BOXES]) -> bool
-    requires { ⌜ (easts .n ≤ maxCuts) × (norths .n ≤ maxCuts) × (d .n ≤ maxCells) × (cutsSound easts ≡ true) × (cutsSound norths ≡ true) × (length (now table) ≡ tableSize) ⌝ }
+    requires { ⌜ (easts .n ≤ maxCuts) × (norths .n ≤ maxCuts) × (d .n ≤ maxCells) × (cutsSound easts ≡ true) × (cutsSound norths ≡ true)
+        × (length (now table) ≡ tableSize) ⌝ }
     ensures { λ r. ⌜ (r ≡ edgesSound easts norths d) × RaisedIf r (now (table .entry)) (now (table .exit)) (holders (cutsBy easts norths) (rectsIn d)) ⌝ }
 {
     let mut i: usize = 0;
-    while i < d.n {
+    while i < d.n as usize {
         if !mark_slot(easts, norths, d.slots[i], table) {
             return false;
         }
@@ -129,7 +133,7 @@ fn cells_sound(easts: CutList, norths: CutList, d: Directory) -> bool
     if !mark_cells(easts, norths, d, &mut table) {
         return false;
     }
-    rows_once(&table, easts.n + 1, norths.n + 1)
+    rows_once(&table, easts.n as usize + 1, norths.n as usize + 1)
 }
 
 // ---- the grid

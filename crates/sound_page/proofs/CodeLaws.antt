@@ -9,7 +9,7 @@ use lib.Dec.{eqb, ltb}
 use lib.ListN.{length, drop, drop-of-length-le}
 use lib.Seq.{drop-cons}
 use borrow.Author.Tests.{eq-eqb, ne-eqb}
-use Rattle.terms.specs.Terms.{Place, pageEntries, noPage, noCell}
+use Rattle.terms.specs.Terms.{Fix, pageEntries, noPage, noCell}
 use Rattle.lists.specs.Parts.{tab}
 use Rattle.lists.specs.Rows.{Row, Rows}
 use Rattle.lists.specs.Tests.{both, either, all}
@@ -96,16 +96,16 @@ pub starts-none : (low : ℕ) (b : List ℕ) {n : ℕ} → n ≡ 0 → true ≡ 
 unfolding startsAbove tab
 starts-none low b e = rw e
 
-starts-tab : (low n : ℕ) (f : ℕ → Row Place) → startsAbove low (tab (suc n) f) ≡ ltb low (f 0 .key)
+starts-tab : (low n : ℕ) (f : ℕ → Row Fix) → startsAbove low (tab (suc n) f) ≡ ltb low (f 0 .key)
 unfolding startsAbove tab
 starts-tab low n f = refl
 
 pub starts-first : (low : ℕ) (b : List ℕ) (n : ℕ) (e : Entry) → (n ≡ 0 → ⊥) → rowOf e ≡ entryAt b 0 → ltb low (e .radio) ≡ startsAbove low (tab n (entryAt b))
 starts-first low b n e f g =
     let q : suc (n - 1) ≡ n = omega arith in
-    ap (λ (x : Row Place). ltb low (x .key)) g ∙ sym (starts-tab low (n - 1) (entryAt b)) ∙ ap (λ k. startsAbove low (tab k (entryAt b))) q
+    ap (λ (x : Row Fix). ltb low (x .key)) g ∙ sym (starts-tab low (n - 1) (entryAt b)) ∙ ap (λ k. startsAbove low (tab k (entryAt b))) q
 
-last-snoc : (low : ℕ) (xs : Rows Place) (x : Row Place) → lastRadio low (xs ++ (x ∷ [])) ≡ x .key
+last-snoc : (low : ℕ) (xs : Rows Fix) (x : Row Fix) → lastRadio low (xs ++ (x ∷ [])) ≡ x .key
 unfolding lastRadio
 last-snoc low [] x = refl
 last-snoc low (y ∷ xs) x = last-snoc (y .key) xs x
@@ -118,7 +118,7 @@ pub last-some : (low : ℕ) (b : List ℕ) (n : ℕ) (e : Entry) → n ≡ count
 unfolding entries
 last-some low b n e c f g =
     let q : n - 1 + 1 ≡ n = omega arith in
-    ap (λ (x : Row Place). x .key) g ∙ sym (last-snoc low (tab (n - 1) (entryAt b)) (entryAt b (n - 1)))
+    ap (λ (x : Row Fix). x .key) g ∙ sym (last-snoc low (tab (n - 1) (entryAt b)) (entryAt b (n - 1)))
     ∙ ap (lastRadio low) (sym (tab-suc (n - 1) (entryAt b)) ∙ ap (λ k. tab k (entryAt b)) (q ∙ c))
 
 -- ---- all_inside

@@ -9,9 +9,10 @@ use lib.ListN.{length, drop}
 use borrow.Author.Tests.{eqb-true, eq-eqb}
 use Rattle.terms.specs.Terms.{noCell}
 use Rattle.lists.specs.Parts.{tab}
+use Rattle.lists.specs.Tests.{isSome}
 use Rattle.lists.proofs.TestsLaws.{both-left, both-right, both-true, true-both}
 use Rattle.page.specs.Page.{pageBytes, headBytes, entryBytes, kindFree, roomOf, used, kind, cell, count, entries}
-use Rattle.page_layout.specs.Layout.{climb, climbs, top, laidOut}
+use Rattle.page_layout.specs.Layout.{climb, top, laidOut}
 use Rattle.page_layout.proofs.LayoutLaws.{climb-none}
 use Rattle.page_layout.proofs.TestLaws.{fits-free}
 use Rattle.sound_page.specs.PageTest.{isPage}
@@ -29,7 +30,7 @@ no-entry : (b : List ℕ) → used b ≡ headBytes → count b ≡ 0
 unfolding count
 no-entry b e = ap roomOf e
 
-no-climb : (b : List ℕ) → used b ≡ headBytes → climbs (climb 0 (entries b)) ≡ true
+no-climb : (b : List ℕ) → used b ≡ headBytes → isSome (climb 0 (entries b)) ≡ true
 unfolding entries tab
 no-climb b e = rw (no-entry b e, climb-none 0)
 

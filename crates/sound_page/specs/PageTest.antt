@@ -3,7 +3,7 @@ use mathlib.Core.Bool.{Bool, true}
 use mathlib.Core.List.{List, [], _∷_}
 use Prim.Native.Nat.{ℕ}
 use lib.Dec.{eqb, ltb}
-use Rattle.terms.specs.Terms.{Place, pageEntries, noPage}
+use Rattle.terms.specs.Terms.{Fix, pageEntries, noPage}
 use Rattle.lists.specs.Rows.{Row, Rows}
 use Rattle.lists.specs.Tests.{both, either, all}
 use Rattle.page.specs.Page.{kind, next, cell, count, entries}
@@ -21,16 +21,16 @@ unfoldable pub fullOrLast : List ℕ → Bool
 fullOrLast b = either (eqb (next b) noPage) (eqb (count b) pageEntries)
 
 -- the first radio, if any, is above low
-unfoldable pub startsAbove : ℕ → Rows Place → Bool
+unfoldable pub startsAbove : ℕ → Rows Fix → Bool
 startsAbove low [] = true
 startsAbove low (e ∷ es) = ltb low (e .key)
 
 -- the last radio, low for none
-unfoldable pub lastRadio : ℕ → Rows Place → ℕ
+unfoldable pub lastRadio : ℕ → Rows Fix → ℕ
 lastRadio low [] = low
 lastRadio low (e ∷ es) = lastRadio (e .key) es
 
-abbrev pub insideOf : Slot → Row Place → Bool
+abbrev pub insideOf : Slot → Row Fix → Bool
 insideOf s e = inside (edgesOf s) (e .val)
 
 -- a page of the cell's chain, the last radio before it being low

@@ -9,7 +9,7 @@ use lib.Dec.{eqb}
 use lib.ListN.{length, set, take, drop, length-append, length-set, length-drop, length-take, take-append-drop}
 use lib.Seq.{take-all, drop-at, take-at}
 use borrow.Author.Tests.{eqb-true, eqb-false, eq-eqb, ne-eqb, lt-ltb}
-use Rattle.terms.specs.Terms.{Place, maxRadio, pages, pageEntries, noPage, noCell}
+use Rattle.terms.specs.Terms.{Fix, maxRadio, pages, pageEntries, noPage, noCell}
 use Rattle.lists.specs.Chains.{firstOf}
 use Rattle.lists.specs.Rows.{Rows, Rising, UpTo}
 use Rattle.lists.specs.Sums.{count}
@@ -141,7 +141,7 @@ need k e = max (one-if (eqb k kindFirst)) ((e + (pageEntries - 1)) / pageEntries
 
 pub record Chain (b : List ℕ) (s : Slot) (m : List Bool) (k low p : ℕ) (w : Walk) : Type 0 where
   pub more : List ℕ
-  pub rows : Rows Place
+  pub rows : Rows Fix
   pub laid : Each (At b) (leaves k (s .number) (p ∷ more) rows)
   pub paged : suc (length more) ≡ need k (length rows)
   pub rising : Rising low rows
@@ -169,7 +169,7 @@ module _ (b : List ℕ) (small : Bytes b) (whole : length b ≡ bufferBytes) (s 
         record {
           more = [];
           rows = entries (pageAt b p);
-          laid = (g .bytes ∙ ap₂ (λ (x : ℕ) (es : Rows Place). pageOf k x (s .number) es) e (sym (take-all pageEntries (entries (pageAt b p)) (g .few))), tt);
+          laid = (g .bytes ∙ ap₂ (λ (x : ℕ) (es : Rows Fix). pageOf k x (s .number) es) e (sym (take-all pageEntries (entries (pageAt b p)) (g .few))), tt);
           paged = need-last k _ kinds (g .known) (g .further) (g .few);
           rising = c .rising;
           radios = g .radios;
@@ -229,7 +229,7 @@ need-two k e n h =
     (λ t. let g = rw t at h in (omega arith, omega arith))
 
 module _ (b : List ℕ) (s : Slot) where
-  pass-last : (fuel : ℕ) (m : List Bool) (k low p : ℕ) (es : Rows Place) → length m ≡ pages → Room m (λ q. count q (p ∷ [])) → length es ≤ pageEntries → kindFits k (length es) ≡ true
+  pass-last : (fuel : ℕ) (m : List Bool) (k low p : ℕ) (es : Rows Fix) → length m ≡ pages → Room m (λ q. count q (p ∷ [])) → length es ≤ pageEntries → kindFits k (length es) ≡ true
       → pageAt b p ≡ pageOf k noPage (s .number) es → Rising low es → UpTo maxRadio es → Each (λ e. insideOf s e ≡ true) es
       → Passes m (λ q. count q (p ∷ [])) (chainTest (suc fuel) b s m k low p)
   pass-last fuel m k low p es l r few fits a up to i =
@@ -240,12 +240,12 @@ module _ (b : List ℕ) (s : Slot) where
 
   abbrev Left : ℕ → Type 0
   Left fuel =
-      (m : List Bool) (k low p : ℕ) (ps : List ℕ) (es : Rows Place) → length m ≡ pages → length ps < fuel → Room m (λ q. count q (p ∷ ps)) → Each (At b) (leaves k (s .number) (p ∷ ps) es)
+      (m : List Bool) (k low p : ℕ) (ps : List ℕ) (es : Rows Fix) → length m ≡ pages → length ps < fuel → Room m (λ q. count q (p ∷ ps)) → Each (At b) (leaves k (s .number) (p ∷ ps) es)
       → kindFirst ≤ k → k ≤ kindFurther → suc (length ps) ≡ need k (length es) → Rising low es → UpTo maxRadio es → Each (λ e. insideOf s e ≡ true) es
       → Passes m (λ q. count q (p ∷ ps)) (chainTest fuel b s m k low p)
 
   -- a full page, and the rest of the chain
-  pass-more : (fuel : ℕ) → Left fuel → (m : List Bool) (k low p q : ℕ) (ps : List ℕ) (xs ys : Rows Place) → length m ≡ pages → suc (length ps) < suc fuel
+  pass-more : (fuel : ℕ) → Left fuel → (m : List Bool) (k low p q : ℕ) (ps : List ℕ) (xs ys : Rows Fix) → length m ≡ pages → suc (length ps) < suc fuel
       → Room m (λ u. count u (p ∷ q ∷ ps)) → kindFirst ≤ k → k ≤ kindFurther → length xs ≡ pageEntries → pageAt b p ≡ pageOf k q (s .number) xs
       → Each (At b) (leaves kindFurther (s .number) (q ∷ ps) ys) → suc (length ps) ≡ need kindFurther (length ys)
       → Rising low (xs ++ ys) → UpTo maxRadio (xs ++ ys) → Each (λ e. insideOf s e ≡ true) (xs ++ ys)

@@ -7,7 +7,7 @@ use native.Mathlib.Omega.{arith}
 use lib.Dec.{eqb, ltb}
 use lib.ListN.{length, List·getD-eq-default}
 use borrow.Author.Tests.{eqb-true, eq-eqb, lt-ltb, ltb-true, ltb-false}
-use Rattle.terms.specs.Terms.{Place, maxRadio, pages, pageEntries, noPage, noCell}
+use Rattle.terms.specs.Terms.{Fix, maxRadio, pages, pageEntries, noPage, noCell}
 use Rattle.lists.specs.Rows.{Rows, Rising, UpTo}
 use Rattle.lists.specs.Tests.{both, either, Each}
 use Rattle.lists.specs.Words.{Bytes}
@@ -26,22 +26,22 @@ use Rattle.sound_page.specs.PageTest.{isPage, fullOrLast, startsAbove, lastRadi
 
 -- ---- lists: radios from page to page
 
-above-rising : (low : ℕ) (es : Rows Place) → startsAbove low es ≡ true → Rising 0 es → Rising low es
+above-rising : (low : ℕ) (es : Rows Fix) → startsAbove low es ≡ true → Rising 0 es → Rising low es
 unfolding startsAbove
 above-rising low [] t r = tt
 above-rising low (e ∷ es) t r = (ltb-true low (e .key) t, r .1)
 
-rising-above : (low : ℕ) (es : Rows Place) → Rising low es → startsAbove low es ≡ true
+rising-above : (low : ℕ) (es : Rows Fix) → Rising low es → startsAbove low es ≡ true
 unfolding startsAbove
 rising-above low [] r = refl
 rising-above low (e ∷ es) r = lt-ltb low (e .key) (r .0)
 
-pub rising-join : (low : ℕ) (xs ys : Rows Place) → Rising low xs → Rising (lastRadio low xs) ys → Rising low (xs ++ ys)
+pub rising-join : (low : ℕ) (xs ys : Rows Fix) → Rising low xs → Rising (lastRadio low xs) ys → Rising low (xs ++ ys)
 unfolding lastRadio
 rising-join low [] ys r t = t
 rising-join low (x ∷ xs) ys r t = (r .0, rising-join (x .key) xs ys (r .1) t)
 
-pub rising-split : (low : ℕ) (xs ys : Rows Place) → Rising low (xs ++ ys) → Rising low xs × Rising (lastRadio low xs) ys
+pub rising-split : (low : ℕ) (xs ys : Rows Fix) → Rising low (xs ++ ys) → Rising low xs × Rising (lastRadio low xs) ys
 unfolding lastRadio
 rising-split low [] ys r = (tt, r)
 rising-split low (x ∷ xs) ys r = let t = rising-split (x .key) xs ys (r .1) in ((r .0, t .0), t .1)
@@ -82,11 +82,11 @@ page-right k c b small t =
       known = omega (arith, l .known .1);
       free = λ z. sym e ∙ l .free (kk ∙ z);
       further = λ z. omega (arith, l .further (kk ∙ z));
-      rising = subst (λ (x : Rows Place). Rising 0 x) e (l .rising);
-      radios = subst (λ (x : Rows Place). UpTo maxRadio x) e (l .radios);
+      rising = subst (λ (x : Rows Fix). Rising 0 x) e (l .rising);
+      radios = subst (λ (x : Rows Fix). UpTo maxRadio x) e (l .radios);
     }
 
-pub page-left : (k n c : ℕ) (es : Rows Place) → length es ≤ pageEntries → kindFits k (length es) ≡ true → Rising 0 es → UpTo maxRadio es → isPage k c (pageOf k n c es) ≡ true
+pub page-left : (k n c : ℕ) (es : Rows Fix) → length es ≤ pageEntries → kindFits k (length es) ≡ true → Rising 0 es → UpTo maxRadio es → isPage k c (pageOf k n c es) ≡ true
 unfolding isPage
 page-left k n c es few fits r u =
     let w = page-fields k n c es in
@@ -127,7 +127,7 @@ cell-right s k low b small t =
       placed = all-each (insideOf s) (λ e. insideOf s e ≡ true) (entries b) (λ e h. h) (both-right _ _ v);
     }
 
-pub cell-left : (s : Slot) (k low n : ℕ) (es : Rows Place) → length es ≤ pageEntries → kindFits k (length es) ≡ true → either (eqb n noPage) (eqb (length es) pageEntries) ≡ true
+pub cell-left : (s : Slot) (k low n : ℕ) (es : Rows Fix) → length es ≤ pageEntries → kindFits k (length es) ≡ true → either (eqb n noPage) (eqb (length es) pageEntries) ≡ true
     → Rising low es → UpTo maxRadio es → Each (λ e. insideOf s e ≡ true) es → pageOk s k low (pageOf k n (s .number) es) ≡ true
 unfolding pageOk fullOrLast
 cell-left s k low n es few fits full r u i =

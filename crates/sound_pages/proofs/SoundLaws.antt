@@ -7,7 +7,7 @@ use native.Mathlib.Omega.{arith}
 use lib.Dec.{eqb, ltb}
 use lib.ListN.{length, length-map, length-take}
 use borrow.Author.Tests.{eqb-true, eq-eqb, leb-true, le-leb}
-use Rattle.terms.specs.Terms.{Place, pages}
+use Rattle.terms.specs.Terms.{Fix, pages}
 use Rattle.lists.specs.Rows.{Rows}
 use Rattle.lists.specs.Sums.{concat, count}
 use Rattle.lists.specs.Tests.{one-if, Each}
@@ -94,7 +94,7 @@ module _ (b : List ℕ) (small : Bytes b) (whole : length b ≡ bufferBytes) whe
 -- ---- cells pass
 
 module _ (b : List ℕ) where
-  cell-passes : (m : List Bool) (n : ℕ) (edges : Rect) (chain : List ℕ) (es : Rows Place) → length m ≡ pages → Room m (λ q. count q chain)
+  cell-passes : (m : List Bool) (n : ℕ) (edges : Rect) (chain : List ℕ) (es : Rows Fix) → length m ≡ pages → Room m (λ q. count q chain)
       → Each (At b) (cellLeaves (record { number = n; edges = edges; chain = chain; entries = es })) → CellSound (record { number = n; edges = edges; chain = chain; entries = es })
       → Passes m (λ q. count q chain) (slotTest b m (slotOf (record { number = n; edges = edges; chain = chain; entries = es })))
   unfolding cellLeaves slotTest need pagesFor

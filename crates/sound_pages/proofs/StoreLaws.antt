@@ -8,12 +8,11 @@ use Rattle.lists.specs.Sums.{concat, count}
 use Rattle.lists.specs.Tests.{Each}
 use Rattle.lists.proofs.TestsLaws.{each-map, each-append, each-split}
 use Rattle.rules.specs.Store.{Cell, Store}
-use Rattle.rules.specs.WellFormed.{chains, GoodCell, WellFormed}
+use Rattle.rules.specs.WellFormed.{chains, GoodCell, WellFormed, PagesOnce}
 use Rattle.desk.specs.declared.Directory.{Directory}
 use Rattle.desk.specs.declared.Desk.{Desk}
 use Rattle.desk.specs.Layout.{directoryOf, gridOf, deskOf, At, cellsLeaves, freeLeaves, storeLeaves, Laid}
 use Rattle.desk.specs.Sound.{Sound}
-use Rattle.desk.proofs.PagesLaws.{PagesOnce}
 use Rattle.desk.proofs.UniqueLaws.{take-slots}
 use Rattle.sound_pages.specs.PagesSound.{CellSound, PagesSound}
 

@@ -19,14 +19,14 @@ use terms::PAGES;
 
 // ---- marks
 
-fn no_marks() -> [bool; 128]
+fn no_marks() -> [bool; PAGES]
     ensures { λ r. ⌜ r ≡ noMarks ⌝ }
 {
-    [false; 128]
+    [false; PAGES]
 }
 
 // One of the pages, and not met before. The marks are lent, for each page would get a copy of them.
-fn is_unmarked<'a>(marks: &'a [bool; 128], p: usize) -> bool
+fn is_unmarked<'a>(marks: &'a [bool; PAGES], p: usize) -> bool
     ensures { λ r. ⌜ r ≡ unmarked (now (marks .entry)) p ⌝ }
 {
     if PAGES <= p {
@@ -42,7 +42,7 @@ fn and(a: bool, b: bool) -> bool
 }
 
 // Every page is marked. It never leaves early, so that many marks are looked at at a time.
-fn all_marked(marks: [bool; 128]) -> bool
+fn all_marked(marks: [bool; PAGES]) -> bool
     ensures { λ r. ⌜ r ≡ all (λ x. x) marks ⌝ }
 {
     let mut so = true;
@@ -58,7 +58,7 @@ fn all_marked(marks: [bool; 128]) -> bool
 // Each answers whether it passes. The marks are lent, for each cell would get a copy of them.
 
 // The chain of a cell, by next page; each page is marked.
-fn walk_chain<'a>(pages: &'a [u8], s: Slot, marks: &'a mut [bool; 128]) -> bool
+fn walk_chain<'a>(pages: &'a [u8], s: Slot, marks: &'a mut [bool; PAGES]) -> bool
     requires { ⌜ length (now pages) ≡ bufferBytes ⌝ }
     ensures { λ r. ⌜ record { ok = r; marks = now (marks .exit) } ≡ slotTest (now (pages .entry)) (now (marks .entry)) s ⌝ }
 {
@@ -87,7 +87,7 @@ fn walk_chain<'a>(pages: &'a [u8], s: Slot, marks: &'a mut [bool; 128]) -> bool
 }
 
 // The free chain from its front.
-fn walk_free<'a>(pages: &'a [u8], marks: &'a mut [bool; 128], front: u16) -> bool
+fn walk_free<'a>(pages: &'a [u8], marks: &'a mut [bool; PAGES], front: u16) -> bool
     requires { ⌜ length (now pages) ≡ bufferBytes ⌝ }
     ensures { λ r. ⌜ record { ok = r; marks = now (marks .exit) } ≡ frontTest (now (pages .entry)) (now (marks .entry)) front ⌝ }
 {
@@ -112,11 +112,11 @@ fn walk_free<'a>(pages: &'a [u8], marks: &'a mut [bool; 128], front: u16) -> boo
 }
 
 // The chains of the directory's cells, one after the other.
-fn walk_slots<'a>(pages: &'a [u8], cells: Directory, marks: &'a mut [bool; 128]) -> bool
+fn walk_slots<'a>(pages: &'a [u8], cells: Directory, marks: &'a mut [bool; PAGES]) -> bool
     requires { ⌜ (length (now pages) ≡ bufferBytes) × (cells .n ≤ maxCells) ⌝ }
     ensures { λ r. ⌜ record { ok = r; marks = now (marks .exit) } ≡ slotsTest (now (pages .entry)) (now (marks .entry)) (take (cells .n) (cells .slots)) ⌝ }
 {
-    let n = cells.n;
+    let n = cells.n as usize;
     let mut i: usize = 0;
     while i < n {
         let s = cells.slots[i];
@@ -135,7 +135,7 @@ pub fn pages_sound(pages: &[u8], cells: Directory, free: u16) -> bool
     if pages.len() != PAGE_BYTES * PAGES {
         return false;
     }
-    if Desk::MAX_CELLS < cells.n {
+    if Desk::MAX_CELLS < cells.n as usize {
         return false;
     }
     let mut marks = no_marks();

@@ -21,11 +21,11 @@ use Rattle.desk.proofs.ReadLaws.{CellRead, Paged, cells-read, pages-enough}
 use Rattle.sound_clauses.specs.Loops.{passing}
 use Rattle.sound_clauses.specs.Cells.{rowsOf}
 use Rattle.sound_clauses.proofs.LoopsLaws.{passing-found, passing-concat}
-use Rattle.sweep.specs.Sweep.{entriesOn}
+use Rattle.page.specs.Buffer.{entriesOn, entriesFrom}
 use Rattle.sound_pages.specs.PagesSound.{CellSound, PagesSound}
 use Rattle.sound_pages.proofs.StoreLaws.{store-once, store-laid}
-use Rattle.sound_rows.proofs.CodeLaws.{map-map}
-use Rattle.sound_entries.specs.Entries.{entriesFrom, rowsRead}
+use Rattle.lists.proofs.MapLaws.{map-map}
+use Rattle.sound_entries.specs.Entries.{rowsRead}
 use Rattle.sound_radios.specs.Entries.{keyed}
 
 map-each : {A B : Type 0} (f g : A → B) (l : List A) → Each (λ x. f x ≡ g x) l → map f l ≡ map g l

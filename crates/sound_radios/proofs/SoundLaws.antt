@@ -5,7 +5,7 @@ use mathlib.Core.List.{List, map}
 use Prim.Native.Nat.{ℕ, _≤_}
 use native.Mathlib.Omega.{arith}
 use lib.ListN.{length, take}
-use Rattle.terms.specs.Terms.{Place, maxRadio, maxOn}
+use Rattle.terms.specs.Terms.{Fix, maxRadio, maxOn}
 use Rattle.lists.specs.Rows.{Row, Rows, Rising, UpTo}
 use Rattle.lists.specs.Sums.{concat}
 use Rattle.lists.specs.Tests.{both, all}
@@ -19,7 +19,7 @@ use Rattle.desk.specs.Views.{radiosOf}
 use Rattle.memo.specs.Memo.{linesOf}
 use Rattle.sound_clauses.specs.Radios.{onAt, presentTest, unmarkedTest, linesTest}
 use Rattle.sound_clauses.specs.Round.{staleCount, staleCounts, boundTest}
-use Rattle.sound_directory.proofs.LoopLaws.{stops, goes}
+use Rattle.lists.proofs.SlotsLaws.{stops, goes}
 use Rattle.waiting.specs.Waiting.{reportsOf}
 use Rattle.sound_balance.specs.Tables.{Blank, added, written, Named, markNew, belongsBy, missedOff, oneOff, allSettled}
 use Rattle.sound_entries.specs.Entries.{rowsRead, weigh, staleSum}
@@ -67,7 +67,7 @@ module _ {b : List ℕ} {d : Desk} (k : Known b d) where
   abbrev heard : Rows (Unit {0})
   heard = radiosOf (d .on)
 
-  abbrev rows : List (Rows Place)
+  abbrev rows : List (Rows Fix)
   rows = rowsRead b (d .grid .cells)
 
   module _ {z t₁ t₂ : List ℕ} {so : Bool} (blank : Blank z) (all-on : t₁ ≡ written oneOff z (radiosOf (d .on)))
@@ -83,14 +83,14 @@ module _ {b : List ℕ} {d : Desk} (k : Known b d) where
     unfolding entriesTest
     radios-off f = stops _ unmarked f
 
-    module _ (passed : not so ≡ false) {t₃ t₄ : List ℕ} {old : Row Place → Bool} (counts : List ℕ) {settled : Bool} (as-memo : old ≡ stale (linesOf (d .memo)))
+    module _ (passed : not so ≡ false) {t₃ t₄ : List ℕ} {old : Row Fix → Bool} (counts : List ℕ) {settled : Bool} (as-memo : old ≡ stale (linesOf (d .memo)))
         (all-new : t₃ ≡ added markNew t₂ (reportsOf (d .waiting))) (all-found : t₄ ≡ added (weigh old) t₃ (concat (rowsRead b (d .grid .cells))))
         (all-stale : take (d .grid .cells .n) counts ≡ map (staleSum old) (rowsRead b (d .grid .cells)))
         (said : settled ≡ allSettled t₄) where
       balance : t₄ ≡ added (weigh (stale lines)) (added markNew (added missedOff (written oneOff z heard) lines) waits) (concat rows)
       balance =
           all-found
-          ∙ ap₂ (λ (o : Row Place → Bool) (t : List ℕ). added (weigh o) t (concat rows)) as-memo (all-new ∙ ap (λ (t : List ℕ). added markNew t waits) due)
+          ∙ ap₂ (λ (o : Row Fix → Bool) (t : List ℕ). added (weigh o) t (concat rows)) as-memo (all-new ∙ ap (λ (t : List ℕ). added markNew t waits) due)
 
       tests : allSettled t₄ ≡ both (presentTest lines (concat rows) waits heard) (linesTest lines (concat rows))
       unfolding onAt
@@ -101,7 +101,7 @@ module _ {b : List ℕ} {d : Desk} (k : Known b d) where
 
       counted : take (d .grid .cells .n) counts ≡ staleCounts lines rows
       unfolding staleSum staleCount
-      counted = all-stale ∙ ap (λ (old : Row Place → Bool). map (staleSum old) rows) as-memo
+      counted = all-stale ∙ ap (λ (old : Row Fix → Bool). map (staleSum old) rows) as-memo
 
       pub radios-fail : not settled ≡ true → false ≡ entriesTest (linesOf (d .memo)) (reportsOf (d .waiting)) (radiosOf (d .on)) (d .tally) (rowsRead b (d .grid .cells))
       unfolding entriesTest

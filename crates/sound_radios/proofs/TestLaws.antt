@@ -9,7 +9,7 @@ use native.Mathlib.Omega.{arith}
 use lib.Dec.{eqb, ltb}
 use lib.ListN.{length, getD, replicate, length-replicate}
 use borrow.Author.Tests.{ltb-true, ltb-false, eqb-true, lt-ltb, eq-eqb, ne-eqb}
-use Rattle.terms.specs.Terms.{Place, maxRadio}
+use Rattle.terms.specs.Terms.{Fix, maxRadio}
 use Rattle.lists.specs.Rows.{Row, Rows, Rising, UpTo, find, countFound}
 use Rattle.lists.specs.Sums.{sumBy}
 use Rattle.lists.specs.Tests.{one-if, both, either, all, Each}
@@ -53,11 +53,11 @@ module _ {Val : Type 0} where
   unfolding passing both
   share-one t q l = sum-ext (share (λ x. one-if (t x)) q) (λ x. one-if (both (eqb q (x .key)) (t x))) l (λ x. by-cases (eqb q (x .key)) (λ e. rw e) (λ e. rw e))
 
-share-weight : (old : Row Place → Bool) (q : ℕ) (es : Rows Place) → sumBy (share (weigh old) q) es ≡ passing (λ x. not (old x)) q es + half * passing old q es
+share-weight : (old : Row Fix → Bool) (q : ℕ) (es : Rows Fix) → sumBy (share (weigh old) q) es ≡ passing (λ x. not (old x)) q es + half * passing old q es
 unfolding passing both
 share-weight old q es =
-    let f : Row Place → ℕ = λ x. one-if (both (eqb q (x .key)) (not (old x))) in
-    let g : Row Place → ℕ = λ x. one-if (both (eqb q (x .key)) (old x)) in
+    let f : Row Fix → ℕ = λ x. one-if (both (eqb q (x .key)) (not (old x))) in
+    let g : Row Fix → ℕ = λ x. one-if (both (eqb q (x .key)) (old x)) in
     sum-ext (share (weigh old) q) (λ x. f x + half * g x) es
     (λ x. by-cases (eqb q (x .key)) (λ e. rw e (by-cases (old x) (λ t. rw t) (λ t. rw t))) (λ e. rw e))
     ∙ sum-add f (λ x. half * g x) es ∙ ap (λ (n : ℕ). sumBy f es + n) (sum-times half g es)
@@ -69,7 +69,7 @@ low-short n m e h = absurd (omega arith)
 -- ---- what is found, less what is due
 
 -- of each radio: with its missed count it comes to what is found, less 1 where it is on
-abbrev Balance : Rows Line → Rows Place → Rows Report → Rows (Unit {0}) → List ℕ → Type 0
+abbrev Balance : Rows Line → Rows Fix → Rows Report → Rows (Unit {0}) → List ℕ → Type 0
 Balance memo es ws on t = (q : ℕ) → Comes t q (half * min (missedAt q memo) (half - 1)) ((fieldEnd - 1) * onAt q on + (liveAt memo q es + newAt q ws + half * staleAt memo q es))
 
 -- a radio on has 1 taken off
@@ -128,7 +128,7 @@ module _ (memo : Rows Line) (rise : Rising 0 memo) (ends : UpTo maxRadio memo) w
     unfolding unmarkedTest
     belong-unmarked ws = ap (λ (p : Row Report → Bool). all p ws) (fun-ext (λ w. ap (either (w .val .new)) (on-half (w .key))))
 
-    module _ (es : Rows Place) (ws : Rows Report) (radios : UpTo maxRadio es) (reports : UpTo maxRadio ws) where
+    module _ (es : Rows Fix) (ws : Rows Report) (radios : UpTo maxRadio es) (reports : UpTo maxRadio ws) where
       pub balance-counts : {t : List ℕ} → t ≡ added (weigh (stale memo)) (added markNew (added missedOff (written oneOff z on) memo) ws) es → Balance memo es ws on t
       unfolding liveAt newAt staleAt
       balance-counts {t} e q =
@@ -146,7 +146,7 @@ module _ (memo : Rows Line) (rise : Rising 0 memo) (ends : UpTo maxRadio memo) w
 
   -- ---- the lines' test, radio by radio
 
-  module _ (es : Rows Place) (counted : Each (λ l. 0 < l .val .missed) memo) where
+  module _ (es : Rows Fix) (counted : Each (λ l. 0 < l .val .missed) memo) where
     true-lines : ((q : ℕ) → q < tableSize → staleAt memo q es ≡ missedAt q memo) → linesTest memo es ≡ true
     unfolding linesTest lineTest
     true-lines h =
@@ -163,7 +163,7 @@ module _ (memo : Rows Line) (rise : Rising 0 memo) (ends : UpTo maxRadio memo) w
 in-full : (o d f n : ℕ) → o ≤ 1 → d < fieldEnd - 1 → f < fieldEnd → n ≡ 0 → (n + d) % fieldEnd ≡ ((fieldEnd - 1) * o + f) % fieldEnd → o + d ≡ f
 in-full o d f n h j k e g = omega arith
 
-module _ (memo : Rows Line) (es : Rows Place) (ws : Rows Report) (on : Rows (Unit {0})) (once : (q : ℕ) → keyed q es ≤ maxCells) (few : length ws ≤ fullMemory) (on-once : (q : ℕ) → onAt q on ≤ 1) (t : List ℕ)
+module _ (memo : Rows Line) (es : Rows Fix) (ws : Rows Report) (on : Rows (Unit {0})) (once : (q : ℕ) → keyed q es ≤ maxCells) (few : length ws ≤ fullMemory) (on-once : (q : ℕ) → onAt q on ≤ 1) (t : List ℕ)
     (balance : Balance memo es ws on t) where
   -- no count reaches what the high half counts
   low-entries : (q : ℕ) → staleAt memo q es + liveAt memo q es ≤ maxCells

@@ -1,9 +1,10 @@
--- The test of soundness as far as it judges entries: by memo, marks and who is on, and the round's inequality; and unmarked reports, by who is on (01, "A sound store").
+-- The test of soundness as far as it judges entries: by memo, marks and who is on, and the round's inequality; and unmarked reports, by who is on (01, "A sound
+-- store").
 use mathlib.Core.Bool.{Bool, true}
 use mathlib.Core.List.{List}
 use Prim.Native.Nat.{ℕ}
 use lib.ListN.{length}
-use Rattle.terms.specs.Terms.{Place}
+use Rattle.terms.specs.Terms.{Fix}
 use Rattle.lists.specs.Rows.{Rows}
 use Rattle.lists.specs.Sums.{concat}
 use Rattle.lists.specs.Tests.{both}
@@ -17,7 +18,7 @@ abbrev pub keyed : {Val : Type 0} → ℕ → Rows Val → ℕ
 keyed = passing (λ _. true)
 
 -- the mirror's tests that look at entries, and that of unmarked reports
-unfoldable pub entriesTest : Rows Line → Rows Report → Rows (Unit {0}) → ℕ → List (Rows Place) → Bool
+unfoldable pub entriesTest : Rows Line → Rows Report → Rows (Unit {0}) → ℕ → List (Rows Fix) → Bool
 entriesTest memo ws on c rows =
     -- "An unmarked waiting report belongs to a radio on."
     both (unmarkedTest ws on)

@@ -1,4 +1,5 @@
-// The test of soundness as far as it judges entries: by memo, marks and who is on, and the round's inequality; and unmarked reports, by who is on. Desk and pages have passed the tests of their own.
+// The test of soundness as far as it judges entries: by memo, marks and who is on, and the round's inequality; and unmarked reports, by who is on. Desk and
+// pages have passed the tests of their own.
 ghost use mathlib.Core.Bool.{true};
 ghost use mathlib.Core.Path.{_≡_};
 ghost use Prim.Native.Nat.{_+_, _-_, _*_, _<_, _≤_};
@@ -13,16 +14,16 @@ ghost use Rattle.waiting.specs.Waiting.{reportsOf};
 ghost use Rattle.sound_desk.specs.Sound.{deskSound};
 ghost use Rattle.sound_entries.specs.Entries.{rowsRead};
 ghost use Rattle.sound_radios.specs.Entries.{entriesTest};
+use desk::Desk;
+use desk::Grid;
+use desk::On;
+use desk::Waiting;
 use sound_balance::RADIOS;
 use sound_balance::SETTLED;
 use sound_balance::all_settled;
 use sound_balance::lines_due;
 use sound_balance::on_due;
 use sound_balance::tally_new;
-use desk::Desk;
-use desk::Grid;
-use desk::On;
-use desk::Waiting;
 use sound_entries::CELLS;
 use sound_entries::NO_LINE;
 use sound_entries::long;
@@ -53,22 +54,27 @@ fn bound_ok(counts: [u16; CELLS], n: usize, waiting: usize, c: u16) -> bool
     true
 }
 
-// Whether unmarked reports belong to radios on, the entries are those that memo, marks and who is on call for, and no more stale ones wait for the cleaner than may. The desk comes in its parts, for the memo is lent.
+// Whether unmarked reports belong to radios on, the entries are those that memo, marks and who is on call for, and no more stale ones wait for the cleaner than
+// may. The desk comes in its parts, for the memo is lent.
 pub fn radios_sound<'a>(
     pages: &'a [u8],
     grid: Grid,
     waiting: Waiting,
     words: &'a [u16; Desk::MEMO_WORDS],
-    n: usize,
+    n: u16,
     on: On,
     tally: u16,
 ) -> bool
-    requires { ⌜ (length (now words) ≡ lineFields * lineSlots) × (deskSound (record { grid = grid; waiting = waiting; memo = memoIn n (now words); on = on; tally = tally }) ≡ true) × PagesSound (now pages) (grid .cells) (grid .free) ⌝ }
-    ensures { λ r. ⌜ r ≡ entriesTest (linesOf (memoIn n (now (words .entry)))) (reportsOf waiting) (radiosOf on) tally (rowsRead (now (pages .entry)) (grid .cells)) ⌝ }
+    requires { ⌜ (length (now words) ≡ lineFields * lineSlots)
+        × (deskSound (record { grid = grid; waiting = waiting; memo = memoIn n (now words); on = on; tally = tally }) ≡ true)
+        × PagesSound (now pages) (grid .cells) (grid .free) ⌝ }
+    ensures { λ r. ⌜ r
+        ≡ entriesTest (linesOf (memoIn n (now (words .entry)))) (reportsOf waiting) (radiosOf on) tally
+        (rowsRead (now (pages .entry)) (grid .cells)) ⌝ }
 {
     let mut balance = [SETTLED; RADIOS];
     let mut lines = [NO_LINE; RADIOS];
-    on_due(&on.radios, on.n, &mut balance);
+    on_due(&on.radios, on.n as usize, &mut balance);
     lines_due(words, n, &mut balance, &mut lines);
     if !tally_new(waiting, &mut balance) {
         return false;
@@ -77,5 +83,5 @@ pub fn radios_sound<'a>(
     if !all_settled(&balance) {
         return false;
     }
-    bound_ok(counts, grid.cells.n, waiting.n, tally)
+    bound_ok(counts, grid.cells.n as usize, waiting.n as usize, tally)
 }

@@ -12,7 +12,7 @@ use Rattle.lists.proofs.Cases.{by-cases}
 use Rattle.lists.proofs.TestsLaws.{both-intro, both-left-false, both-right-false, all-cons, not-true, not-false}
 use Rattle.sound_clauses.specs.Loops.{risesTo}
 use Rattle.sound_clauses.proofs.LoopsLaws.{rises-nil, rises-cons}
-use Rattle.sound_directory.proofs.LoopLaws.{true-both, all-nil, used-cons, used-none}
+use Rattle.lists.proofs.SlotsLaws.{true-both, all-nil, used-cons, used-none}
 
 -- radios that rise, from above b, and every element passes
 unfoldable pub climbs : {A : Type 0} → (A → ℕ) → (A → Bool) → ℕ → List A → Bool

@@ -29,22 +29,14 @@ use Rattle.sound_clauses.specs.Radios.{onTest, memoTest, lastTest, lastsTest}
 use Rattle.sound_clauses.specs.Waiting.{waitingTest, placesTest}
 use Rattle.sound_clauses.proofs.LoopsLaws.{all-both}
 use Rattle.sound_directory.specs.Sound.{weighs, number}
-use Rattle.sound_directory.proofs.LoopLaws.{true-both, all-map, few-used, Weighed, weighed-end}
+use Rattle.lists.proofs.MapLaws.{map-map, map-same}
+use Rattle.lists.proofs.SlotsLaws.{true-both, all-map, few-used}
+use Rattle.sound_directory.proofs.LoopLaws.{Weighed, weighed-end}
 use Rattle.sound_directory.proofs.SlotLaws.{slots-long, slots-heavy, slots-fit, slots-unclear, slots-clear}
 use Rattle.waiting.specs.Waiting.{rowOf as reportRow, reportsOf}
 use Rattle.sound_rows.specs.Views.{placeOf}
 use Rattle.sound_rows.specs.Sound.{onSound, reportWeight, reportMarked, reportTest, waitingSound, lineWeight, lineMarked, missedTest, lineTest, memoSound}
 use Rattle.sound_rows.proofs.ClimbLaws.{climbs}
-
--- ---- lists
-
-pub map-map : {A B C : Type 0} (g : B → C) (f : A → B) (l : List A) → map g (map f l) ≡ map (λ x. g (f x)) l
-map-map g f [] = refl
-map-map g f (x ∷ xs) = ap (λ (y : List _). g (f x) ∷ y) (map-map g f xs)
-
-pub map-same : {A : Type 0} (f : A → A) → ((x : A) → f x ≡ x) → (l : List A) → map f l ≡ l
-map-same f h [] = refl
-map-same f h (x ∷ xs) = ap₂ _∷_ (h x) (map-same f h xs)
 
 -- ---- who is on
 

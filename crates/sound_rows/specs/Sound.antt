@@ -1,5 +1,5 @@
--- The test of soundness as far as it looks at radios on, at waiting reports or at memo lines, each by itself (01, "A sound store"). They may be in any condition,
--- with a count beyond their slots or anything in the slots that are not used.
+-- The test of soundness as far as it looks at radios on, at waiting reports or at memo lines, each by itself (01, "A sound store"). They may be in any
+-- condition, with a count beyond their slots or anything in the slots that are not used.
 use mathlib.Core.Bool.{Bool}
 use Prim.Native.Nat.{ℕ, _+_, _-_}
 use lib.Dec.{eqb, leb, ltb}

@@ -1,5 +1,5 @@
-// The test of soundness as far as it looks at radios on, at waiting reports or at memo lines, each by itself. They may be in any condition: a count is tested before a slot is
-// looked at.
+// The test of soundness as far as it looks at radios on, at waiting reports or at memo lines, each by itself. They may be in any condition: a count is tested
+// before a slot is looked at.
 ghost use mathlib.Core.Path.{_≡_};
 ghost use Prim.Native.Nat.{_*_, _≤_};
 ghost use lib.ListN.{length};
@@ -31,13 +31,13 @@ const UNMARKED: u16 = 0;
 pub fn on_sound(on: On) -> bool
     ensures { λ r. ⌜ r ≡ onSound on ⌝ }
 {
-    if Desk::MAX_ON < on.n {
+    if Desk::MAX_ON < on.n as usize {
         return false;
     }
-    if !is_clear(&on.radios, on.n) {
+    if !is_clear(&on.radios, on.n as usize) {
         return false;
     }
-    rises(&on.radios, on.n, terms::MAX_RADIO)
+    rises(&on.radios, on.n as usize, terms::MAX_RADIO)
 }
 
 // ---- waiting reports
@@ -60,11 +60,11 @@ fn report_ok(x: Report) -> bool
 pub fn waiting_sound(w: Waiting) -> bool
     ensures { λ r. ⌜ r ≡ waitingSound w ⌝ }
 {
-    if Desk::MAX_WAITING < w.n {
+    if Desk::MAX_WAITING < w.n as usize {
         return false;
     }
     let mut sum: u32 = 0;
-    let mut k = w.n;
+    let mut k = w.n as usize;
     while k < WAITING_SLOTS {
         sum = sum + report_weight(w.rows[k]);
         k += 1;
@@ -74,7 +74,7 @@ pub fn waiting_sound(w: Waiting) -> bool
     }
     let mut last: u16 = 0;
     let mut i: usize = 0;
-    while i < w.n {
+    while i < w.n as usize {
         let x = w.rows[i];
         if !goes_on(last, x.radio, terms::MAX_RADIO) {
             return false;
@@ -110,19 +110,19 @@ fn line_ok(x: Line) -> bool
 }
 
 // Whether the memo is sound: its unused fields are zero, its lines' radios rise and each line is one.
-pub fn memo_sound<'a>(words: &'a [u16; Desk::MEMO_WORDS], n: usize) -> bool
+pub fn memo_sound<'a>(words: &'a [u16; Desk::MEMO_WORDS], n: u16) -> bool
     requires { ⌜ length (now words) ≡ lineFields * lineSlots ⌝ }
     ensures { λ r. ⌜ r ≡ memoSound (memoIn n (now (words .entry))) ⌝ }
 {
-    if LINE_SLOTS < n {
+    if LINE_SLOTS < n as usize {
         return false;
     }
-    if !is_clear(words, Desk::LINE_FIELDS * n) {
+    if !is_clear(words, Desk::LINE_FIELDS * n as usize) {
         return false;
     }
     let mut last: u16 = 0;
     let mut i: usize = 0;
-    while i < n {
+    while i < n as usize {
         let x = desk::line_at(words, i);
         if !goes_on(last, x.radio, terms::MAX_RADIO) {
             return false;

@@ -8,7 +8,7 @@ use native.Mathlib.Numerals.{add-one}
 use lib.Dec.{ltb}
 use lib.ListN.{length, getD, set, take, length-set}
 use lib.Seq.{take-suc, take-suc-set, take-set-le}
-use Rattle.terms.specs.Terms.{Place, maxOn, noPage}
+use Rattle.terms.specs.Terms.{Fix, maxOn, noPage}
 use Rattle.lists.specs.Chains.{firstOf}
 use Rattle.lists.specs.Rows.{Row}
 use Rattle.lists.specs.Sums.{keep, filter}
@@ -57,13 +57,13 @@ module _ (e : Entry) (a at : ℕ) where
   pub low-north : (a ≡ 0 → ⊥) → ltb (e .north) at ≡ lowSide (cutAt a at) (rowOf e)
   low-north h = rw (axis-north a h)
 
-side-is : (b low : Bool) (c : Cut) (e : Row Place) → b ≡ lowSide c e → Bool·beq b low ≡ sideOf low c e
+side-is : (b low : Bool) (c : Cut) (e : Row Fix) → b ≡ lowSide c e → Bool·beq b low ≡ sideOf low c e
 side-is true true c e s = s
 side-is false true c e s = s
 side-is true false c e s = ap not s
 side-is false false c e s = ap not s
 
-module _ {b : Bool} (low : Bool) (c : Cut) (e : Row Place) (said : b ≡ lowSide c e) where
+module _ {b : Bool} (low : Bool) (c : Cut) (e : Row Fix) (said : b ≡ lowSide c e) where
   pub side-yes : Bool·beq b low ≡ true → 1 ≡ one-if (sideOf low c e)
   side-yes t = ap one-if (sym t ∙ side-is b low c e said)
 

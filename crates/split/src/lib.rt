@@ -10,7 +10,7 @@ ghost use Rattle.entries.specs.Entries.{rowOf, rowsOf};
 ghost use Rattle.rules.specs.Cut.{lowSide};
 ghost use Rattle.cut.specs.Choice.{cutAt};
 ghost use Rattle.split.specs.Split.{sideOf, lowSlot, highSlot};
-use cut::EAST;
+use desk::EAST;
 use desk::Slot;
 use entries::Entries;
 use entries::Entry;
@@ -38,7 +38,8 @@ fn stays(e: Entry, axis: u8, at: u16, low: bool) -> usize
 // The entries of one side: an entry is put after those kept, and kept where it lies there.
 fn part_of(es: Entries, axis: u8, at: u16, low: bool) -> Entries
     requires { ⌜ es .n ≤ maxOn ⌝ }
-    ensures { λ r. ⌜ (rowsOf r ≡ filter (sideOf low (cutAt axis at)) (rowsOf es)) × (r .n ≡ length (filter (sideOf low (cutAt axis at)) (rowsOf es))) × (r .n ≤ es .n) ⌝ }
+    ensures { λ r. ⌜ (rowsOf r ≡ filter (sideOf low (cutAt axis at)) (rowsOf es)) × (r .n ≡ length (filter (sideOf low (cutAt axis at)) (rowsOf es)))
+        × (r .n ≤ es .n) ⌝ }
 {
     let mut part = es;
     let mut kept: usize = 0;
@@ -56,7 +57,8 @@ fn part_of(es: Entries, axis: u8, at: u16, low: bool) -> Entries
 // The entries on the low side of the cut.
 pub fn low_part(es: Entries, axis: u8, at: u16) -> Entries
     requires { ⌜ es .n ≤ maxOn ⌝ }
-    ensures { λ r. ⌜ (rowsOf r ≡ filter (lowSide (cutAt axis at)) (rowsOf es)) × (r .n ≡ length (filter (lowSide (cutAt axis at)) (rowsOf es))) × (r .n ≤ es .n) ⌝ }
+    ensures { λ r. ⌜ (rowsOf r ≡ filter (lowSide (cutAt axis at)) (rowsOf es)) × (r .n ≡ length (filter (lowSide (cutAt axis at)) (rowsOf es)))
+        × (r .n ≤ es .n) ⌝ }
 {
     part_of(es, axis, at, true)
 }
@@ -64,7 +66,8 @@ pub fn low_part(es: Entries, axis: u8, at: u16) -> Entries
 // The entries on its other side.
 pub fn high_part(es: Entries, axis: u8, at: u16) -> Entries
     requires { ⌜ es .n ≤ maxOn ⌝ }
-    ensures { λ r. ⌜ (rowsOf r ≡ filter (λ e. not (lowSide (cutAt axis at) e)) (rowsOf es)) × (r .n ≡ length (filter (λ e. not (lowSide (cutAt axis at) e)) (rowsOf es))) × (r .n ≤ es .n) ⌝ }
+    ensures { λ r. ⌜ (rowsOf r ≡ filter (λ e. not (lowSide (cutAt axis at) e)) (rowsOf es))
+        × (r .n ≡ length (filter (λ e. not (lowSide (cutAt axis at) e)) (rowsOf es))) × (r .n ≤ es .n) ⌝ }
 {
     part_of(es, axis, at, false)
 }

@@ -2,25 +2,24 @@
 use mathlib.Core.Path.{_≡_, sym, ap, _∙_, subst}
 use mathlib.Core.Bool.{true}
 use mathlib.Core.List.{List, [], _∷_}
-use Prim.Native.Nat.{ℕ, _+_, _≤_, _<_}
+use Prim.Native.Nat.{ℕ, _+_, _≤_}
 use native.Mathlib.Omega.{arith}
 use lib.ListN.{length}
-use Rattle.terms.specs.Terms.{Place, maxOn, pages, noPage}
+use Rattle.terms.specs.Terms.{Fix, maxOn, pages, noPage}
 use Rattle.lists.specs.Chains.{firstOf}
 use Rattle.lists.specs.Rows.{Rows, Rising}
 use Rattle.lists.specs.Sums.{sumBy}
 use Rattle.lists.specs.Tests.{Each}
-use Rattle.lists.proofs.Cases.{list-cases}
-use Rattle.lists.proofs.SumsLaws.{sum-nil, sum-cons, sum-le, length-filter, length-filter-not}
+use Rattle.lists.proofs.SumsLaws.{sum-cons, sum-le, length-filter, length-filter-not}
 use Rattle.lists.proofs.TestsLaws.{each-map, each-zip}
 use Rattle.entries.specs.Entries.{rowsOf}
 use Rattle.page.specs.declared.Chain.{Chain}
-use Rattle.page.specs.Buffer.{there, pagesOf, chainFrom}
+use Rattle.page.specs.Buffer.{there, pagesOf, chainFrom, entriesOn}
 use Rattle.rules.specs.Store.{Line, Cell, Store}
 use Rattle.rules.specs.Sweep.{stale, sweptEntries, sweptMemo, swept}
 use Rattle.rules.specs.WellFormed.{WellFormed, chains, staleIn}
-use Rattle.rules.proofs.Parts.{Core, Rowed}
-use Rattle.rules.proofs.BooksLaws.{entries-total, memo-total}
+use Rattle.rules.proofs.BooksLaws.{entries-total}
+use Rattle.rules.specs.Parts.{Core, Rowed}
 use Rattle.rules.proofs.WellLaws.{well-core}
 use Rattle.desk.specs.declared.Memo.{Memo}
 use Rattle.desk.specs.Layout.{lineSlots, memoOf, Laid}
@@ -28,7 +27,6 @@ use Rattle.desk.proofs.ReadLaws.{CellRead, Paged, cells-read, pages-enough}
 use Rattle.memo.specs.Memo.{linesOf, Whole}
 use Rattle.memo.proofs.MemoLaws.{lines-are, whole-is, count-is}
 use Rattle.entries.specs.declared.Entries.{Entries}
-use Rattle.sweep.specs.Sweep.{entriesOn}
 
 -- ---- lists
 
@@ -76,13 +74,6 @@ cells-sweep s b k l =
 pub well-sweep : (s : Store) (b : List ℕ) → WellFormed s → Laid s b → Each (Sweepable b (s .memo)) (s .cells)
 well-sweep s b w = cells-sweep s b (well-core s w)
 
-pub well-memo : (s : Store) → WellFormed s → length (s .memo) < lineSlots
-well-memo s w =
-    let t = memo-total (well-core s w .books) in
-    list-cases (s .cells)
-    (λ e. omega (arith, t, ap (sumBy (staleIn (s .memo))) e, sum-nil (staleIn (s .memo))))
-    (λ c cs e. omega (arith, t, w .bounded 0 (omega (arith, ap length e)), w .tallied))
-
 -- ---- the call: what it asks, and what it gives
 
 module _ {b : List ℕ} {memo : Rows Line} {c : Cell} (cell : Sweepable b memo c) (chain : Chain) (m : Memo) (first : pagesOf chain ≡ chainFrom pages b (firstOf noPage (c .chain))) (held : m ≡ memoOf memo) where
@@ -97,7 +88,7 @@ module _ {b : List ℕ} {memo : Rows Line} {c : Cell} (cell : Sweepable b memo c
   cell-asks n f a = (
     n,
     subst (λ (l : List ℕ). Each (λ p. there b p ≡ true) l) (sym whole-chain) (cell .all-there),
-    subst (λ (l : Rows Place). Rising 0 l) (sym on-chain) (cell .rising),
+    subst (λ (l : Rows Fix). Rising 0 l) (sym on-chain) (cell .rising),
     whole-is memo held,
     omega (arith, count-is memo held),
     subst (λ (l : Rows Line). Rising 0 l) (sym (lines-are memo held)) a,

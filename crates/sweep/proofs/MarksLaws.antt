@@ -9,7 +9,7 @@ use lib.Dec.{eqb, ltb}
 use lib.ListN.{length, getD, set, replicate, length-set, length-replicate, getD-replicate}
 use lib.Seq.{getD-set-same, getD-set-other}
 use borrow.Author.Tests.{eqb-true, eqb-false, ltb-true, ltb-false, lt-ltb, le-ltb}
-use Rattle.terms.specs.Terms.{Place, maxOn}
+use Rattle.terms.specs.Terms.{Place, Fix, maxOn}
 use Rattle.lists.specs.Rows.{Row, Rows, Rising, find, rank, putRow, passed}
 use Rattle.lists.specs.Sums.{filter}
 use Rattle.lists.specs.Tests.{one-if, isSome, orElse}
@@ -64,11 +64,11 @@ module _ {Val : Type 0} where
 -- ---- marks
 
 module _ (lasts : Rows (Option Place)) where
-  abbrev next : List Bool → Row Place → List Bool
+  abbrev next : List Bool → Row Fix → List Bool
   next marks e = set marks (rank (e .key) lasts) (isStale lasts e)
 
   -- later entries leave the mark of a line before them
-  mark-stays : (q : ℕ) (o : Option Place) (marks : List Bool) (es : Rows Place) → find lasts q ≡ some o → Rising q es → getD (marked lasts marks es) (rank q lasts) false ≡ getD marks (rank q lasts) false
+  mark-stays : (q : ℕ) (o : Option Place) (marks : List Bool) (es : Rows Fix) → find lasts q ≡ some o → Rising q es → getD (marked lasts marks es) (rank q lasts) false ≡ getD marks (rank q lasts) false
   unfolding marked
   mark-stays q o marks [] f a = refl
   mark-stays q o marks (e ∷ es) f a =
@@ -76,7 +76,7 @@ module _ (lasts : Rows (Option Place)) where
       ∙ getD-set-other marks (rank (e .key) lasts) (rank q lasts) (isStale lasts e) false (λ z. absurd (omega (arith, rank-past q (e .key) lasts o (a .0) f)))
 
   -- an entry of another radio leaves a line without a mark
-  mark-other : (q : ℕ) (o : Option Place) (marks : List Bool) (e : Row Place) → find lasts q ≡ some o → (q ≡ e .key → ⊥) → rank q lasts < length marks → getD marks (rank q lasts) false ≡ false
+  mark-other : (q : ℕ) (o : Option Place) (marks : List Bool) (e : Row Fix) → find lasts q ≡ some o → (q ≡ e .key → ⊥) → rank q lasts < length marks → getD marks (rank q lasts) false ≡ false
       → getD (next marks e) (rank q lasts) false ≡ false
   mark-other q o marks e f n h z =
       by-cases (eqb (rank q lasts) (rank (e .key) lasts))
@@ -86,7 +86,7 @@ module _ (lasts : Rows (Option Place)) where
       (λ t. getD-set-other marks (rank (e .key) lasts) (rank q lasts) (isStale lasts e) false (eqb-false (rank q lasts) (rank (e .key) lasts) t) ∙ z)
 
   -- a line is marked by its radio's entry
-  mark-found : (b q : ℕ) (o : Option Place) (marks : List Bool) (es : Rows Place) → find lasts q ≡ some o → Rising b es → rank q lasts < length marks → getD marks (rank q lasts) false ≡ false
+  mark-found : (b q : ℕ) (o : Option Place) (marks : List Bool) (es : Rows Fix) → find lasts q ≡ some o → Rising b es → rank q lasts < length marks → getD marks (rank q lasts) false ≡ false
       → getD (marked lasts marks es) (rank q lasts) false ≡ isSome (passed (isStale lasts) q (find es q))
   unfolding marked find
   mark-found b q o marks [] f a h z = z
@@ -148,12 +148,12 @@ stale-last : (o : Option StoreLine) (p : Place) → elsewhere (Option·map (λ v
 stale-last none p = refl
 stale-last (some v) p = refl
 
-stale-lasts : (l : Rows StoreLine) (e : Row Place) → isStale (lastsOf l) e ≡ stale l e
+stale-lasts : (l : Rows StoreLine) (e : Row Fix) → isStale (lastsOf l) e ≡ stale l e
 stale-lasts l e = ap (λ o. elsewhere o (e .val)) (find-map (λ v. v .last) (e .key) l) ∙ stale-last (find l (e .key)) (e .val)
 
-pub stay-swept : (l : Rows StoreLine) (es : Rows Place) → stay (lastsOf l) es ≡ sweptEntries l es
+pub stay-swept : (l : Rows StoreLine) (es : Rows Fix) → stay (lastsOf l) es ≡ sweptEntries l es
 unfolding stay sweptEntries
-stay-swept l es = ap (λ (p : Row Place → Bool). filter (λ e. not (p e)) es) (fun-ext (stale-lasts l))
+stay-swept l es = ap (λ (p : Row Fix → Bool). filter (λ e. not (p e)) es) (fun-ext (stale-lasts l))
 
 lowered-none : (o : Option Place) → loweredIf o none ≡ none
 lowered-none none = refl
@@ -163,7 +163,7 @@ lowered-some : (o : Option Place) (v : StoreLine) → lowerIf (isSome o) v ≡ l
 lowered-some none v = refl
 lowered-some (some p) v = refl
 
-module _ (l : Rows StoreLine) (es : Rows Place) (rising : Rising 0 es) (lines : Rising 0 l) where
+module _ (l : Rows StoreLine) (es : Rows Fix) (rising : Rising 0 es) (lines : Rising 0 l) where
   abbrev marks : List Bool
   marks = marked (lastsOf l) (replicate linePlaces false) es
 
@@ -175,7 +175,7 @@ module _ (l : Rows StoreLine) (es : Rows Place) (rising : Rising 0 es) (lines : 
         let h : rank r (lastsOf l) < linePlaces = omega (arith, k, rank-le r l) in
         ap (λ (i : ℕ). getD marks i false) (sym k)
         ∙ mark-found (lastsOf l) 0 r (v .last) (replicate linePlaces false) es g rising (rw (length-replicate linePlaces false) h) (getD-replicate linePlaces (rank r (lastsOf l)) false false h)
-        ∙ ap (λ (p : Row Place → Bool). isSome (passed p r (find es r))) (fun-ext (stale-lasts l))
+        ∙ ap (λ (p : Row Fix → Bool). isSome (passed p r (find es r))) (fun-ext (stale-lasts l))
 
     lower-found : (r : ℕ) → lowerFound (markOf marks l) r (find l r) ≡ loweredIf (passed (stale l) r (find es r)) (find l r)
     lower-found r =
@@ -193,7 +193,7 @@ module _ (l : Rows StoreLine) (es : Rows Place) (rising : Rising 0 es) (lines : 
 pub chain-rising : (m : Memo) {lasts : Rows (Option Place)} → Rising 0 (linesOf m) → lasts ≡ lastsOf (linesOf m) → Rising 0 lasts
 chain-rising m lines read = rw read (rising-map (λ v. v .last) 0 (linesOf m) lines)
 
-module _ (m : Memo) (es : Rows Place) {lasts : Rows (Option Place)} (read : lasts ≡ lastsOf (linesOf m)) where
+module _ (m : Memo) (es : Rows Fix) {lasts : Rows (Option Place)} (read : lasts ≡ lastsOf (linesOf m)) where
   same-stay : stay lasts es ≡ sweptEntries (linesOf m) es
   same-stay = ap (λ (l : Rows (Option Place)). stay l es) read ∙ stay-swept (linesOf m) es
 

@@ -10,7 +10,7 @@ use native.Mathlib.Numerals.{add-one}
 use lib.ListN.{length, length-append, getD, set, take, drop, take-append-drop}
 use lib.Seq.{getD-take, length-take-le, take-suc, take-take, set-getD}
 use borrow.Author.Tests.{lt-ltb, le-ltb}
-use Rattle.terms.specs.Terms.{Place, maxOn, pages}
+use Rattle.terms.specs.Terms.{Place, Fix, maxOn, pages}
 use Rattle.lists.specs.Parts.{tab}
 use Rattle.lists.specs.Rows.{Row, Rows, Rising, rank, alter}
 use Rattle.lists.specs.Sums.{filter, concat}
@@ -25,10 +25,10 @@ use Rattle.entries.specs.declared.Entries.{Entries}
 use Rattle.entries.specs.Entries.{rowOf, rowsOf}
 use Rattle.entries.proofs.TableLaws.{rows-push}
 use Rattle.page.specs.Page.{count, entryAt, entries}
-use Rattle.page.specs.Buffer.{pageAt, there}
+use Rattle.page.specs.Buffer.{pageAt, there, entriesOn}
 use Rattle.rules.specs.Store.{Line}
 use Rattle.rules.specs.Sweep.{stale, lowered, lowerEach, sweptMemo}
-use Rattle.sweep.specs.Sweep.{entriesOn, radiosIn, lastsIn, isStale, stay, marked, slotAfter, Ready, Sweeps, SweepsAll}
+use Rattle.sweep.specs.Sweep.{radiosIn, lastsIn, isStale, stay, marked, slotAfter, Ready, Sweeps, SweepsAll}
 use Rattle.sweep.proofs.TableLaws.{rank-radios}
 
 -- ---- lists
@@ -52,11 +52,11 @@ module _ {A : Type 0} where
 -- ---- one run of entries after another
 
 module _ (l : Rows (Option Place)) where
-  stay-append : (a b : Rows Place) → stay l (a ++ b) ≡ stay l a ++ stay l b
+  stay-append : (a b : Rows Fix) → stay l (a ++ b) ≡ stay l a ++ stay l b
   unfolding stay
   stay-append a b = filter-append (λ e. not (isStale l e)) a b
 
-  marked-append : (marks : List Bool) (a b : Rows Place) → marked l marks (a ++ b) ≡ marked l (marked l marks a) b
+  marked-append : (marks : List Bool) (a b : Rows Fix) → marked l marks (a ++ b) ≡ marked l (marked l marks a) b
   unfolding marked
   marked-append marks [] b = refl
   marked-append marks (e ∷ a) b = marked-append (set marks (rank (e .key) l) (isStale l e)) a b
@@ -65,7 +65,7 @@ module _ (l : Rows (Option Place)) where
   unfolding stay filter marked
   sweeps-none t marks = record { table = sym (append-nil (rowsOf t)); count = omega arith; marks = refl }
 
-module _ {l : Rows (Option Place)} (es later : Rows Place) {s : Entries} (ready : Ready l s (es ++ later)) where
+module _ {l : Rows (Option Place)} (es later : Rows Fix) {s : Entries} (ready : Ready l s (es ++ later)) where
   parts : length (stay l (es ++ later)) ≡ length (stay l es) + length (stay l later)
   parts = ap length (stay-append l es later) ∙ length-append (stay l es) (stay l later)
 
@@ -78,7 +78,7 @@ module _ {l : Rows (Option Place)} (es later : Rows Place) {s : Entries} (ready 
 
     sweeps-then : {r : Entries} {k : List Bool} → Sweeps l t n later r k → Sweeps l s m (es ++ later) r k
     sweeps-then {r} {k} then = record {
-      table = then .table ∙ ap (λ (x : Rows Place). x ++ stay l later) (done .table) ∙ append-assoc (rowsOf s) (stay l es) (stay l later) ∙ ap (λ (x : Rows Place). rowsOf s ++ x) (sym (stay-append l es later));
+      table = then .table ∙ ap (λ (x : Rows Fix). x ++ stay l later) (done .table) ∙ append-assoc (rowsOf s) (stay l es) (stay l later) ∙ ap (λ (x : Rows Fix). rowsOf s ++ x) (sym (stay-append l es later));
       count = omega (arith, then .count, done .count, parts);
       marks = then .marks ∙ ap (λ (x : List Bool). marked l x later) (done .marks) ∙ sym (marked-append l m es later);
     }
@@ -88,7 +88,7 @@ module _ {l : Rows (Option Place)} (es later : Rows Place) {s : Entries} (ready 
 abbrev noEntry : Entry
 noEntry = record { radio = 0; east = 0; north = 0 }
 
-module _ (l : Rows (Option Place)) (x : Row Place) where
+module _ (l : Rows (Option Place)) (x : Row Fix) where
   one-goes : isStale l x ≡ true → stay l (x ∷ []) ≡ []
   unfolding stay filter
   one-goes t = rw t
@@ -110,7 +110,7 @@ module _ {l : Rows (Option Place)} (e : Entry) {k : ℕ} {all : List Entry} (siz
       let o = one-goes l (rowOf e) t in
       record {
         table = ap (λ (y : List Entry). rowsOf (record { n = k + 0; all = y })) (set-getD all (slotAfter k) noEntry) ∙ ap (λ (j : ℕ). rowsOf (record { n = j; all = all })) (add-zero k)
-            ∙ sym (append-nil (rowsOf (record { n = k; all = all }))) ∙ ap (λ (y : Rows Place). rowsOf (record { n = k; all = all }) ++ y) (sym o);
+            ∙ sym (append-nil (rowsOf (record { n = k; all = all }))) ∙ ap (λ (y : Rows Fix). rowsOf (record { n = k; all = all }) ++ y) (sym o);
         count = omega (arith, ap length o);
         marks = sym (one-marks l (rowOf e) marks);
       }
@@ -121,7 +121,7 @@ module _ {l : Rows (Option Place)} (e : Entry) {k : ℕ} {all : List Entry} (siz
       let o = one-stays l (rowOf e) t in
       let room : k < maxOn = omega (arith, ready .room, ap length o) in
       record {
-        table = rw (lt-ltb k maxOn room) (rows-push (record { n = k; all = all }) e (omega arith)) ∙ ap (λ (y : Rows Place). rowsOf (record { n = k; all = all }) ++ y) (sym o);
+        table = rw (lt-ltb k maxOn room) (rows-push (record { n = k; all = all }) e (omega arith)) ∙ ap (λ (y : Rows Fix). rowsOf (record { n = k; all = all }) ++ y) (sym o);
         count = omega (arith, ap length o);
         marks = sym (one-marks l (rowOf e) marks);
       }
@@ -142,7 +142,7 @@ slot-full n h = rw (le-ltb n maxOn h)
 
 -- ---- the entries of a page
 
-pub page-few : {l : Rows (Option Place)} {t : Entries} {es : Rows Place} → Ready l t es → t .n ≤ maxOn + 0
+pub page-few : {l : Rows (Option Place)} {t : Entries} {es : Rows Fix} → Ready l t es → t .n ≤ maxOn + 0
 page-few r = omega (arith, r .room)
 
 pub page-start : (l : Rows (Option Place)) (t : Entries) (marks : List Bool) (v : List ℕ) → Sweeps l t marks (tab 0 (entryAt v)) t marks
@@ -159,12 +159,12 @@ module _ {l : Rows (Option Place)} {s t : Entries} {m marks : List Bool} (b v : 
     next : Ready l s (tab i (entryAt v) ++ (rowOf e ∷ []))
     unfolding entries
     next =
-        let f : ℕ → Row Place = entryAt v in
+        let f : ℕ → Row Fix = entryAt v in
         let k : ℕ = n - (i + 1) in
         let z : count v ≡ i + 1 + k = omega arith in
         let whole : Ready l s (tab (i + 1 + k) f) = subst (λ (j : ℕ). Ready l s (tab j f)) z (subst (λ (w : List ℕ). Ready l s (entries w)) (sym here) ready) in
-        let front : Ready l s (tab (i + 1) f) = ready-front (tab (i + 1) f) (tab k (λ j. f (i + 1 + j))) (subst (λ (x : Rows Place). Ready l s x) (tab-front (i + 1) k f) whole) in
-        subst (λ (x : Row Place). Ready l s (tab i f ++ (x ∷ []))) (sym read) (subst (λ (x : Rows Place). Ready l s x) (tab-suc i f) front)
+        let front : Ready l s (tab (i + 1) f) = ready-front (tab (i + 1) f) (tab k (λ j. f (i + 1 + j))) (subst (λ (x : Rows Fix). Ready l s x) (tab-front (i + 1) k f) whole) in
+        subst (λ (x : Row Fix). Ready l s (tab i f ++ (x ∷ []))) (sym read) (subst (λ (x : Rows Fix). Ready l s x) (tab-suc i f) front)
 
     page-then : {r : Entries} {k : List Bool} → Sweeps l t marks (rowOf e ∷ []) r k → Sweeps l s m (tab (i + 1) (entryAt v)) r k
     page-then g = rw (tab-suc i (entryAt v), ← read) (sweeps-then (tab i (entryAt v)) (rowOf e ∷ []) next done g)
@@ -191,7 +191,7 @@ entriesOn-one : (b : List ℕ) (p : ℕ) → entriesOn b (p ∷ []) ≡ entries 
 unfolding entriesOn concat
 entriesOn-one b p = append-nil (entries (pageAt b p))
 
-pub chain-begins : (l : Rows (Option Place)) (t : Entries) {es : Rows Place} → Rising 0 l → t .n ≡ 0 → length (stay l es) ≤ maxOn → Ready l t es
+pub chain-begins : (l : Rows (Option Place)) (t : Entries) {es : Rows Fix} → Rising 0 l → t .n ≡ 0 → length (stay l es) ≤ maxOn → Ready l t es
 chain-begins l t a z r = record { rising = a; room = omega arith }
 
 pub chain-start : (l : Rows (Option Place)) (t : Entries) (marks : List Bool) (b ps : List ℕ) → Sweeps l t marks (entriesOn b (take 0 ps)) t marks
@@ -209,7 +209,7 @@ module _ (b ps : List ℕ) (n : ℕ) {i : ℕ} (size : length ps ≡ pages) (fit
   one-more =
       ap (entriesOn b) (rw add-one (take-suc ps i 0 (omega arith)))
       ∙ entriesOn-append b (take i ps) (here ∷ [])
-      ∙ ap (λ (l : Rows Place). entriesOn b (take i ps) ++ l) (entriesOn-one b here)
+      ∙ ap (λ (l : Rows Fix). entriesOn b (take i ps) ++ l) (entriesOn-one b here)
 
   rest : entriesOn b (take n ps) ≡ entriesOn b (take (i + 1) ps) ++ entriesOn b (drop (i + 1) (take n ps))
   rest =
@@ -220,30 +220,30 @@ module _ (b ps : List ℕ) (n : ℕ) {i : ℕ} (size : length ps ≡ pages) (fit
   module _ {l : Rows (Option Place)} {s t : Entries} {m marks : List Bool} (ready : Ready l s (entriesOn b (take n ps))) (done : Sweeps l s m (entriesOn b (take i ps)) t marks) where
     next-page : Ready l s (entriesOn b (take i ps) ++ entries (pageAt b here))
     next-page =
-        subst (λ (x : Rows Place). Ready l s x) one-more
-        (ready-front (entriesOn b (take (i + 1) ps)) (entriesOn b (drop (i + 1) (take n ps))) (subst (λ (x : Rows Place). Ready l s x) rest ready))
+        subst (λ (x : Rows Fix). Ready l s x) one-more
+        (ready-front (entriesOn b (take (i + 1) ps)) (entriesOn b (drop (i + 1) (take n ps))) (subst (λ (x : Rows Fix). Ready l s x) rest ready))
 
     pub chain-ready : Ready l t (entries (pageAt b here))
     chain-ready = ready-then (entriesOn b (take i ps)) (entries (pageAt b here)) next-page done
 
     pub chain-turn : {r : Entries} {k : List Bool} → Sweeps l t marks (entries (pageAt b here)) r k → Sweeps l s m (entriesOn b (take (i + 1) ps)) r k
-    chain-turn {r} {k} g = subst (λ (x : Rows Place). Sweeps l s m x r k) (sym one-more) (sweeps-then (entriesOn b (take i ps)) (entries (pageAt b here)) next-page done g)
+    chain-turn {r} {k} g = subst (λ (x : Rows Fix). Sweeps l s m x r k) (sym one-more) (sweeps-then (entriesOn b (take i ps)) (entries (pageAt b here)) next-page done g)
 
 -- the whole chain, from an empty table
 pub chain-end : (l : Rows (Option Place)) (b ps : List ℕ) {n i : ℕ} {t r : Entries} {m marks : List Bool} → i ≤ n → n ≤ i → rowsOf t ≡ [] → t .n ≡ 0 → Sweeps l t m (entriesOn b (take i ps)) r marks → SweepsAll l m (entriesOn b (take n ps)) r marks
 chain-end l b ps {n} {i} {t} {r} {m} {marks} h k e z d =
     let q : i ≡ n = omega arith in
     let s = subst (λ (j : ℕ). Sweeps l t m (entriesOn b (take j ps)) r marks) q d in
-    record { rows = s .table ∙ ap (λ (x : Rows Place). x ++ stay l (entriesOn b (take n ps))) e; count = omega (arith, s .count); marks = s .marks }
+    record { rows = s .table ∙ ap (λ (x : Rows Fix). x ++ stay l (entriesOn b (take n ps))) e; count = omega (arith, s .count); marks = s .marks }
 
 -- ---- the memo swept
 
-rising-lower : (b : ℕ) (es : Rows Place) (l : Rows Line) → Rising b es → Rising 0 l → Rising 0 (lowerEach es l)
+rising-lower : (b : ℕ) (es : Rows Fix) (l : Rows Line) → Rising b es → Rising 0 l → Rising 0 (lowerEach es l)
 unfolding lowerEach
 rising-lower b [] l a r = r
 rising-lower b (e ∷ es) l a r = rising-lower (e .key) es (alter lowered (e .key) l) (a .1) (rising-alter lowered 0 (e .key) l (omega arith) r)
 
-module _ (l : Rows Line) (es : Rows Place) (rising : Rising 0 es) (lines : Rising 0 l) where
+module _ (l : Rows Line) (es : Rows Fix) (rising : Rising 0 es) (lines : Rising 0 l) where
   pub rising-sweptMemo : Rising 0 (sweptMemo l es)
   unfolding sweptMemo
   rising-sweptMemo = rising-lower 0 (filter (stale l) es) l (rising-filter (stale l) 0 es rising) lines

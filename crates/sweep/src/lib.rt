@@ -1,5 +1,6 @@
-// Sweep a cell: the memo's radios and last places are written to tables, the cell's pages are read one after the other, each entry is judged by the tables, what stays goes
-// to a table of entries, and at the end each line that has lost an entry is lowered. The memo is read twice and written once. No page is written.
+// Sweep a cell: the memo's radios and last places are written to tables, the cell's pages are read one after the other, each entry is judged by the tables,
+// what stays goes to a table of entries, and at the end each line that has lost an entry is lowered. The memo is read twice and written once. No page is
+// written.
 ghost use mathlib.Core.Bool.{true, not, cond};
 ghost use mathlib.Core.Path.{_≡_};
 ghost use Prim.Native.Nat.{_*_, _<_, _≤_};
@@ -9,11 +10,11 @@ ghost use Rattle.lists.specs.Rows.{Rising, rank};
 ghost use Rattle.lists.specs.Tests.{Each};
 ghost use Rattle.entries.specs.Entries.{rowOf as entryRow, placeOf, rowsOf};
 ghost use Rattle.page.specs.Page.{entries};
-ghost use Rattle.page.specs.Buffer.{pageAt, there, pagesOf};
+ghost use Rattle.page.specs.Buffer.{pageAt, there, pagesOf, entriesOn};
 ghost use Rattle.rules.specs.Sweep.{isAt, sweptEntries, sweptMemo};
 ghost use Rattle.desk.specs.Layout.{lineSlots, lineFields, memoOf};
 ghost use Rattle.memo.specs.Memo.{memoIn, linesOf, Whole};
-ghost use Rattle.sweep.specs.Sweep.{entriesOn, linePlaces, radiosIn, lastAt, lastsIn, lastsOf, isStale, stay, slotAfter, Ready, Sweeps, SweepsAll};
+ghost use Rattle.sweep.specs.Sweep.{linePlaces, radiosIn, lastAt, lastsIn, lastsOf, isStale, stay, slotAfter, Ready, Sweeps, SweepsAll};
 use desk::Desk;
 use entries::Entries;
 use entries::Entry;
@@ -24,7 +25,7 @@ use page::Chain;
 // What stays of the entries read, and how many lines the memo then has.
 pub struct Swept {
     pub table: Entries,
-    pub lines: usize,
+    pub lines: u16,
 }
 
 // ---- the memo's lines in tables
@@ -38,8 +39,10 @@ fn read_lines<'a>(
     easts: &'a mut [u16; PLACES],
     norths: &'a mut [u16; PLACES],
 )
-    requires { ⌜ (length (now words) ≡ lineFields * lineSlots) × (n ≤ lineSlots) × (length (now radios) ≡ linePlaces) × (length (now placed) ≡ linePlaces) × (length (now easts) ≡ linePlaces) × (length (now norths) ≡ linePlaces) ⌝ }
-    ensures { λ _. ⌜ lastsIn n (now (radios .exit)) (now (placed .exit)) (now (easts .exit)) (now (norths .exit)) ≡ lastsOf (linesOf (memoIn n (now (words .entry)))) ⌝ }
+    requires { ⌜ (length (now words) ≡ lineFields * lineSlots) × (n ≤ lineSlots) × (length (now radios) ≡ linePlaces) × (length (now placed) ≡ linePlaces)
+        × (length (now easts) ≡ linePlaces) × (length (now norths) ≡ linePlaces) ⌝ }
+    ensures { λ _. ⌜ lastsIn n (now (radios .exit)) (now (placed .exit)) (now (easts .exit)) (now (norths .exit))
+        ≡ lastsOf (linesOf (memoIn n (now (words .entry)))) ⌝ }
 {
     let mut i: usize = 0;
     while i < n {
@@ -96,7 +99,8 @@ fn is_stale<'a>(
     easts: &'a [u16; PLACES],
     norths: &'a [u16; PLACES],
 ) -> bool
-    requires { ⌜ (n ≤ lineSlots) × Rising 0 (lastsIn n (now radios) (now placed) (now easts) (now norths)) × (at ≡ rank (e .radio) (radiosIn n (now radios))) ⌝ }
+    requires { ⌜ (n ≤ lineSlots) × Rising 0 (lastsIn n (now radios) (now placed) (now easts) (now norths))
+        × (at ≡ rank (e .radio) (radiosIn n (now radios))) ⌝ }
     ensures { λ r. ⌜ r ≡ isStale (lastsIn n (now (radios .entry)) (now (placed .entry)) (now (easts .entry)) (now (norths .entry))) (entryRow e) ⌝ }
 {
     if n <= at {
@@ -138,8 +142,10 @@ fn sweep_page<'a>(
     norths: &'a [u16; PLACES],
     marks: &'a mut [bool; PLACES],
 ) -> Entries
-    requires { ⌜ (there (now buffer) p ≡ true) × (n ≤ lineSlots) × Ready (lastsIn n (now radios) (now placed) (now easts) (now norths)) table (entries (pageAt (now buffer) p)) ⌝ }
-    ensures { λ r. ⌜ Sweeps (lastsIn n (now (radios .entry)) (now (placed .entry)) (now (easts .entry)) (now (norths .entry))) table (now (marks .entry)) (entries (pageAt (now (buffer .entry)) p)) r (now (marks .exit)) ⌝ }
+    requires { ⌜ (there (now buffer) p ≡ true) × (n ≤ lineSlots)
+        × Ready (lastsIn n (now radios) (now placed) (now easts) (now norths)) table (entries (pageAt (now buffer) p)) ⌝ }
+    ensures { λ r. ⌜ Sweeps (lastsIn n (now (radios .entry)) (now (placed .entry)) (now (easts .entry)) (now (norths .entry))) table (now (marks .entry))
+        (entries (pageAt (now (buffer .entry)) p)) r (now (marks .exit)) ⌝ }
 {
     let page = page::page_at(buffer, p as usize);
     let count = page::entry_count(page);
@@ -154,7 +160,7 @@ fn sweep_page<'a>(
         let slot = slot_after(k);
         let old = all[slot];
         all[slot] = entry_or(stale, old, e);
-        k = k + memo_sweep::one_if(!stale);
+        k = k + lists::one_if(!stale);
         i += 1;
     }
     Entries { n: k, all }
@@ -171,8 +177,11 @@ fn sweep_pages<'a>(
     norths: &'a [u16; PLACES],
     marks: &'a mut [bool; PLACES],
 ) -> Entries
-    requires { ⌜ (chain .n ≤ pages) × Each (λ p. there (now buffer) p ≡ true) (pagesOf chain) × (n ≤ lineSlots) × Rising 0 (lastsIn n (now radios) (now placed) (now easts) (now norths)) × (length (stay (lastsIn n (now radios) (now placed) (now easts) (now norths)) (entriesOn (now buffer) (pagesOf chain))) ≤ maxOn) ⌝ }
-    ensures { λ r. ⌜ SweepsAll (lastsIn n (now (radios .entry)) (now (placed .entry)) (now (easts .entry)) (now (norths .entry))) (now (marks .entry)) (entriesOn (now (buffer .entry)) (pagesOf chain)) r (now (marks .exit)) ⌝ }
+    requires { ⌜ (chain .n ≤ pages) × Each (λ p. there (now buffer) p ≡ true) (pagesOf chain) × (n ≤ lineSlots)
+        × Rising 0 (lastsIn n (now radios) (now placed) (now easts) (now norths))
+        × (length (stay (lastsIn n (now radios) (now placed) (now easts) (now norths)) (entriesOn (now buffer) (pagesOf chain))) ≤ maxOn) ⌝ }
+    ensures { λ r. ⌜ SweepsAll (lastsIn n (now (radios .entry)) (now (placed .entry)) (now (easts .entry)) (now (norths .entry))) (now (marks .entry))
+        (entriesOn (now (buffer .entry)) (pagesOf chain)) r (now (marks .exit)) ⌝ }
 {
     let mut table = Entries::empty();
     let mut i: usize = 0;
@@ -186,26 +195,39 @@ fn sweep_pages<'a>(
 
 // ---- a chain
 
-// "remove each entry whose radio has a memo line with another place or none; lower the missed count by 1; drop the line at 0": the entries on the pages of a chain.
+// "remove each entry whose radio has a memo line with another place or none; lower the missed count by 1; drop the line at 0": the entries on the pages of a
+// chain.
 pub fn sweep_chain<'a>(
     buffer: &'a [u8],
     chain: Chain,
     words: &'a mut [u16; Desk::MEMO_WORDS],
-    n: usize,
+    n: u16,
 ) -> Swept
-    requires { ⌜ (chain .n ≤ pages) × Each (λ p. there (now buffer) p ≡ true) (pagesOf chain) × Rising 0 (entriesOn (now buffer) (pagesOf chain)) × Whole (memoIn n (now words)) × (n ≤ lineSlots) × Rising 0 (linesOf (memoIn n (now words))) × (length (sweptEntries (linesOf (memoIn n (now words))) (entriesOn (now buffer) (pagesOf chain))) ≤ maxOn) ⌝ }
-    ensures { λ r. ⌜ (rowsOf (r .table) ≡ sweptEntries (linesOf (memoIn n (now (words .entry)))) (entriesOn (now (buffer .entry)) (pagesOf chain))) × (r .table .n ≡ length (sweptEntries (linesOf (memoIn n (now (words .entry)))) (entriesOn (now (buffer .entry)) (pagesOf chain)))) × (memoIn (r .lines) (now (words .exit)) ≡ memoOf (sweptMemo (linesOf (memoIn n (now (words .entry)))) (entriesOn (now (buffer .entry)) (pagesOf chain)))) ⌝ }
+    requires { ⌜ (chain .n ≤ pages) × Each (λ p. there (now buffer) p ≡ true) (pagesOf chain) × Rising 0 (entriesOn (now buffer) (pagesOf chain))
+        × Whole (memoIn n (now words)) × (n ≤ lineSlots) × Rising 0 (linesOf (memoIn n (now words)))
+        × (length (sweptEntries (linesOf (memoIn n (now words))) (entriesOn (now buffer) (pagesOf chain))) ≤ maxOn) ⌝ }
+    ensures { λ r. ⌜ (rowsOf (r .table) ≡ sweptEntries (linesOf (memoIn n (now (words .entry)))) (entriesOn (now (buffer .entry)) (pagesOf chain)))
+        × (r .table .n ≡ length (sweptEntries (linesOf (memoIn n (now (words .entry)))) (entriesOn (now (buffer .entry)) (pagesOf chain))))
+        × (memoIn (r .lines) (now (words .exit))
+        ≡ memoOf (sweptMemo (linesOf (memoIn n (now (words .entry)))) (entriesOn (now (buffer .entry)) (pagesOf chain)))) ⌝ }
 {
     let mut radios = [0u16; PLACES];
     let mut placed = [0u16; PLACES];
     let mut easts = [0u16; PLACES];
     let mut norths = [0u16; PLACES];
-    read_lines(words, n, &mut radios, &mut placed, &mut easts, &mut norths);
+    read_lines(
+        words,
+        n as usize,
+        &mut radios,
+        &mut placed,
+        &mut easts,
+        &mut norths,
+    );
     let mut marks = [false; PLACES];
     let table = sweep_pages(
         buffer,
         chain,
-        n,
+        n as usize,
         &radios,
         &placed,
         &easts,

@@ -9,64 +9,61 @@ use Rattle.terms.specs.Terms.{maxOn, pages, noPage}
 use Rattle.lists.specs.Chains.{firstOf}
 use Rattle.lists.specs.Rows.{Rising}
 use Rattle.lists.specs.Tests.{Each}
-use Rattle.lists.proofs.AmongLaws.{Among, each-among}
+use Rattle.lists.specs.Among.{Among}
+use Rattle.lists.proofs.AmongLaws.{each-among}
 use Rattle.entries.specs.Entries.{rowsOf}
-use Rattle.page.specs.Buffer.{there, pagesOf, chainFrom, endFrom}
+use Rattle.page.specs.Buffer.{there, pagesOf, chainFrom, endOf, endFrom, entriesOn}
 use Rattle.page.specs.declared.Chain.{Chain}
 use Rattle.rules.specs.Limits.{sweepEvery}
 use Rattle.rules.specs.Store.{Store}
 use Rattle.rules.specs.Sweep.{sweptEntries, sweptMemo, swept}
+use Rattle.rules.specs.Midway.{MidCall}
 use Rattle.rules.proofs.BooksLaws.{memo-total}
-use Rattle.rules.proofs.FlushLaws.{Staged}
 use Rattle.rules.proofs.RoundLaws.{bounded-total}
 use Rattle.rules.proofs.TilingLaws.{some-cell}
 use Rattle.desk.specs.declared.Grid.{Grid}
 use Rattle.desk.specs.declared.Memo.{Memo}
 use Rattle.desk.specs.declared.Slot.{Slot}
 use Rattle.desk.specs.Layout.{lineSlots, noSlot, directoryOf, gridOf, memoOf}
+use Rattle.desk.specs.Laid.{LaidGrid, LaidMemo}
 use Rattle.memo.specs.Memo.{memoIn, linesOf, Whole}
-use Rattle.cell_last.specs.Loose.{Lays}
-use Rattle.cell_last.proofs.MovedLaws.{lays-same}
+use Rattle.cell_last.proofs.MovedLaws.{grid-same}
 use Rattle.sweep.specs.declared.Swept.{Swept}
-use Rattle.sweep.specs.Sweep.{entriesOn}
 use Rattle.sweep.proofs.CellLaws.{Sweepable, cells-sweep, cell-asks, cell-gives}
-use Rattle.tally.specs.Tally.{Holds, AtPlace, InHand}
+use Rattle.tally.specs.Tally.{BeforeSweepAt, InHand}
 
 -- ---- what is held
 
-pub holds-lays : {s : Store} {g : Grid} {memo : Memo} {b : List ℕ} → Holds s g memo b → Lays s g b
-holds-lays h = record { held = h .grid-is; laid = h .laid }
-
 -- parts and pages that lay out a store lay out any other with the same cuts, cells, free chain and memo
-pub holds-same : {g : Grid} {memo : Memo} {b : List ℕ} (s t : Store) → s .cuts ≡ t .cuts → s .cells ≡ t .cells → s .free ≡ t .free → memo ≡ memoOf (t .memo) → Lays s g b → Holds t g memo b
-holds-same s t e f h m l = let k = lays-same s t e f h l in record { grid-is = k .held; memo-is = m; laid = k .laid }
+pub memo-same : {g : Grid} {memo : Memo} {b : List ℕ} (s t : Store) → s .cuts ≡ t .cuts → s .cells ≡ t .cells → s .free ≡ t .free → memo ≡ memoOf (t .memo) → LaidGrid s g b → LaidMemo t g memo b
+memo-same s t e f h m l = record { in-grid = grid-same s t e f h l; memo-is = m }
 
-pub holds-cells : {s : Store} {g : Grid} {memo : Memo} {b : List ℕ} → Holds s g memo b → g .cells ≡ directoryOf (s .cells)
+pub laid-cells : {s : Store} {g : Grid} {memo : Memo} {b : List ℕ} → LaidMemo s g memo b → g .cells ≡ directoryOf (s .cells)
 unfolding gridOf
-holds-cells h = ap (λ (g : Grid). g .cells) (h .grid-is)
+laid-cells h = ap (λ (g : Grid). g .cells) (h .in-grid .grid-is)
 
 -- ---- a cell of the store
 
 -- the memo has room for its lines
-pub few-lines : (s : Store) (c : ℕ) → Staged s c → c ≤ sweepEvery → length (s .memo) ≤ lineSlots
+pub few-lines : (s : Store) (c : ℕ) → MidCall s c → c ≤ sweepEvery → length (s .memo) ≤ lineSlots
 few-lines s c g late =
     omega (arith, memo-total (g .core .books), bounded-total (s .memo) (s .cells) (length (s .waiting)) c (g .bounded) (some-cell (g .core .tiling)))
 
-module _ {grid : Grid} {at : ℕ} {memo : Memo} {b : List ℕ} (x : AtPlace grid at memo b) where
+module _ {grid : Grid} {at : ℕ} {memo : Memo} {b : List ℕ} (x : BeforeSweepAt grid at memo b) where
   abbrev pub among-place : Among (x .store .cells) (x .cell)
   among-place = record { before = take at (x .store .cells); after = drop (suc at) (x .store .cells); split = x .stands .split }
 
   sweepable-place : Sweepable b (x .store .memo) (x .cell)
-  sweepable-place = each-among (Sweepable b (x .store .memo)) (cells-sweep (x .store) b (x .staged .core) (x .holds .laid)) among-place
+  sweepable-place = each-among (Sweepable b (x .store .memo)) (cells-sweep (x .store) b (x .mid .core) (x .laid .in-grid .laid)) among-place
 
   -- `read_chain` has read its pages
-  module _ (chain : Chain) (read : (pagesOf chain ≡ chainFrom pages b (getD (grid .cells .slots) at noSlot .first)) × (chain .end ≡ endFrom pages b (getD (grid .cells .slots) at noSlot .first)) × (chain .n ≤ pages)) where
+  module _ (chain : Chain) (read : (pagesOf chain ≡ chainFrom pages b (getD (grid .cells .slots) at noSlot .first)) × (endOf (chain .end) ≡ endFrom pages b (getD (grid .cells .slots) at noSlot .first)) × (chain .n ≤ pages)) where
     first-place : pagesOf chain ≡ chainFrom pages b (firstOf noPage (x .cell .chain))
     first-place = read .0 ∙ ap (λ (s : Slot). chainFrom pages b (s .first)) (x .stands .element)
 
     -- what `sweep_chain` asks
     pub place-asks : (chain .n ≤ pages) × Each (λ p. there b p ≡ true) (pagesOf chain) × Rising 0 (entriesOn b (pagesOf chain)) × Whole memo × (memo .n ≤ lineSlots) × Rising 0 (linesOf memo) × (length (sweptEntries (linesOf memo) (entriesOn b (pagesOf chain))) ≤ maxOn)
-    place-asks = cell-asks sweepable-place chain memo first-place (x .holds .memo-is) (read .2) (few-lines (x .store) (x .c) (x .staged) (x .late)) (x .staged .core .books .memo-rises)
+    place-asks = cell-asks sweepable-place chain memo first-place (x .laid .memo-is) (read .2) (few-lines (x .store) (x .c) (x .mid) (x .late)) (x .mid .core .books .memo-rises)
 
     -- what it leaves
     pub place-gives : (s : Swept) {ws : List ℕ}
@@ -74,7 +71,7 @@ module _ {grid : Grid} {at : ℕ} {memo : Memo} {b : List ℕ} (x : AtPlace grid
         → InHand (swept (x .store .memo) (x .cell)) (sweptMemo (x .store .memo) (x .cell .entries)) (record { chain = chain; table = s .table; lines = s .lines }) ws
     unfolding swept
     place-gives s g =
-        let k = cell-gives sweepable-place chain memo first-place (x .holds .memo-is) (s .table) g in
+        let k = cell-gives sweepable-place chain memo first-place (x .laid .memo-is) (s .table) g in
         record {
           bound = read .2;
           chained = first-place ∙ sweepable-place .read;

@@ -15,19 +15,20 @@ use Rattle.rules.specs.Limits.{sweepEvery}
 use Rattle.rules.specs.Store.{Line, Cell}
 use Rattle.rules.specs.Sweep.{stale, sweptEntries, sweptMemo, swept, sweepFront, tick}
 use Rattle.rules.specs.WellFormed.{chains}
+use Rattle.rules.specs.Midway.{MidCallRoomy}
 use Rattle.rules.proofs.PagedLaws.{pagesFor-le}
-use Rattle.rules.proofs.StepLaws.{Done}
 use Rattle.rules.proofs.TilingLaws.{some-cell}
 use Rattle.lists.specs.Rows.{Rows}
 use Rattle.lists.proofs.AmongLaws.{each-among}
 use Rattle.desk.specs.declared.Grid.{Grid}
 use Rattle.desk.specs.declared.Memo.{Memo}
+use Rattle.desk.specs.Laid.{LaidGrid, LaidMemo}
 use Rattle.directory.proofs.DirectoryLaws.{stands-index}
-use Rattle.cell_last.specs.Loose.{Loose, Lays, movedLast}
+use Rattle.cell_last.specs.Settling.{HandFits, BeforeSettle, movedLast}
 use Rattle.memo.specs.Memo.{memoIn}
 use Rattle.tally.specs.declared.Hand.{Hand}
-use Rattle.tally.specs.Tally.{Holds, AtPlace, InHand, Tallied, Sixteenth, Ticks}
-use Rattle.tally.proofs.HandLaws.{holds-lays, holds-same, holds-cells, among-place}
+use Rattle.tally.specs.Tally.{BeforeSweepAt, InHand, BeforeTally, BeforeSweep, AfterTally}
+use Rattle.tally.proofs.HandLaws.{memo-same, laid-cells, among-place}
 
 -- ---- the front of the round
 
@@ -35,24 +36,24 @@ few-stay : (memo : Rows Line) (c : Cell) → length (swept memo c .entries) ≤ 
 unfolding swept sweptEntries
 few-stay memo c = omega (arith, length-filter-not (stale memo) (c .entries))
 
-module _ {grid : Grid} {memo : Memo} {b : List ℕ} (x : Sixteenth grid memo b) where
-  abbrev pub front-place : AtPlace grid 0 memo b
+module _ {grid : Grid} {memo : Memo} {b : List ℕ} (x : BeforeSweep grid memo b) where
+  abbrev pub front-place : BeforeSweepAt grid 0 memo b
   front-place =
-      let f = stands-index (x .store .cells) (holds-cells (x .holds)) 0 (some-cell (x .done .staged .core .tiling)) in
-      record { store = x .store; c = sweepEvery; staged = x .done .staged; late = omega arith; holds = x .holds; cell = f .0; stands = f .1 }
+      let f = stands-index (x .store .cells) (laid-cells (x .laid)) 0 (some-cell (x .roomy .mid .core .tiling)) in
+      record { store = x .store; c = sweepEvery; mid = x .roomy .mid; late = omega arith; laid = x .laid; cell = f .0; stands = f .1 }
 
   abbrev front : Cell
   front = front-place .cell
 
   -- `swept_at` has read it
-  module _ (hand : Hand) (ws : List ℕ) (given : (y : AtPlace grid 0 memo b) → InHand (swept (y .store .memo) (y .cell)) (sweptMemo (y .store .memo) (y .cell .entries)) hand ws) where
+  module _ (hand : Hand) (ws : List ℕ) (given : (y : BeforeSweepAt grid 0 memo b) → InHand (swept (y .store .memo) (y .cell)) (sweptMemo (y .store .memo) (y .cell .entries)) hand ws) where
     front-swept : InHand (swept (x .store .memo) front) (sweptMemo (x .store .memo) (front .entries)) hand ws
     front-swept = given front-place
 
-    front-loose : Loose grid 0 (pagesOf (hand .chain)) (rowsOf (hand .table)) b
+    front-loose : BeforeSettle grid 0 (pagesOf (hand .chain)) (rowsOf (hand .table)) b
     unfolding swept chains
     front-loose =
-        let k = x .done .staged .core in
+        let k = x .roomy .mid .core in
         record {
           store = x .store;
           before = [];
@@ -72,24 +73,23 @@ module _ {grid : Grid} {memo : Memo} {b : List ℕ} (x : Sixteenth grid memo b) 
                 pagesFor-le (length (swept (x .store .memo) front .entries)) (length (front .entries)) (few-stay (x .store .memo) front),
               );
           place = refl;
-          held = x .holds .grid-is;
           chained = front-swept .chained;
           entered = front-swept .rows;
-          laid = x .holds .laid;
+          laid = x .laid .in-grid;
         }
 
     -- what `settled_last` asks
-    pub front-asks : (hand .chain .n ≤ pages) × (hand .table .n ≤ maxOn) × Loose grid 0 (pagesOf (hand .chain)) (rowsOf (hand .table)) b
-    front-asks = (front-swept .bound, front-swept .few, front-loose)
+    pub front-asks : HandFits (hand .chain) (hand .table) × BeforeSettle grid 0 (pagesOf (hand .chain)) (rowsOf (hand .table)) b
+    front-asks = ((front-swept .bound, front-swept .few), front-loose)
 
     -- what it leaves
-    pub front-holds : {g : Grid} {b′ : List ℕ}
-        → ((y : Loose grid 0 (pagesOf (hand .chain)) (rowsOf (hand .table)) b) → Lays (movedLast (y .store) (y .before ++ y .after) (y .cell)) g b′)
-        → Holds (sweepFront (x .store .cells) (x .store)) g (memoIn (hand .lines) ws) b′
+    pub front-laid : {g : Grid} {b′ : List ℕ}
+        → ((y : BeforeSettle grid 0 (pagesOf (hand .chain)) (rowsOf (hand .table)) b) → LaidGrid (movedLast (y .store) (y .before ++ y .after) (y .cell)) g b′)
+        → LaidMemo (sweepFront (x .store .cells) (x .store)) g (memoIn (hand .lines) ws) b′
     unfolding sweepFront movedLast front-loose
-    front-holds {g = g} {b′ = b′} l =
-        subst (λ (cells : List Cell). Holds (sweepFront cells (x .store)) g (memoIn (hand .lines) ws) b′) (sym (front-place .stands .split))
-        (holds-same (movedLast (x .store) (drop 1 (x .store .cells)) (swept (x .store .memo) front)) (sweepFront (front ∷ drop 1 (x .store .cells)) (x .store)) refl refl refl (front-swept .memo-is) (l front-loose))
+    front-laid {g = g} {b′ = b′} l =
+        subst (λ (cells : List Cell). LaidMemo (sweepFront cells (x .store)) g (memoIn (hand .lines) ws) b′) (sym (front-place .stands .split))
+        (memo-same (movedLast (x .store) (drop 1 (x .store .cells)) (swept (x .store .memo) front)) (sweepFront (front ∷ drop 1 (x .store .cells)) (x .store)) refl refl refl (front-swept .memo-is) (l front-loose))
 
   front-tally : sweepFront (x .store .cells) (x .store) .tally ≡ 0
   unfolding sweepFront
@@ -97,24 +97,24 @@ module _ {grid : Grid} {memo : Memo} {b : List ℕ} (x : Sixteenth grid memo b) 
 
 -- ---- the whole
 
-module _ {grid : Grid} {memo : Memo} {tally : ℕ} {b : List ℕ} (x : Tallied grid memo tally b) where
-  pub tick-counts : tally + 1 < sweepEvery → Ticks (x .store) grid memo (tally + 1) b
+module _ {grid : Grid} {memo : Memo} {tally : ℕ} {b : List ℕ} (x : BeforeTally grid memo tally b) where
+  pub tick-counts : tally + 1 < sweepEvery → AfterTally (x .store) grid memo (tally + 1) b
   unfolding tick
   tick-counts h =
       let u : ltb (x .store .tally + 1) sweepEvery ≡ true = lt-ltb (x .store .tally + 1) sweepEvery (omega (arith, x .tally-is)) in
-      record { holds = rw u (holds-same (x .store) _ refl refl refl (x .holds .memo-is) (holds-lays (x .holds))); tally-is = rw u (ap (λ (n : ℕ). n + 1) (x .tally-is)) }
+      record { laid = rw u (memo-same (x .store) _ refl refl refl (x .laid .memo-is) (x .laid .in-grid)); tally-is = rw u (ap (λ (n : ℕ). n + 1) (x .tally-is)) }
 
   module _ (h : sweepEvery ≤ tally + 1) where
-    abbrev pub tick-sixteenth : Sixteenth grid memo b
-    tick-sixteenth = record {
+    abbrev pub tick-sweep : BeforeSweep grid memo b
+    tick-sweep = record {
       store = x .store;
-      done = let z : x .store .tally + 1 ≡ sweepEvery = omega (arith, x .tally-is, x .early) in subst (Done (x .store)) z (x .done);
-      holds = x .holds;
+      roomy = let z : x .store .tally + 1 ≡ sweepEvery = omega (arith, x .tally-is, x .early) in subst (MidCallRoomy (x .store)) z (x .roomy);
+      laid = x .laid;
     }
 
     pub tick-sweeps : {g : Grid} {m : Memo} {t : ℕ} {b′ : List ℕ} → t ≡ 0
-        → ((y : Sixteenth grid memo b) → Holds (sweepFront (y .store .cells) (y .store)) g m b′) → Ticks (x .store) g m t b′
+        → ((y : BeforeSweep grid memo b) → LaidMemo (sweepFront (y .store .cells) (y .store)) g m b′) → AfterTally (x .store) g m t b′
     unfolding tick
     tick-sweeps {g = g} {m = m} {b′ = b′} z l =
         let u : ltb (x .store .tally + 1) sweepEvery ≡ false = le-ltb (x .store .tally + 1) sweepEvery (omega (arith, x .tally-is)) in
-        record { holds = rw u (l tick-sixteenth); tally-is = rw u (z ∙ sym (front-tally tick-sixteenth)) }
+        record { laid = rw u (l tick-sweep); tally-is = rw u (z ∙ sym (front-tally tick-sweep)) }

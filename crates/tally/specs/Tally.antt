@@ -1,4 +1,4 @@
--- The desk's parts and the pages in the middle of a call, a cell at hand, and what the tally leaves of them (01, "How a record is carried out").
+-- The desk's parts and the pages before a sweep and before the tally, a cell at hand, and what the tally leaves (01, "How a record is carried out").
 use mathlib.Core.List.{List}
 use mathlib.Core.Path.{_≡_}
 use Prim.Native.Nat.{ℕ, _+_, _≤_, _<_}
@@ -10,30 +10,24 @@ use Rattle.page.specs.Buffer.{pagesOf}
 use Rattle.rules.specs.Limits.{sweepEvery}
 use Rattle.rules.specs.Store.{Line, Cell, Store}
 use Rattle.rules.specs.Sweep.{tick}
-use Rattle.rules.proofs.FlushLaws.{Staged}
-use Rattle.rules.proofs.StepLaws.{Done}
+use Rattle.rules.specs.Midway.{MidCall, MidCallRoomy}
 use Rattle.desk.specs.declared.Grid.{Grid}
 use Rattle.desk.specs.declared.Memo.{Memo}
-use Rattle.desk.specs.Layout.{gridOf, memoOf, Laid}
+use Rattle.desk.specs.Layout.{memoOf}
+use Rattle.desk.specs.Laid.{LaidMemo}
 use Rattle.memo.specs.Memo.{memoIn}
-use Rattle.directory.proofs.DirectoryLaws.{Stands}
+use Rattle.directory.specs.Directory.{Stands}
 use Rattle.tally.specs.declared.Hand.{Hand}
-
--- grid, memo and pages lay out a store's
-pub record Holds (s : Store) (grid : Grid) (memo : Memo) (bytes : List ℕ) : Type 0 where
-  pub grid-is : grid ≡ gridOf s
-  pub memo-is : memo ≡ memoOf (s .memo)
-  pub laid : Laid s bytes
 
 -- ---- a cell at hand
 
--- a cell at place `at` of the round, in the middle of a call
-pub record AtPlace (grid : Grid) (at : ℕ) (memo : Memo) (bytes : List ℕ) : Type 0 where
+-- a cell at place `at` of the round is to be swept, in the middle of a call whose tally to come is c
+pub record BeforeSweepAt (grid : Grid) (at : ℕ) (memo : Memo) (bytes : List ℕ) : Type 0 where
   pub store : Store
   pub c : ℕ
-  pub staged : Staged store c
+  pub mid : MidCall store c
   pub late : c ≤ sweepEvery
-  pub holds : Holds store grid memo bytes
+  pub laid : LaidMemo store grid memo bytes
   pub cell : Cell
   pub stands : Stands (grid .cells) (store .cells) cell at
 
@@ -48,21 +42,21 @@ pub record InHand (c : Cell) (memo : Rows Line) (hand : Hand) (words : List ℕ)
 
 -- ---- the tally
 
--- before the tally: a store with room for the next report, at the tally that it will have
-pub record Tallied (grid : Grid) (memo : Memo) (tally : ℕ) (bytes : List ℕ) : Type 0 where
+-- the record is to be counted: a store with room for the next report, at the tally that it will have
+pub record BeforeTally (grid : Grid) (memo : Memo) (tally : ℕ) (bytes : List ℕ) : Type 0 where
   pub store : Store
   pub early : store .tally < sweepEvery
-  pub done : Done store (store .tally + 1)
-  pub holds : Holds store grid memo bytes
+  pub roomy : MidCallRoomy store (store .tally + 1)
+  pub laid : LaidMemo store grid memo bytes
   pub tally-is : tally ≡ store .tally
 
--- the same at the 16th
-pub record Sixteenth (grid : Grid) (memo : Memo) (bytes : List ℕ) : Type 0 where
+-- the same at the 16th: the front of the round is to be swept
+pub record BeforeSweep (grid : Grid) (memo : Memo) (bytes : List ℕ) : Type 0 where
   pub store : Store
-  pub done : Done store sweepEvery
-  pub holds : Holds store grid memo bytes
+  pub roomy : MidCallRoomy store sweepEvery
+  pub laid : LaidMemo store grid memo bytes
 
 -- "Each accepted sign-on, report or sign-off adds 1 to c. At 16, sweep the cell at the front of the round"
-pub record Ticks (s : Store) (grid : Grid) (memo : Memo) (tally : ℕ) (bytes : List ℕ) : Type 0 where
-  pub holds : Holds (tick s) grid memo bytes
+pub record AfterTally (s : Store) (grid : Grid) (memo : Memo) (tally : ℕ) (bytes : List ℕ) : Type 0 where
+  pub laid : LaidMemo (tick s) grid memo bytes
   pub tally-is : tally ≡ tick s .tally

@@ -2,7 +2,8 @@
 ghost use mathlib.Core.Path.{_≡_};
 ghost use Rattle.rules.specs.Sweep.{swept, sweptMemo, sweepFront};
 ghost use Rattle.memo.specs.Memo.{memoIn};
-ghost use Rattle.tally.specs.Tally.{Holds, AtPlace, InHand, Tallied, Sixteenth, Ticks};
+ghost use Rattle.desk.specs.Laid.{LaidMemo};
+ghost use Rattle.tally.specs.Tally.{BeforeSweepAt, InHand, BeforeTally, BeforeSweep, AfterTally};
 use desk::Desk;
 use desk::Grid;
 use entries::Entries;
@@ -12,7 +13,7 @@ use page::Chain;
 pub struct Hand {
     pub chain: Chain,
     pub table: Entries,
-    pub lines: usize,
+    pub lines: u16,
 }
 
 // "Sweep a cell": the one at place `at` of the round.
@@ -21,10 +22,11 @@ pub fn swept_at(
     grid: Grid,
     at: usize,
     words: &mut [u16; Desk::MEMO_WORDS],
-    lines: usize,
+    lines: u16,
 ) -> Hand
-    requires { ⌜ AtPlace grid at (memoIn lines (now words)) (now buffer) ⌝ }
-    ensures { λ r. ⌜ ((x : AtPlace grid at (memoIn lines (now (words .entry))) (now (buffer .entry))) → InHand (swept (x .store .memo) (x .cell)) (sweptMemo (x .store .memo) (x .cell .entries)) r (now (words .exit))) ⌝ }
+    requires { ⌜ BeforeSweepAt grid at (memoIn lines (now words)) (now buffer) ⌝ }
+    ensures { λ r. ⌜ ((x : BeforeSweepAt grid at (memoIn lines (now (words .entry))) (now (buffer .entry)))
+        → InHand (swept (x .store .memo) (x .cell)) (sweptMemo (x .store .memo) (x .cell .entries)) r (now (words .exit))) ⌝ }
 {
     let cells = grid.cells;
     let d = cells.slots[at];
@@ -43,7 +45,7 @@ pub fn swept_at(
 // What the tally changes, beside the memo's array.
 pub struct Ticked {
     pub grid: Grid,
-    pub lines: usize,
+    pub lines: u16,
     pub tally: u16,
 }
 
@@ -52,10 +54,11 @@ fn sweep_front(
     buffer: &mut [u8],
     grid: Grid,
     words: &mut [u16; Desk::MEMO_WORDS],
-    lines: usize,
+    lines: u16,
 ) -> Ticked
-    requires { ⌜ Sixteenth grid (memoIn lines (now words)) (now buffer) ⌝ }
-    ensures { λ r. ⌜ (r .tally ≡ 0) × ((x : Sixteenth grid (memoIn lines (now (words .entry))) (now (buffer .entry))) → Holds (sweepFront (x .store .cells) (x .store)) (r .grid) (memoIn (r .lines) (now (words .exit))) (now (buffer .exit))) ⌝ }
+    requires { ⌜ BeforeSweep grid (memoIn lines (now words)) (now buffer) ⌝ }
+    ensures { λ r. ⌜ (r .tally ≡ 0) × ((x : BeforeSweep grid (memoIn lines (now (words .entry))) (now (buffer .entry)))
+        → LaidMemo (sweepFront (x .store .cells) (x .store)) (r .grid) (memoIn (r .lines) (now (words .exit))) (now (buffer .exit))) ⌝ }
 {
     let d = swept_at(buffer, grid, 0, words, lines);
     let chain = d.chain;
@@ -73,11 +76,12 @@ pub fn tick(
     buffer: &mut [u8],
     grid: Grid,
     words: &mut [u16; Desk::MEMO_WORDS],
-    lines: usize,
+    lines: u16,
     tally: u16,
 ) -> Ticked
-    requires { ⌜ Tallied grid (memoIn lines (now words)) tally (now buffer) ⌝ }
-    ensures { λ r. ⌜ ((x : Tallied grid (memoIn lines (now (words .entry))) tally (now (buffer .entry))) → Ticks (x .store) (r .grid) (memoIn (r .lines) (now (words .exit))) (r .tally) (now (buffer .exit))) ⌝ }
+    requires { ⌜ BeforeTally grid (memoIn lines (now words)) tally (now buffer) ⌝ }
+    ensures { λ r. ⌜ ((x : BeforeTally grid (memoIn lines (now (words .entry))) tally (now (buffer .entry)))
+        → AfterTally (x .store) (r .grid) (memoIn (r .lines) (now (words .exit))) (r .tally) (now (buffer .exit))) ⌝ }
 {
     let c = tally + 1;
     if c < Desk::SWEEP_EVERY {

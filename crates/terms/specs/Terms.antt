@@ -33,3 +33,7 @@ fieldBytes = 2
 pub record Place : Type 0 where
   pub east : ℕ
   pub north : ℕ
+
+-- what an entry has of its radio, and what its latest report told: a place
+abbrev pub Fix : Type 0
+Fix = Place

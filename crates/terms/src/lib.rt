@@ -2,6 +2,8 @@
 // meets both fails where they differ.
 pub const MAX_RADIO: u16 = 4095;
 
+pub const MAX_ON: usize = 512;
+
 pub const PAGES: usize = 128;
 
 pub const PAGE_ENTRIES: usize = 32;

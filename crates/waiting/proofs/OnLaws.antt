@@ -20,7 +20,7 @@ use Rattle.desk.specs.Views.{radioRow, radiosOf}
 use Rattle.desk.proofs.UniqueLaws.{take-on}
 use Rattle.waiting.specs.declared.Standing.{Standing}
 use Rattle.waiting.specs.declared.Standing.the-variants.{At, Before}
-use Rattle.waiting.specs.Standing.{standing}
+use Rattle.waiting.specs.Standing.{standingOf, standing}
 use Rattle.waiting.specs.On.{WholeOn}
 use Rattle.waiting.proofs.SlotsLaws.{Slots, slots-get, slots-open, slots-close, standing-at, standing-other, standing-past, at-inside, at-find, at-key, before-inside, before-find, alter-at, alter-at-none, alter-before, alter-before-none}
 
@@ -78,13 +78,13 @@ module _ (o : On) {r lo hi : ℕ} (s : Between (radiosOf o) r noRadio lo hi) (wh
   on-down k = between-down s (mid lo hi) (omega arith) (omega arith) (omega (arith, key-at o (mid lo hi) whole (omega arith)))
 
 module _ (o : On) (r : ℕ) {k : ℕ} (whole : WholeOn o) (rising : Rising 0 (radiosOf o)) (at : k ≡ rank r (radiosOf o)) where
-  pub on-at : k < o .n → getD (o .radios) k 0 ≡ r → At k ≡ standing r (radiosOf o)
+  pub on-at : k < o .n → getD (o .radios) k 0 ≡ r → (k, true) ≡ standing r (radiosOf o)
   on-at h e = standing-at r (radiosOf o) noRadio rising at (rw (← count-on-laid o (radiosOf o) whole) h) (sym (key-at o k whole h) ∙ e)
 
-  pub on-other : k < o .n → getD (o .radios) k 0 ≢ r → Before k ≡ standing r (radiosOf o)
+  pub on-other : k < o .n → getD (o .radios) k 0 ≢ r → (k, false) ≡ standing r (radiosOf o)
   on-other h n = standing-other r (radiosOf o) noRadio rising at (rw (← count-on-laid o (radiosOf o) whole) h) (λ e. n (key-at o k whole h ∙ e))
 
-  pub on-past : o .n ≤ k → Before k ≡ standing r (radiosOf o)
+  pub on-past : o .n ≤ k → (k, false) ≡ standing r (radiosOf o)
   on-past h = standing-past r (radiosOf o) noRadio rising at (rw (← count-on-laid o (radiosOf o) whole) h)
 
 -- ---- loops
@@ -98,7 +98,7 @@ module _ (o : On) (whole : WholeOn o) where
 
 -- ---- what the answer of a search makes of them
 
-module _ (o : On) (r : ℕ) {k : ℕ} {t : Standing} (whole : WholeOn o) (rising : Rising 0 (radiosOf o)) (told : t ≡ standing r (radiosOf o)) where
+module _ (o : On) (r : ℕ) {k : ℕ} {t : Standing} (whole : WholeOn o) (rising : Rising 0 (radiosOf o)) (told : standingOf t ≡ standing r (radiosOf o)) where
   pub at-on : t ≡ At k → k < o .n
   at-on e = rw (count-on-laid o (radiosOf o) whole) (at-inside r (radiosOf o) told rising noRadio e)
 

@@ -1,4 +1,5 @@
 -- Rows in an array whose unused slots hold one value: what loops and stores there do to the rows, and where a search of them ends.
+use mathlib.Core.Bool.{Bool, true, false}
 use mathlib.Core.List.{List, [], _∷_, _++_, map, map-append}
 use mathlib.Core.Logic.{_≢_}
 use mathlib.Core.Option.{Option, none, some}
@@ -13,7 +14,8 @@ use lib.Seq.{drop-append-add, set-append-left, set-split, drop-set-lt, drop-at, 
 use borrow.Author.Tests.{ltb-true, ltb-false, eqb-true, eqb-false}
 use Rattle.lists.specs.Parts.{part, insertAt, removeAt}
 use Rattle.lists.specs.Rows.{Row, Rows, Rising, find, putRow, alter, rank}
-use Rattle.lists.proofs.Cases.{by-cases, option-cases}
+use Rattle.lists.specs.Tests.{isSome}
+use Rattle.lists.proofs.Cases.{by-cases, isSome-true, isSome-false}
 use Rattle.lists.proofs.MapLaws.{map-set, map-insertAt, map-removeAt}
 use Rattle.lists.proofs.PartsLaws.{length-part, drop-put}
 use Rattle.lists.proofs.RowsLaws.{find-below}
@@ -23,7 +25,7 @@ use Rattle.desk.specs.Layout.{slotted}
 use Rattle.desk.proofs.UniqueLaws.{take-slotted}
 use Rattle.waiting.specs.declared.Standing.{Standing}
 use Rattle.waiting.specs.declared.Standing.the-variants.{At, Before}
-use Rattle.waiting.specs.Standing.{standing}
+use Rattle.waiting.specs.Standing.{standingOf, standing}
 
 -- ---- lists
 
@@ -224,33 +226,35 @@ module _ {A Val : Type 0} {size : ℕ} {z : A} {g : Row Val → A} {l : Rows Val
 -- ---- a radio's place
 
 module _ {Val : Type 0} (r : ℕ) (l : Rows Val) (d : Row Val) {k : ℕ} (rising : Rising 0 l) (at : k ≡ rank r l) where
-  pub standing-at : k < length l → getD l k d .key ≡ r → At k ≡ standing r l
+  pub standing-at : k < length l → getD l k d .key ≡ r → (k, true) ≡ standing r l
   unfolding standing
-  standing-at h e = rw (find-rank 0 r l d rising (rw (← at) h) (rw (← at) e)) (ap At at)
+  standing-at h e = rw (find-rank 0 r l d rising (rw (← at) h) (rw (← at) e)) (ap (λ (j : ℕ). (j, true)) at)
 
-  pub standing-other : k < length l → getD l k d .key ≢ r → Before k ≡ standing r l
+  pub standing-other : k < length l → getD l k d .key ≢ r → (k, false) ≡ standing r l
   unfolding standing
-  standing-other h n = rw (find-rank-none 0 r l d rising (rw (← at) (λ _. n))) (ap Before at)
+  standing-other h n = rw (find-rank-none 0 r l d rising (rw (← at) (λ _. n))) (ap (λ (j : ℕ). (j, false)) at)
 
-  pub standing-past : length l ≤ k → Before k ≡ standing r l
+  pub standing-past : length l ≤ k → (k, false) ≡ standing r l
   unfolding standing
-  standing-past h = rw (find-rank-none 0 r l d rising (rw (← at) (λ b _. omega arith))) (ap Before at)
+  standing-past h = rw (find-rank-none 0 r l d rising (rw (← at) (λ b _. omega arith))) (ap (λ (j : ℕ). (j, false)) at)
 
 -- what the answer says of the rows
-module _ {Val : Type 0} (r : ℕ) (l : Rows Val) {k : ℕ} {o : Standing} (told : o ≡ standing r l) where
-  before-none : o ≡ Before k → (k ≡ rank r l) × (find l r ≡ none)
+module _ {Val : Type 0} (r : ℕ) (l : Rows Val) {k : ℕ} {o : Standing} (told : standingOf o ≡ standing r l) where
+  means-at : o ≡ At k → (k ≡ rank r l) × (isSome (find l r) ≡ true)
   unfolding standing
-  before-none = option-cases (find l r) (λ n. let t = rw n at told in λ e. (cc, n)) (λ v n. let t = rw n at told in λ e. let z : _≡_ {A = ℕ} 0 1 = cc in absurd (omega arith))
+  means-at e = let q = sym (ap standingOf e) ∙ told in (ap (λ (x : ℕ × Bool). x .0) q, sym (ap (λ (x : ℕ × Bool). x .1) q))
+
+  means-before : o ≡ Before k → (k ≡ rank r l) × (find l r ≡ none)
+  unfolding standing
+  means-before e = let q = sym (ap standingOf e) ∙ told in (ap (λ (x : ℕ × Bool). x .0) q, isSome-false (find l r) (sym (ap (λ (x : ℕ × Bool). x .1) q)))
 
   module _ (rising : Rising 0 l) where
     at-row : (d : Row Val) → o ≡ At k → (k ≡ rank r l) × (k < length l) × (getD l k d .key ≡ r) × (find l r ≡ some (getD l k d .val))
-    unfolding standing
-    at-row d = option-cases (find l r)
-        (λ n. let t = rw n at told in λ e. let z : _≡_ {A = ℕ} 0 1 = cc in absurd (omega arith))
-        (λ v n. let t = rw n at told in λ e.
-        let q : k ≡ rank r l = cc in
+    at-row d e =
+        let m = means-at e in
+        isSome-true (find l r) (m .1) (λ v n.
         let f = rank-found 0 r l d v rising n in
-        rw q (refl, f .0, ap (λ (x : Row Val). x .key) (f .1), n ∙ ap (λ (x : Row Val). some (x .val)) (sym (f .1))))
+        rw (m .0) (refl, f .0, ap (λ (x : Row Val). x .key) (f .1), n ∙ ap (λ (x : Row Val). some (x .val)) (sym (f .1))))
 
     pub at-inside : Row Val → o ≡ At k → k < length l
     at-inside d e = at-row d e .1
@@ -262,10 +266,10 @@ module _ {Val : Type 0} (r : ℕ) (l : Rows Val) {k : ℕ} {o : Standing} (told 
     at-key d e = at-row d e .2
 
     pub before-inside : o ≡ Before k → k ≤ length l
-    before-inside e = omega (arith, before-none e .0, rank-le r l)
+    before-inside e = omega (arith, means-before e .0, rank-le r l)
 
     pub before-find : o ≡ Before k → find l r ≡ none
-    before-find e = before-none e .1
+    before-find e = means-before e .1
 
     -- a change of what stands at the key, as a change at its place
     module _ (f : Option Val → Option Val) where
@@ -276,7 +280,7 @@ module _ {Val : Type 0} (r : ℕ) (l : Rows Val) {k : ℕ} {o : Standing} (told 
       alter-at-none d e h = let a = at-row d e in rw (a .0) (alter-removeAt f r 0 l (getD l k d .val) rising (a .3) h)
 
       pub alter-before : (v : Val) → o ≡ Before k → f none ≡ some v → alter f r l ≡ insertAt l k (record { key = r; val = v })
-      alter-before v e h = let a = before-none e in rw (a .0) (alter-insertAt f r 0 l v rising (a .1) h)
+      alter-before v e h = let a = means-before e in rw (a .0) (alter-insertAt f r 0 l v rising (a .1) h)
 
       pub alter-before-none : o ≡ Before k → f none ≡ none → alter f r l ≡ l
-      alter-before-none e h = alter-absent f 0 r l rising (before-none e .1) h
+      alter-before-none e h = alter-absent f 0 r l rising (means-before e .1) h

@@ -13,7 +13,7 @@ use lib.Seq.{take-suc, getD-take}
 use Rattle.lists.specs.Parts.{insertAt, removeAt}
 use Rattle.lists.specs.Rows.{Row, Rows, Rising, find, rank, alter, insert}
 use Rattle.lists.specs.Tests.{one-if}
-use Rattle.lists.proofs.Cases.{option-cases}
+use Rattle.lists.proofs.Cases.{none-some, some-injective}
 use Rattle.lists.proofs.SearchLaws.{Between, between-start, between-up, between-down}
 use Rattle.lists.proofs.ShiftLaws.{Opened, Closed}
 use Rattle.rules.specs.Limits.{fullMemory}
@@ -27,8 +27,8 @@ use Rattle.waiting.specs.declared.Standing.{Standing}
 use Rattle.waiting.specs.declared.Standing.the-variants.{At, Before}
 use Rattle.waiting.specs.declared.Waited.{Waited}
 use Rattle.waiting.specs.declared.Waited.the-variants.{Found, Missing}
-use Rattle.waiting.specs.Standing.{standing}
-use Rattle.waiting.specs.Waiting.{waits, rowOf, reportsOf, WholeWaiting, waitedOf}
+use Rattle.waiting.specs.Standing.{standingOf, standing}
+use Rattle.waiting.specs.Waiting.{waits, rowOf, reportsOf, WholeWaiting, waitedOf, laidReport}
 use Rattle.waiting.proofs.SlotsLaws.{getD-mapped, Slots, slots-get, slots-set, slots-open, slots-close, standing-at, standing-other, standing-past, at-inside, at-find, at-key, before-inside, before-find, alter-found, alter-at, alter-at-none, alter-before, alter-before-none}
 
 -- ---- the same rows, as the desk's array and as a list
@@ -114,13 +114,13 @@ module _ (w : Waiting) {r lo hi : ℕ} (s : Between (reportsOf w) r noRow lo hi)
   search-down k = between-down s (mid lo hi) (omega arith) (omega arith) (omega (arith, radio-at w (mid lo hi) whole (omega arith)))
 
 module _ (w : Waiting) (r : ℕ) {k : ℕ} (whole : WholeWaiting w) (rising : Rising 0 (reportsOf w)) (at : k ≡ rank r (reportsOf w)) where
-  pub stands-at : k < w .n → getD (w .rows) k noReport .radio ≡ r → At k ≡ standing r (reportsOf w)
+  pub stands-at : k < w .n → getD (w .rows) k noReport .radio ≡ r → (k, true) ≡ standing r (reportsOf w)
   stands-at h e = standing-at r (reportsOf w) noRow rising at (rw (← count-laid w (reportsOf w) whole) h) (sym (radio-at w k whole h) ∙ e)
 
-  pub stands-other : k < w .n → getD (w .rows) k noReport .radio ≢ r → Before k ≡ standing r (reportsOf w)
+  pub stands-other : k < w .n → getD (w .rows) k noReport .radio ≢ r → (k, false) ≡ standing r (reportsOf w)
   stands-other h n = standing-other r (reportsOf w) noRow rising at (rw (← count-laid w (reportsOf w) whole) h) (λ e. n (radio-at w k whole h ∙ e))
 
-  pub stands-past : w .n ≤ k → Before k ≡ standing r (reportsOf w)
+  pub stands-past : w .n ≤ k → (k, false) ≡ standing r (reportsOf w)
   stands-past h = standing-past r (reportsOf w) noRow rising at (rw (← count-laid w (reportsOf w) whole) h)
 
 -- ---- stores and loops
@@ -141,7 +141,8 @@ module _ (w : Waiting) (whole : WholeWaiting w) where
 
 -- ---- what the answer of a search makes of them
 
-module _ (w : Waiting) (r : ℕ) {k : ℕ} {o : Standing} (whole : WholeWaiting w) (rising : Rising 0 (reportsOf w)) (told : o ≡ standing r (reportsOf w)) where
+module _ (w : Waiting) (r : ℕ) {k : ℕ} {o : Standing} (whole : WholeWaiting w) (rising : Rising 0 (reportsOf w))
+    (told : standingOf o ≡ standing r (reportsOf w)) where
   pub at-waits : o ≡ At k → k < w .n
   at-waits e = rw (count-laid w (reportsOf w) whole) (at-inside r (reportsOf w) told rising noRow e)
 
@@ -151,13 +152,13 @@ module _ (w : Waiting) (r : ℕ) {k : ℕ} {o : Standing} (whole : WholeWaiting 
   pub before-waits : o ≡ Before k → k ≤ w .n
   before-waits e = rw (count-laid w (reportsOf w) whole) (before-inside r (reportsOf w) told rising e)
 
-  pub report-found : o ≡ At k → Found (getD (w .rows) k noReport) ≡ waitedOf r (find (reportsOf w) r)
+  pub report-found : o ≡ At k → some (getD (w .rows) k noReport) ≡ laidReport r (find (reportsOf w) r)
   report-found e =
       let q = at-key r (reportsOf w) told rising noRow e in
       rw (at-find r (reportsOf w) told rising noRow e)
-      (ap Found (slots-get (in-slots w whole) k noRow (at-waits e) ∙ ap (λ (x : ℕ). reportOf (record { key = x; val = getD (reportsOf w) k noRow .val })) q))
+      (ap some (slots-get (in-slots w whole) k noRow (at-waits e) ∙ ap (λ (x : ℕ). reportOf (record { key = x; val = getD (reportsOf w) k noRow .val })) q))
 
-  pub report-missing : o ≡ Before k → Missing ≡ waitedOf r (find (reportsOf w) r)
+  pub report-missing : o ≡ Before k → none ≡ laidReport r (find (reportsOf w) r)
   report-missing e = rw (before-find r (reportsOf w) told rising e)
 
   pub discard-at : {v : Waiting} → o ≡ At k → v ≡ waitingOf (removeAt (reportsOf w) k) → v ≡ waitingOf (alter (λ _. none) r (reportsOf w))
@@ -166,7 +167,8 @@ module _ (w : Waiting) (r : ℕ) {k : ℕ} {o : Standing} (whole : WholeWaiting 
   pub discard-none : o ≡ Before k → w ≡ waitingOf (alter (λ _. none) r (reportsOf w))
   discard-none e = whole ∙ ap waitingOf (sym (alter-before-none r (reportsOf w) told rising (λ _. none) e refl))
 
-module _ (w : Waiting) (e : Report) {k : ℕ} {o : Standing} {v : Waiting} (rising : Rising 0 (reportsOf w)) (told : o ≡ standing (e .radio) (reportsOf w)) where
+module _ (w : Waiting) (e : Report) {k : ℕ} {o : Standing} {v : Waiting} (rising : Rising 0 (reportsOf w))
+    (told : standingOf o ≡ standing (e .radio) (reportsOf w)) where
   pub put-at : o ≡ At k → v ≡ waitingOf (set (reportsOf w) k (rowOf e)) → v ≡ waitingOf (insert (e .radio) (waits e) (reportsOf w))
   put-at h f = f ∙ ap waitingOf (sym (alter-at (e .radio) (reportsOf w) told rising (λ _. some (waits e)) noRow (waits e) h refl))
 
@@ -175,15 +177,20 @@ module _ (w : Waiting) (e : Report) {k : ℕ} {o : Standing} {v : Waiting} (risi
 
 -- ---- marks
 
-module _ (w : Waiting) (r : ℕ) {o : Waited} (told : o ≡ waitedOf r (find (reportsOf w) r)) where
+mark-some : (r : ℕ) (o : Option StoreReport) {e : Report} → some e ≡ laidReport r o → e .new ≡ one-if (wasNew o)
+mark-some r none t = none-some (sym t)
+mark-some r (some v) t = ap (λ (x : Report). x .new) (some-injective t)
+
+mark-none : (r : ℕ) (o : Option StoreReport) → none ≡ laidReport r o → 0 ≡ one-if (wasNew o)
+mark-none r none t = refl
+mark-none r (some v) t = none-some t
+
+module _ (w : Waiting) (r : ℕ) {o : Waited} (told : waitedOf o ≡ laidReport r (find (reportsOf w) r)) where
   pub mark-found : {e : Report} → o ≡ Found e → e .new ≡ one-if (wasNew (find (reportsOf w) r))
-  mark-found {e} =
-      option-cases (find (reportsOf w) r)
-      (λ n. let t = rw n at told in λ h. cc)
-      (λ v n. let t = rw n at told in λ h. let q : e ≡ reportOf (record { key = r; val = v }) = cc in rw n (ap (λ (x : Report). x .new) q))
+  mark-found h = mark-some r (find (reportsOf w) r) (sym (ap waitedOf h) ∙ told)
 
   pub mark-missing : o ≡ Missing → 0 ≡ one-if (wasNew (find (reportsOf w) r))
-  mark-missing = option-cases (find (reportsOf w) r) (λ n. rw n (λ h. refl)) (λ v n. let t = rw n at told in λ h. cc)
+  mark-missing h = mark-none r (find (reportsOf w) r) (sym (ap waitedOf h) ∙ told)
 
 one-if-le : (b : Bool) → one-if b ≤ 1
 one-if-le true = omega arith
@@ -201,9 +208,10 @@ put-keeps w r east north {m} a e f =
     f ∙ ap waitingOf (alter-found _ kept 0 r (reportsOf w) a (ap (λ (b : Bool). some (record { place = record { east = east; north = north }; new = b })) q))
 
 -- the mark is kept where a report of the radio waits, and else there is none
-module _ (w : Waiting) (r : ℕ) {k : ℕ} {o : Standing} (whole : WholeWaiting w) (rising : Rising 0 (reportsOf w)) (told : o ≡ standing r (reportsOf w)) where
+module _ (w : Waiting) (r : ℕ) {k : ℕ} {o : Standing} (whole : WholeWaiting w) (rising : Rising 0 (reportsOf w))
+    (told : standingOf o ≡ standing r (reportsOf w)) where
   mark-at : o ≡ At k → getD (w .rows) k noReport .new ≡ one-if (wasNew (find (reportsOf w) r))
-  mark-at e = mark-found w r (report-found w r whole rising told e) refl
+  mark-at e = mark-some r (find (reportsOf w) r) (report-found w r whole rising told e)
 
   pub mark-at-le : o ≡ At k → getD (w .rows) k noReport .new ≤ 1
   mark-at-le e = mark-le w r (mark-at e)
@@ -215,4 +223,5 @@ module _ (w : Waiting) (r : ℕ) {k : ℕ} {o : Standing} (whole : WholeWaiting 
   pub keep-before : (east north : ℕ) {v : Waiting} → o ≡ Before k → v ≡ waitingOf (insertAt (reportsOf w) k (rowOf (record { radio = r; east = east; north = north; new = 0 })))
       → v ≡ waitingOf (alter (λ x. some (record { place = record { east = east; north = north }; new = wasNew x })) r (reportsOf w))
   keep-before east north e f =
-      put-keeps w r east north rising (mark-missing w r (report-missing w r whole rising told e) refl) (put-before w (record { radio = r; east = east; north = north; new = 0 }) rising told e f)
+      put-keeps w r east north rising (mark-none r (find (reportsOf w) r) (report-missing w r whole rising told e))
+      (put-before w (record { radio = r; east = east; north = north; new = 0 }) rising told e f)

@@ -3,10 +3,11 @@ use mathlib.Core.Bool.{not}
 use mathlib.Core.List.{map}
 use mathlib.Core.Option.{Option, none, some}
 use mathlib.Core.Path.{_≡_}
-use Prim.Native.Nat.{ℕ}
+use Prim.Native.Nat.{ℕ, _≤_, _<_}
 use lib.Dec.{eqb}
 use lib.ListN.{take}
-use Rattle.lists.specs.Rows.{Row, Rows}
+use Rattle.lists.specs.Rows.{Row, Rows, Rising}
+use Rattle.rules.specs.Limits.{fullMemory}
 use Rattle.rules.specs.Store.{Report as StoreReport}
 use Rattle.desk.specs.Layout.{reportOf, waitingOf}
 use Rattle.desk.specs.declared.Report.{Report}
@@ -30,7 +31,20 @@ reportsOf w = map rowOf (take (w .n) (w .rows))
 abbrev pub WholeWaiting : Waiting → Type 0
 WholeWaiting w = w ≡ waitingOf (reportsOf w)
 
--- a radio's report, from what is found of it
-abbrev pub waitedOf : ℕ → Option StoreReport → Waited
-waitedOf r none = Missing
-waitedOf r (some w) = Found (reportOf (record { key = r; val = w }))
+-- waiting reports as a step of a call finds them: laid out so, by rising radio, and no more than there are slots
+abbrev pub GoodWaiting : Waiting → Type 0
+GoodWaiting w = (w .n ≤ fullMemory) × WholeWaiting w × Rising 0 (reportsOf w)
+
+-- the same, with a slot for one more
+abbrev pub RoomyWaiting : Waiting → Type 0
+RoomyWaiting w = (w .n < fullMemory) × WholeWaiting w × Rising 0 (reportsOf w)
+
+-- the value of each case of an answer: the report that waits, or none
+abbrev pub waitedOf : Waited → Option Report
+waitedOf (Found w) = some w
+waitedOf Missing = none
+
+-- a radio's report as the desk lays it out, from what is found of it
+abbrev pub laidReport : ℕ → Option StoreReport → Option Report
+laidReport r none = none
+laidReport r (some w) = some (reportOf (record { key = r; val = w }))

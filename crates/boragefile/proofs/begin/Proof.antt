@@ -46,8 +46,8 @@ use Rattle.boragefile.proofs.Left.{others, stays-left, all-go-left}
 use Rattle.boragefile.proofs.Within.{look-field}
 use Rattle.desk.proofs.Desk as T
 use Rattle.desk.proofs.Desk.Laws as T′
-use Rattle.fresh.proofs.Answer as Z
-use Rattle.fresh.proofs.Answer.Laws as Z′
+use Rattle.desk.proofs.Answer as Z
+use Rattle.desk.proofs.Answer.Laws as Z′
 use Rattle.fresh.proofs.Begun as R
 use Rattle.fresh.proofs.Begun.Laws as R′
 use Rattle.fresh.proofs.begin as made

@@ -34,11 +34,11 @@ use denote.Triple.Table.{entered, cited}
 use denote.Triple.Walked.{says, Stays, walkOf, Walks, ends-at, walked, walk-meets}
 use Rattle.fresh.specs.Begin.{Begins}
 use Rattle.desk.specs.declared.Desk.{Desk}
-use Rattle.fresh.specs.declared.Answer.{Answer}
+use Rattle.desk.specs.declared.Answer.{Answer}
 use Rattle.boragefile.proofs.Left.{stays-left, all-go-left}
 use Rattle.desk.proofs.Desk as T
-use Rattle.fresh.proofs.Answer as Z
-use Rattle.fresh.proofs.Answer.Laws as Z′
+use Rattle.desk.proofs.Answer as Z
+use Rattle.desk.proofs.Answer.Laws as Z′
 use Rattle.boragefile.proofs.begin as begin
 use Rattle.boragefile.proofs.begin.Symbol as begin-def
 use Rattle.boragefile.proofs.begin.Symbol.{name as #boragefile·begin}

@@ -35,11 +35,11 @@ use denote.Triple.Table.{entered, cited}
 use denote.Triple.Walked.{says, Stays, walkOf, Walks, ends-at, walked, walk-meets}
 use Rattle.desk.specs.Call.{Answers}
 use Rattle.desk.specs.declared.Desk.{Desk}
-use Rattle.fresh.specs.declared.Answer.{Answer}
+use Rattle.desk.specs.declared.Answer.{Answer}
 use Rattle.boragefile.proofs.Left.{stays-left, all-go-left}
 use Rattle.desk.proofs.Desk as T
-use Rattle.fresh.proofs.Answer as Z
-use Rattle.fresh.proofs.Answer.Laws as Z′
+use Rattle.desk.proofs.Answer as Z
+use Rattle.desk.proofs.Answer.Laws as Z′
 use Rattle.boragefile.proofs.call as call
 use Rattle.boragefile.proofs.call.Symbol as call-def
 use Rattle.boragefile.proofs.call.Symbol.{name as #boragefile·call}

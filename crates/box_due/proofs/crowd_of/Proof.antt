@@ -15,6 +15,9 @@ Inv-loop n at crowd₀ i₀ crowd i = (i ≤ n) × CrowdingAt n at i crowd
 abbrev μ-loop : tie.MeasureT-loop
 μ-loop n at crowd₀ i₀ crowd i = n - i
 
+cast-n : tie.Need-cast-n Inv-loop μ-loop
+cast-n c = search needs
+
 boxes-of-requires : tie.Need-boxes-of-requires Inv-loop μ-loop
 boxes-of-requires c κs = search needs
 
@@ -37,7 +40,7 @@ box-index-requires : tie.Need-box-index-requires Inv-loop μ-loop
 box-index-requires c κs =
     let l = c .before .before .before in
     let b = l .before in
-    let p = b .before in
+    let p = b .before .before in
     let s : Seated _ _ (p .args .waiting) (b .boxes-of .result) = record { size = search (length-mapped, p .good .1 .1 .0 .1 .1 .1 .0 .1 .0 .1); fits = p .pre .0; east-cuts = p .pre .1; north-cuts = p .pre .2; boxes = b .boxes-of .ensures } in
     (seat-east s (c .before .before .loop-test .taken), seat-north s (c .before .before .loop-test .taken))
 
@@ -48,7 +51,7 @@ add-crowd : tie.Need-add-crowd Inv-loop μ-loop
 add-crowd c =
     let l = c .before .before .before .before in
     let b = l .before in
-    let p = b .before in
+    let p = b .before .before in
     let s : Seated _ _ (p .args .waiting) (b .boxes-of .result) = record { size = search (length-mapped, p .good .1 .1 .0 .1 .1 .1 .0 .1 .0 .1); fits = p .pre .0; east-cuts = p .pre .1; north-cuts = p .pre .2; boxes = b .boxes-of .ensures } in
     omega (arith, crowding-at-room (l .loop .inv .1) (c .box-index .ensures .0) (c .before .before .before .loop-test .taken) _ _ _ s refl)
 
@@ -67,7 +70,7 @@ loop-again c = (search needs, search crowding-at-turn)
 returns : tie.Need-returns Inv-loop μ-loop
 returns c =
     let b = c .before .before in
-    let p = b .before in
+    let p = b .before .before in
     let s : Seated _ _ (p .args .waiting) (b .boxes-of .result) = record { size = search (length-mapped, p .good .1 .1 .0 .1 .1 .1 .0 .1 .0 .1); fits = p .pre .0; east-cuts = p .pre .1; north-cuts = p .pre .2; boxes = b .boxes-of .ensures } in
     crowding-end _ (c .before .loop .inv .1 .so _ _ _ s refl) (s .size) (s .fits) (search needs)
 
@@ -77,6 +80,7 @@ crowd-of-spec =
     (tie.spec
     Inv-loop
     μ-loop
+    cast-n
     boxes-of-requires
     loop-holds
     mul-box-index

@@ -12,6 +12,9 @@ Inv-loop x cuts n reach₀ i₀ reach i = (i ≤ n) × Reached cuts x i reach
 abbrev μ-loop : tie.MeasureT-loop
 μ-loop x cuts n reach₀ i₀ reach i = n - i
 
+cast-n : tie.Need-cast-n Inv-loop μ-loop
+cast-n c = search needs
+
 loop-holds : tie.Need-loop-holds Inv-loop μ-loop
 loop-holds c = (search needs, reached-start _ _ (omega arith))
 
@@ -42,6 +45,7 @@ reach-of-spec =
     (tie.spec
     Inv-loop
     μ-loop
+    cast-n
     loop-holds
     mul-cut
     element-copy-out-cut

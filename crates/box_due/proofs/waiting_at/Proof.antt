@@ -18,6 +18,9 @@ reach-of-requires c κs = search needs
 reach-of-requires-2 : tie.Need-reach-of-requires-2 Inv-loop μ-loop
 reach-of-requires-2 c κs = search needs
 
+cast-n : tie.Need-cast-n Inv-loop μ-loop
+cast-n c = search needs
+
 loop-holds : tie.Need-loop-holds Inv-loop μ-loop
 loop-holds c = (search needs, search needs, near-start _ _ _)
 
@@ -56,6 +59,7 @@ waiting-at-spec =
     μ-loop
     reach-of-requires
     reach-of-requires-2
+    cast-n
     loop-holds
     mul-x
     element-copy-out-x

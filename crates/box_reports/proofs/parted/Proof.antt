@@ -13,6 +13,9 @@ Inv-loop m wanted waiting n at rows₀ k₀ i₀ rows k i = (k ≤ i) × (i ≤ 
 abbrev μ-loop : tie.MeasureT-loop
 μ-loop m wanted waiting n at rows₀ k₀ i₀ rows k i = n - i
 
+cast-n : tie.Need-cast-n Inv-loop μ-loop
+cast-n c = search needs
+
 boxes-of-requires : tie.Need-boxes-of-requires Inv-loop μ-loop
 boxes-of-requires c κs = search needs
 
@@ -68,6 +71,9 @@ loop-again c =
     let p = l .before .before in
     (search needs, search needs, part-at-turn _ (l .loop .inv .2) (search (length-mapped, p .good .1 .1 .0 .1 .1 .1 .0 .1 .0 .1)) (p .pre .0) (t .loop-test .taken) (l .loop .inv .0) (c .before .before .in-box .ensures) (c .before .kept .ensures) (c .one-if .ensures .0))
 
+cast-t15 : tie.Need-cast-t15 Inv-loop μ-loop
+cast-t15 c = search needs
+
 returns : tie.Need-returns Inv-loop μ-loop
 returns c = (part-end _ (c .before .loop .inv .2 .so _ (c .before .before .boxes-of .ensures)) (c .loop-test .left), search needs)
 
@@ -77,6 +83,7 @@ parted-spec =
     (tie.spec
     Inv-loop
     μ-loop
+    cast-n
     boxes-of-requires
     loop-holds
     mul-x
@@ -94,4 +101,5 @@ parted-spec =
     add-i
     loop-less
     loop-again
+    cast-t15
     returns)

@@ -11,6 +11,9 @@ Inv-loop xs cuts n stripes₀ i₀ stripes i = (i ≤ n) × StripedBy cuts xs i 
 abbrev μ-loop : tie.MeasureT-loop
 μ-loop xs cuts n stripes₀ i₀ stripes i = n - i
 
+cast-n : tie.Need-cast-n Inv-loop μ-loop
+cast-n c = search needs
+
 loop-holds : tie.Need-loop-holds Inv-loop μ-loop
 loop-holds c = (search needs, striped-start _ _)
 
@@ -41,6 +44,7 @@ stripes-of-spec =
     (tie.spec
     Inv-loop
     μ-loop
+    cast-n
     loop-holds
     mul-cut
     element-copy-out-cut

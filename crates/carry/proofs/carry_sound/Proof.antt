@@ -1,7 +1,12 @@
+use mathlib.Core.Path.{ap}
 use borrow.Author.Needs.{needs}
+use Rattle.records.specs.Asked.{askedOf}
 use Rattle.carry.proofs.CallLaws.{record-asks, on-asked, report-asked, off-asked, refused-returns, on-returns, report-returns, off-returns, range-returns}
 use Rattle.carry.proofs.carry_sound.Statement.{statement}
 use Rattle.carry.proofs.carry_sound.Tie as tie
+
+cast-asked-by : tie.Need-cast-asked-by
+cast-asked-by c = search needs
 
 asked-by-requires : tie.Need-asked-by-requires
 asked-by-requires c κs = let e = c .before .before .before .before .before .before in record-asks (e .args .parts) (e .args .words .now) (e .pre .1)
@@ -19,7 +24,9 @@ sign-on-requires : tie.Need-sign-on-requires
 sign-on-requires c κs =
     let a = c .before .before .before .before .before in
     let e = a .before .before .before .before .before .before .before in
-    search (on-asked (e .args .parts) (e .args .words .now) (e .pre .1) (e .args .bytes .now) (e .args .buffer .now) (λ i. a .before .before .before .before .before .shared-slice-known .given i .fits) (a .asked-by .ensures))
+    on-asked (e .args .parts) (e .args .words .now) (e .pre .1) (e .args .bytes .now) (e .args .buffer .now)
+    (λ i. a .before .before .before .before .before .shared-slice-known .given i .fits)
+    (a .asked-by .ensures) _ _ (ap askedOf (c .before .before .before .radio .given .1))
 
 accepted-requires : tie.Need-accepted-requires
 accepted-requires c κs = search needs
@@ -31,7 +38,9 @@ reported-requires : tie.Need-reported-requires
 reported-requires c κs =
     let a = c .before .before .before .before .before in
     let e = a .before .before .before .before .before .before .before in
-    search (report-asked (e .args .parts) (e .args .words .now) (e .pre .1) (e .args .bytes .now) (e .args .buffer .now) (λ i. a .before .before .before .before .before .shared-slice-known .given i .fits) (a .asked-by .ensures))
+    report-asked (e .args .parts) (e .args .words .now) (e .pre .1) (e .args .bytes .now) (e .args .buffer .now)
+    (λ i. a .before .before .before .before .before .shared-slice-known .given i .fits)
+    (a .asked-by .ensures) _ _ (ap askedOf (c .before .before .before .radio2 .given .1))
 
 accepted-requires-2 : tie.Need-accepted-requires-2
 accepted-requires-2 c κs = search needs
@@ -43,7 +52,9 @@ sign-off-requires : tie.Need-sign-off-requires
 sign-off-requires c κs =
     let a = c .before .before .before .before .before in
     let e = a .before .before .before .before .before .before .before in
-    search (off-asked (e .args .parts) (e .args .words .now) (e .pre .1) (e .args .bytes .now) (e .args .buffer .now) (λ i. a .before .before .before .before .before .shared-slice-known .given i .fits) (a .asked-by .ensures))
+    off-asked (e .args .parts) (e .args .words .now) (e .pre .1) (e .args .bytes .now) (e .args .buffer .now)
+    (λ i. a .before .before .before .before .before .shared-slice-known .given i .fits)
+    (a .asked-by .ensures) _ (ap askedOf (c .before .before .before .radio3 .given .1))
 
 accepted-requires-3 : tie.Need-accepted-requires-3
 accepted-requires-3 c κs = search needs
@@ -58,7 +69,7 @@ returns : tie.Need-returns
 returns c = λ x.
     let a = c .before .before .before .before in
     let e = a .before .before .before .before .before .before .before in
-    refused-returns (e .args .parts) (e .args .words .now) x (e .args .bytes .now) (e .args .buffer .now) (λ i. a .before .before .before .before .before .shared-slice-known .given i .fits) (a .asked-by .ensures) _ (search needs) (c .answered .ensures)
+    refused-returns (e .args .parts) (e .args .words .now) x (e .args .bytes .now) (e .args .buffer .now) (λ i. a .before .before .before .before .before .shared-slice-known .given i .fits) (a .asked-by .ensures) _ (ap askedOf (c .before .before .number .given .1)) (c .answered .ensures)
 
 same-length : tie.Need-same-length
 same-length c = search needs
@@ -67,7 +78,7 @@ returns-2 : tie.Need-returns-2
 returns-2 c = λ x.
     let a = c .before .before .before .before .before .before .before .before .before in
     let e = a .before .before .before .before .before .before .before in
-    on-returns (e .args .parts) (e .args .words .now) x (e .args .bytes .now) (e .args .buffer .now) (λ i. a .before .before .before .before .before .shared-slice-known .given i .fits) (a .asked-by .ensures) _ _ (search (needs, c .before .before .before .before .before .before .before .radio)) (c .before .before .before .sign-on .ensures) (c .accepted .ensures)
+    on-returns (e .args .parts) (e .args .words .now) x (e .args .bytes .now) (e .args .buffer .now) (λ i. a .before .before .before .before .before .shared-slice-known .given i .fits) (a .asked-by .ensures) _ _ (ap askedOf (c .before .before .before .before .before .before .before .radio .given .1)) (c .before .before .before .sign-on .ensures) (c .accepted .ensures)
 
 same-length-2 : tie.Need-same-length-2
 same-length-2 c = search needs
@@ -76,7 +87,7 @@ returns-3 : tie.Need-returns-3
 returns-3 c = λ x.
     let a = c .before .before .before .before .before .before .before .before .before in
     let e = a .before .before .before .before .before .before .before in
-    report-returns (e .args .parts) (e .args .words .now) x (e .args .bytes .now) (e .args .buffer .now) (λ i. a .before .before .before .before .before .shared-slice-known .given i .fits) (a .asked-by .ensures) _ _ (search (needs, c .before .before .before .before .before .before .before .radio2)) (c .before .before .before .reported .ensures) (c .accepted2 .ensures)
+    report-returns (e .args .parts) (e .args .words .now) x (e .args .bytes .now) (e .args .buffer .now) (λ i. a .before .before .before .before .before .shared-slice-known .given i .fits) (a .asked-by .ensures) _ _ (ap askedOf (c .before .before .before .before .before .before .before .radio2 .given .1)) (c .before .before .before .reported .ensures) (c .accepted2 .ensures)
 
 same-length-3 : tie.Need-same-length-3
 same-length-3 c = search needs
@@ -85,7 +96,7 @@ returns-4 : tie.Need-returns-4
 returns-4 c = λ x.
     let a = c .before .before .before .before .before .before .before .before .before in
     let e = a .before .before .before .before .before .before .before in
-    off-returns (e .args .parts) (e .args .words .now) x (e .args .bytes .now) (e .args .buffer .now) (λ i. a .before .before .before .before .before .shared-slice-known .given i .fits) (a .asked-by .ensures) _ (search (needs, c .before .before .before .before .before .before .before .radio3)) (c .before .before .before .sign-off .ensures) (c .accepted3 .ensures)
+    off-returns (e .args .parts) (e .args .words .now) x (e .args .bytes .now) (e .args .buffer .now) (λ i. a .before .before .before .before .before .shared-slice-known .given i .fits) (a .asked-by .ensures) _ (ap askedOf (c .before .before .before .before .before .before .before .radio3 .given .1)) (c .before .before .before .sign-off .ensures) (c .accepted3 .ensures)
 
 same-length-4 : tie.Need-same-length-4
 same-length-4 c = search needs
@@ -97,12 +108,13 @@ returns-5 : tie.Need-returns-5
 returns-5 c = λ x.
     let a = c .before .before .before .before .before .before .before .before .before in
     let e = a .before .before .before .before .before .before .before in
-    range-returns (e .args .parts) (e .args .words .now) x (e .args .bytes .now) (e .args .buffer .now) (λ i. a .before .before .before .before .before .shared-slice-known .given i .fits) (a .asked-by .ensures) _ _ _ _ (search (needs, c .before .before .before .before .before .before .before .west)) (c .before .before .listed .ensures)
+    range-returns (e .args .parts) (e .args .words .now) x (e .args .bytes .now) (e .args .buffer .now) (λ i. a .before .before .before .before .before .shared-slice-known .given i .fits) (a .asked-by .ensures) _ (ap askedOf (c .before .before .before .before .before .before .before .west .given .1)) (c .before .before .listed .ensures)
 
 pub carry-sound-spec : {M : Type 1} → statement M
 carry-sound-spec =
     tie.close
     (tie.spec
+    cast-asked-by
     asked-by-requires
     enum-known-number
     answered-requires

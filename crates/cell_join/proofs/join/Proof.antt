@@ -42,9 +42,8 @@ join-pages-requires c κs =
     let o = w .before .before .before in
     let e = o .before .before .before .before .before .before in
     let n = near-fits (e .pre .2) (o .read-chain .result) (o .read-chain .ensures .0) (w .sweep-chain .result .table) (w .sweep-chain .ensures) (rowsOf (a .merged .result)) (a .merged .ensures .0) in (
-      e .pre .0,
+      (e .pre .0, omega (arith, n, a .merged .ensures .1, ap length (a .merged .ensures .0))),
       o .read-chain .ensures .2,
-      omega (arith, n, a .merged .ensures .1, ap length (a .merged .ensures .0)),
       near-joins (e .pre .2) (o .read-chain .result) (o .read-chain .ensures .0) (w .sweep-chain .result .table) (w .sweep-chain .ensures) (rowsOf (a .merged .result)) (a .merged .ensures .0),
     )
 

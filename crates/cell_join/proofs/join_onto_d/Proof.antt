@@ -11,16 +11,16 @@ use Rattle.settle.proofs.settle.Reads as settle-reads
 settle-requires : tie.Need-settle-requires
 settle-requires c κs =
     let e = c .before .before in
-    let q = d-asks (e .pre .4) in
-    (e .pre .4 .laid .size, e .pre .2, e .pre .0, q .0, q .1, q .2)
+    let q = d-asks (e .pre .3) in
+    (e .pre .3 .laid .size, e .pre .0 .1, e .pre .0 .0, q .0, q .1, q .2)
 
 give-up-requires : tie.Need-give-up-requires
 give-up-requires c κs =
     let s = c .before .before .before in
     let e = s .before .before .before in
-    let q = m-given-asks (e .pre .4) (s .settle .ensures .0) (s .settle .ensures .1) in
-    let p = d-asks (e .pre .4) in
-    search (q .0, q .1, p .0, e .pre .0, e .pre .1)
+    let q = m-given-asks (e .pre .3) (s .settle .ensures .0) (s .settle .ensures .1) in
+    let p = d-asks (e .pre .3) in
+    search (q .0, q .1, p .0, e .pre .0 .0, e .pre .1)
 
 same-length : tie.Need-same-length
 same-length c = search needs
@@ -30,7 +30,7 @@ returns c = λ x.
     let g = c .before .before in
     let s = g .before .before .before .before in
     let e = s .before .before .before in
-    d-joined x (s .settle .ensures .0) (s .settle .ensures .1) (lt-ltb (e .args .d .number) (e .args .m .number) (e .pre .3)) (g .give-up .ensures .0) (g .give-up .ensures .1)
+    d-joined x (s .settle .ensures .0) (s .settle .ensures .1) (lt-ltb (e .args .d .number) (e .args .m .number) (e .pre .2)) (g .give-up .ensures .0) (g .give-up .ensures .1)
 
 pub join-onto-d-spec : {M : Type 1} → statement M
 join-onto-d-spec = tie.close (tie.spec settle-requires give-up-requires same-length returns)

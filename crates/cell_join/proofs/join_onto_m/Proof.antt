@@ -11,15 +11,15 @@ use Rattle.settle.proofs.settle.Reads as settle-reads
 give-up-requires : tie.Need-give-up-requires
 give-up-requires c κs =
     let e = c .before .before in
-    let q = d-given-asks (e .pre .4) in
-    (q .0, e .pre .0, q .1)
+    let q = d-given-asks (e .pre .3) in
+    (q .0, e .pre .0 .0, q .1)
 
 settle-requires : tie.Need-settle-requires
 settle-requires c κs =
     let g = c .before .before .before in
     let e = g .before .before .before in
-    let q = m-asks (e .pre .4) (g .give-up .ensures .0) (g .give-up .ensures .1) in
-    (m-size (e .pre .4) (g .give-up .ensures .0) (g .give-up .ensures .1), e .pre .2, e .pre .1, q .0, q .1, q .2)
+    let q = m-asks (e .pre .3) (g .give-up .ensures .0) (g .give-up .ensures .1) in
+    (m-size (e .pre .3) (g .give-up .ensures .0) (g .give-up .ensures .1), e .pre .0 .1, e .pre .1, q .0, q .1, q .2)
 
 same-length : tie.Need-same-length
 same-length c = search needs
@@ -29,7 +29,7 @@ returns c = λ x.
     let s = c .before .before in
     let g = s .before .before .before .before in
     let e = g .before .before .before in
-    m-joined x (g .give-up .ensures .0) (g .give-up .ensures .1) (le-ltb (e .args .d .number) (e .args .m .number) (e .pre .3)) (s .settle .ensures .0) (s .settle .ensures .1)
+    m-joined x (g .give-up .ensures .0) (g .give-up .ensures .1) (le-ltb (e .args .d .number) (e .args .m .number) (e .pre .2)) (s .settle .ensures .0) (s .settle .ensures .1)
 
 pub join-onto-m-spec : {M : Type 1} → statement M
 join-onto-m-spec = tie.close (tie.spec give-up-requires settle-requires same-length returns)

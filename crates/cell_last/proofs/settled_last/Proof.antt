@@ -12,13 +12,13 @@ use Rattle.cell_last.proofs.with_cells.Reads as with-cells-reads
 use Rattle.settle.proofs.settle.Reads as settle-reads
 
 mul-d : tie.Need-mul-d
-mul-d c = let h = loose-in-slots (c .before .before .pre .2) in omega arith
+mul-d c = let h = loose-in-slots (c .before .before .pre .1) in omega arith
 
 element-copy-out-d : tie.Need-element-copy-out-d
-element-copy-out-d c = loose-in-slots (c .before .before .pre .2)
+element-copy-out-d c = loose-in-slots (c .before .before .pre .1)
 
 settle-requires : tie.Need-settle-requires
-settle-requires c κs = let e = c .before .before .before .before in loose-settles (e .args .chain) (e .args .table) (e .pre .2) (e .pre .0) (e .pre .1)
+settle-requires c κs = let e = c .before .before .before .before in loose-settles (e .args .chain) (e .args .table) (e .pre .1) (e .pre .0 .0) (e .pre .0 .1)
 
 taken-out-requires : tie.Need-taken-out-requires
 taken-out-requires c κs = search loose-takes
@@ -27,7 +27,7 @@ begun-at-requires : tie.Need-begun-at-requires
 begun-at-requires c κs = search needs
 
 put-last-requires : tie.Need-put-last-requires
-put-last-requires c κs = loose-puts (c .before .before .before .before .before .before .before .before .before .pre .2) (c .before .taken-out .ensures)
+put-last-requires c κs = loose-puts (c .before .before .before .before .before .before .before .before .before .pre .1) (c .before .taken-out .ensures)
 
 with-cells-requires : tie.Need-with-cells-requires
 with-cells-requires c κs = search needs

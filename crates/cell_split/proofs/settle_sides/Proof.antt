@@ -13,10 +13,10 @@ use Rattle.split.proofs.high_part.Reads as high-part-reads
 use Rattle.split.proofs.low_part.Reads as low-part-reads
 
 mul-d : tie.Need-mul-d
-mul-d c = let h = split-in-slots (c .before .before .pre .3) in omega arith
+mul-d c = let h = split-in-slots (c .before .before .pre .2) in omega arith
 
 element-copy-out-d : tie.Need-element-copy-out-d
-element-copy-out-d c = split-in-slots (c .before .before .pre .3)
+element-copy-out-d c = split-in-slots (c .before .before .pre .2)
 
 low-part-requires : tie.Need-low-part-requires
 low-part-requires c κs = search needs
@@ -25,8 +25,8 @@ settle-requires : tie.Need-settle-requires
 settle-requires c κs =
     let l = c .before in
     let e = l .before .before .before .before in
-    let q = low-settles (e .pre .3) (rowsOf (l .low-part .result)) (l .low-part .ensures .0) in
-    (e .pre .3 .midway .laid .size, omega (arith, l .low-part .ensures .2, e .pre .1), e .pre .0, q .0, q .1, q .2)
+    let q = low-settles (e .pre .2) (rowsOf (l .low-part .result)) (l .low-part .ensures .0) in
+    (e .pre .2 .midway .laid .in-grid .laid .size, omega (arith, l .low-part .ensures .2, e .pre .0 .1), e .pre .0 .0, q .0, q .1, q .2)
 
 high-part-requires : tie.Need-high-part-requires
 high-part-requires c κs = search needs
@@ -38,8 +38,8 @@ settle-requires-2 c κs =
     let l = s .before .before in
     let e = l .before .before .before .before in
     let low = rowsOf (l .low-part .result) in
-    let q = high-settles (e .pre .3) low (l .low-part .ensures .0) (s .settle .ensures .0) (s .settle .ensures .1) [] (rowsOf (h .high-part .result)) refl (h .high-part .ensures .0) in
-    (high-size (e .pre .3) low (l .low-part .ensures .0) (s .settle .ensures .0) (s .settle .ensures .1), omega (arith, h .high-part .ensures .2, e .pre .1), omega arith, tt, q .1, q .2)
+    let q = high-settles (e .pre .2) low (l .low-part .ensures .0) (s .settle .ensures .0) (s .settle .ensures .1) [] (rowsOf (h .high-part .result)) refl (h .high-part .ensures .0) in
+    (high-size (e .pre .2) low (l .low-part .ensures .0) (s .settle .ensures .0) (s .settle .ensures .1), omega (arith, h .high-part .ensures .2, e .pre .0 .1), omega arith, tt, q .1, q .2)
 
 same-length : tie.Need-same-length
 same-length c = search needs
@@ -51,7 +51,7 @@ returns c = λ x.
     let s = h .before .before .before in
     let l = s .before .before in
     let e = l .before .before .before .before in
-    sides-return x (rowsOf (l .low-part .result)) (l .low-part .ensures .0) (s .settle .ensures .0) (s .settle .ensures .1) [] (rowsOf (h .high-part .result)) (e .pre .2) refl (h .high-part .ensures .0) (t .settle2 .ensures .0) (t .settle2 .ensures .1)
+    sides-return x (rowsOf (l .low-part .result)) (l .low-part .ensures .0) (s .settle .ensures .0) (s .settle .ensures .1) [] (rowsOf (h .high-part .result)) (e .pre .1) refl (h .high-part .ensures .0) (t .settle2 .ensures .0) (t .settle2 .ensures .1)
 
 pub settle-sides-spec : {M : Type 1} → statement M
 settle-sides-spec =

@@ -1,6 +1,6 @@
 use mathlib.Core.Path.{refl}
 use borrow.Author.Needs.{needs}
-use Rattle.cell_split.proofs.SidesLaws.{split-numbers, split-asks, split-cuts, split-lays}
+use Rattle.cell_split.proofs.SidesLaws.{split-numbers, split-asks, split-cuts, split-laid}
 use Rattle.cell_split.proofs.split.Statement.{statement}
 use Rattle.cell_split.proofs.split.Tie as tie
 use Rattle.cell_split.proofs.split.Reads as reads
@@ -35,7 +35,7 @@ returns c = λ x.
     let t = w .before in
     let s = t .before .before .before in
     let n = s .before .before in
-    split-lays x (w .with-cells .ensures) (s .settle-sides .result) (n .unused-number .ensures) (s .settle-sides .ensures x) (t .split-cells .ensures) refl (c .cut-grid .ensures)
+    split-laid x (w .with-cells .ensures) (s .settle-sides .result) (n .unused-number .ensures) (s .settle-sides .ensures x) (t .split-cells .ensures) refl (c .cut-grid .ensures)
 
 pub split-spec : {M : Type 1} → statement M
 split-spec =

@@ -12,6 +12,9 @@ Inv-loop east north cells n i₀ i = (i ≤ n) × Passed cells (record { east = 
 abbrev μ-loop : tie.MeasureT-loop
 μ-loop east north cells n i₀ i = n - i
 
+cast-n : tie.Need-cast-n Inv-loop μ-loop
+cast-n c = search needs
+
 loop-holds : tie.Need-loop-holds Inv-loop μ-loop
 loop-holds c = (search needs, search (pass-start, length-mapped))
 
@@ -45,6 +48,7 @@ cell-at-spec =
     (tie.spec
     Inv-loop
     μ-loop
+    cast-n
     loop-holds
     mul-slot
     element-copy-out-slot

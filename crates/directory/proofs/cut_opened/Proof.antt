@@ -16,6 +16,9 @@ Inv-loop place at c₀ n i₀ c i = (place ≤ i) × Opened (c₀ .at) n i (c .a
 abbrev μ-loop : tie.MeasureT-loop
 μ-loop place at c₀ n i₀ c i = i
 
+cast-i : tie.Need-cast-i Inv-loop μ-loop
+cast-i c = search needs
+
 loop-holds : tie.Need-loop-holds Inv-loop μ-loop
 loop-holds c = (search needs, let l : length (c .args .cuts .at) ≡ maxCuts = search needs in open-start (omega arith))
 
@@ -58,6 +61,7 @@ cut-opened-spec =
     (tie.spec
     Inv-loop
     μ-loop
+    cast-i
     loop-holds
     sub-j
     mul-x

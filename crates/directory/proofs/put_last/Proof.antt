@@ -3,6 +3,9 @@ use borrow.Author.Needs.{needs}
 use Rattle.directory.proofs.put_last.Statement.{statement}
 use Rattle.directory.proofs.put_last.Tie as tie
 
+cast-last : tie.Need-cast-last
+cast-last c = search needs
+
 mul-slot : tie.Need-mul-slot
 mul-slot c = search needs
 
@@ -16,4 +19,4 @@ returns : tie.Need-returns
 returns c = search push-directory
 
 pub put-last-spec : {M : Type 1} → statement M
-put-last-spec = tie.close (tie.spec mul-slot element-set-from-slot add-d returns)
+put-last-spec = tie.close (tie.spec cast-last mul-slot element-set-from-slot add-d returns)

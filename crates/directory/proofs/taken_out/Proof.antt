@@ -11,13 +11,16 @@ use Rattle.directory.proofs.taken_out.Statement.{statement}
 use Rattle.directory.proofs.taken_out.Tie as tie
 
 abbrev Inv-loop : tie.InvT-loop
-Inv-loop at d₀ last i₀ d i = (i ≤ last) × Closed (d₀ .slots) at i (d .slots)
+Inv-loop at d₀ left last i₀ d i = (i ≤ last) × Closed (d₀ .slots) at i (d .slots)
 
 abbrev μ-loop : tie.MeasureT-loop
-μ-loop at d₀ last i₀ d i = last - i
+μ-loop at d₀ left last i₀ d i = last - i
 
-sub-last : tie.Need-sub-last Inv-loop μ-loop
-sub-last c = search needs
+sub-left : tie.Need-sub-left Inv-loop μ-loop
+sub-left c = search needs
+
+cast-last : tie.Need-cast-last Inv-loop μ-loop
+cast-last c = search needs
 
 loop-holds : tie.Need-loop-holds Inv-loop μ-loop
 loop-holds c = (search needs, let l : length (c .args .cells .slots) ≡ maxCells = search length-mapped in close-start (omega arith))
@@ -43,8 +46,8 @@ loop-less c = search needs
 loop-again : tie.Need-loop-again Inv-loop μ-loop
 loop-again c = (search needs, let l : length (c .before .before .before .args .cells .slots) ≡ maxCells = search length-mapped in close-turn _ (c .before .before .loop .inv .1) (omega arith))
 
-mul-t8 : tie.Need-mul-t8 Inv-loop μ-loop
-mul-t8 c = search needs
+mul-t18 : tie.Need-mul-t18 Inv-loop μ-loop
+mul-t18 c = search needs
 
 element-set-from-d : tie.Need-element-set-from-d Inv-loop μ-loop
 element-set-from-d c = search needs
@@ -58,7 +61,8 @@ taken-out-spec =
     (tie.spec
     Inv-loop
     μ-loop
-    sub-last
+    sub-left
+    cast-last
     loop-holds
     add-j
     mul-x
@@ -67,6 +71,6 @@ taken-out-spec =
     element-set-from-x
     loop-less
     loop-again
-    mul-t8
+    mul-t18
     element-set-from-d
     returns)

@@ -12,6 +12,9 @@ Inv-loop cells n used₀ i₀ used i = (i ≤ n) × Marked cells i used
 abbrev μ-loop : tie.MeasureT-loop
 μ-loop cells n used₀ i₀ used i = n - i
 
+cast-n : tie.Need-cast-n Inv-loop μ-loop
+cast-n c = search needs
+
 loop-holds : tie.Need-loop-holds Inv-loop μ-loop
 loop-holds c = (search needs, search (mark-start, length-mapped))
 
@@ -45,6 +48,7 @@ used-numbers-spec =
     (tie.spec
     Inv-loop
     μ-loop
+    cast-n
     loop-holds
     mul-slot
     element-copy-out-slot

@@ -15,23 +15,23 @@ reported-requires c κs =
 
 is-quiet-requires : tie.Need-is-quiet-requires
 is-quiet-requires c κs =
-    let o = c .before .before in
+    let o = c .before in
     quiet-asks (report-effect (o .before .before .pre) (o .reported .result) (o .reported .ensures))
 
-add-t13 : tie.Need-add-t13
-add-t13 c =
-    let o = c .before .before .before .before in
+add-told : tie.Need-add-told
+add-told c =
+    let o = c .before .before .before in
     let k = quiet-asks (report-effect (o .before .before .pre) (o .reported .result) (o .reported .ensures)) in
-    omega (arith, k .3)
+    omega (arith, k .2)
 
 returns : tie.Need-returns
 returns c = λ x.
-    let o = c .before .before .before .before in
+    let o = c .before .before .before in
     report-carries x (o .reported .result) (o .reported .ensures) (λ y. effect-quiet y (c .before .is-quiet .ensures) (c .if1 .taken))
 
 followed-requires : tie.Need-followed-requires
 followed-requires c κs =
-    let o = c .before .before .before .before .before .before in
+    let o = c .before .before .before .before .before in
     report-effect (o .before .before .pre) (o .reported .result) (o .reported .ensures)
 
 same-length : tie.Need-same-length
@@ -40,7 +40,7 @@ same-length c = search needs
 returns-2 : tie.Need-returns-2
 returns-2 c = λ x.
     let f = c .before .before in
-    let o = f .before .before .before .before .before .before .before in
+    let o = f .before .before .before .before .before .before in
     report-carries x (o .reported .result) (o .reported .ensures) (f .followed .ensures)
 
 pub reported-spec : {M : Type 1} → statement M
@@ -49,7 +49,7 @@ reported-spec =
     (tie.spec
     reported-requires
     is-quiet-requires
-    add-t13
+    add-told
     returns
     followed-requires
     same-length

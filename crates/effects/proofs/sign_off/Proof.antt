@@ -1,20 +1,20 @@
 use borrow.Author.Needs.{needs}
 use Rattle.desk.specs.Views.{deskWith}
 use Rattle.own_effect.proofs.StoreLaws.{off-asks}
-use Rattle.effects.proofs.OwnLaws.{off-left, off-carries}
+use Rattle.effects.proofs.OwnLaws.{off-tallies, off-carries}
 use Rattle.effects.proofs.sign_off.Statement.{statement}
 use Rattle.effects.proofs.sign_off.Tie as tie
 
 signed-off-requires : tie.Need-signed-off-requires
 signed-off-requires c κs =
-    let start = c .before .before .before .before .before in
+    let start = c .before .before .before .before in
     let x = start .pre in
     off-asks (x .sound .store) (deskWith (start .args .parts) (start .args .words .now)) (x .sound .held) (x .sound .well) (start .args .radio)
 
 ticked-requires : tie.Need-ticked-requires
 ticked-requires c κs =
     let o = c .before .before .before .before in
-    off-left (o .before .before .before .before .before .before .pre) (o .signed-off .ensures)
+    off-tallies (o .before .before .before .before .before .pre) (o .signed-off .ensures)
 
 same-length : tie.Need-same-length
 same-length c = search needs

@@ -7,14 +7,14 @@ use Rattle.effects.proofs.sign_on.Tie as tie
 
 signed-on-requires : tie.Need-signed-on-requires
 signed-on-requires c κs =
-    let start = c .before .before .before .before in
+    let start = c .before .before .before in
     let x = start .pre in
     on-asks (x .sound .store) (deskWith (start .args .parts) (start .args .words .now)) (x .sound .held) (x .sound .well) (x .signs .room)
 
 followed-requires : tie.Need-followed-requires
 followed-requires c κs =
     let o = c .before .before .before .before in
-    on-effect (o .before .before .before .before .before .pre) (o .signed-on .result) (o .signed-on .ensures)
+    on-effect (o .before .before .before .before .pre) (o .signed-on .result) (o .signed-on .ensures)
 
 same-length : tie.Need-same-length
 same-length c = search needs

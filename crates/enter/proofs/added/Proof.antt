@@ -10,7 +10,7 @@ inserted-requires : tie.Need-inserted-requires
 inserted-requires c κs = (search missing-fits, search needs, search still-missing)
 
 memo-added-requires : tie.Need-memo-added-requires
-memo-added-requires c κs = (search needs, search memo-fits, search needs, search needs)
+memo-added-requires c κs = ((search needs, search memo-fits, search needs), search needs)
 
 returns : tie.Need-returns
 returns c = search adds

@@ -16,6 +16,9 @@ abbrev μ-loop : tie.MeasureT-loop
 gathered-requires : tie.Need-gathered-requires Inv-loop μ-loop
 gathered-requires c κs = search needs
 
+cast-n : tie.Need-cast-n Inv-loop μ-loop
+cast-n c = search needs
+
 loop-holds : tie.Need-loop-holds Inv-loop μ-loop
 loop-holds c = (search needs, search entering-start)
 
@@ -47,6 +50,7 @@ enter-all-spec =
     Inv-loop
     μ-loop
     gathered-requires
+    cast-n
     loop-holds
     mul-x
     element-copy-out-x

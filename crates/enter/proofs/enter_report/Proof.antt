@@ -1,4 +1,5 @@
 use borrow.Author.Needs.{needs}
+use Rattle.entries.proofs.TableLaws.{means-found, means-missing}
 use Rattle.enter.proofs.EnterLaws.{table-fits}
 use Rattle.enter.proofs.enter_report.Statement.{statement}
 use Rattle.enter.proofs.enter_report.Tie as tie
@@ -13,13 +14,13 @@ enum-told : tie.Need-enum-told
 enum-told c = search needs
 
 added-requires : tie.Need-added-requires
-added-requires c κs = (search needs, cc)
+added-requires c κs = (search needs, search means-missing)
 
 returns : tie.Need-returns
 returns c = search needs
 
 moved-requires : tie.Need-moved-requires
-moved-requires c κs = (search needs, cc)
+moved-requires c κs = (search needs, search means-found)
 
 returns-2 : tie.Need-returns-2
 returns-2 c = search needs

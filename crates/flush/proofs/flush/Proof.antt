@@ -4,7 +4,7 @@ use Rattle.flush.proofs.flush.Statement.{statement}
 use Rattle.flush.proofs.flush.Tie as tie
 
 home-of-requires : tie.Need-home-of-requires
-home-of-requires c κs = home-asks (c .before .pre .0) (c .before .args .m) (c .before .pre .1) (c .before .pre .2)
+home-of-requires c κs = home-asks (c .before .pre .0) (c .before .args .m) (c .before .pre .1)
 
 enum-known-at : tie.Need-enum-known-at
 enum-known-at c = search needs

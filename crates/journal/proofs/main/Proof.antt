@@ -1,5 +1,5 @@
 use borrow.Author.Needs.{needs}
-use Rattle.journal_printer.proofs.PrinterLaws.{printed-none}
+use Rattle.journal_printer.proofs.PrinterLaws.{begun-fresh}
 use Rattle.journal.proofs.main.Statement.{statement}
 use Rattle.journal.proofs.main.Tie as tie
 
@@ -22,7 +22,12 @@ slice-aggregate-print-journal-3 : tie.Need-slice-aggregate-print-journal-3
 slice-aggregate-print-journal-3 c = search needs
 
 print-journal-requires : tie.Need-print-journal-requires
-print-journal-requires c κs = printed-none (c .before .before .before .before .begin .ensures) (search needs)
+print-journal-requires c κs =
+    let f = begun-fresh (c .before .before .before .before .begin .ensures) (search needs) in
+    (f .0, f .1, search needs, search needs)
+
+tell-requires : tie.Need-tell-requires
+tell-requires c κs = search needs
 
 returns : tie.Need-returns
 returns c = search needs
@@ -38,4 +43,5 @@ main-spec =
     slice-aggregate-print-journal-2
     slice-aggregate-print-journal-3
     print-journal-requires
+    tell-requires
     returns)

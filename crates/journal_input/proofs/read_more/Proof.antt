@@ -1,3 +1,4 @@
+use native.Mathlib.Omega.{arith}
 use Rattle.journal_input.proofs.InputLaws.{front-kept}
 use borrow.Author.Needs.{needs}
 use Rattle.journal_input.proofs.read_more.Statement.{statement}
@@ -15,26 +16,28 @@ part-read-end c = search needs
 read-requires : tie.Need-read-requires
 read-requires c κs = search needs
 
-sub-count : tie.Need-sub-count
-sub-count c = search needs
+sub-bytes-came : tie.Need-sub-bytes-came
+sub-bytes-came c = search needs
 
-part-count-start : tie.Need-part-count-start
-part-count-start c = search needs
+part-bytes-came-start : tie.Need-part-bytes-came-start
+part-bytes-came-start c = search needs
 
-part-count-end : tie.Need-part-count-end
-part-count-end c = search needs
+part-bytes-came-end : tie.Need-part-bytes-came-end
+part-bytes-came-end c = search needs
 
-count-requires : tie.Need-count-requires
-count-requires c κs = search needs
+bytes-came-requires : tie.Need-bytes-came-requires
+bytes-came-requires c κs = search needs
 
-add-result : tie.Need-add-result
-add-result c = search needs
+add-t7 : tie.Need-add-t7
+add-t7 c = search needs
 
 same-length : tie.Need-same-length
 same-length c = search needs
 
 returns : tie.Need-returns
-returns c = (search front-kept, search needs, search needs)
+returns c =
+    let b = c .before .bytes-came .ensures in
+    (search front-kept, search needs, λ o. omega (arith, b .2 o), λ o. omega (arith, b .3 o))
 
 pub read-more-spec : {M : Type 1} → statement M
 read-more-spec =
@@ -44,10 +47,10 @@ read-more-spec =
     part-read-start
     part-read-end
     read-requires
-    sub-count
-    part-count-start
-    part-count-end
-    count-requires
-    add-result
+    sub-bytes-came
+    part-bytes-came-start
+    part-bytes-came-end
+    bytes-came-requires
+    add-t7
     same-length
     returns)

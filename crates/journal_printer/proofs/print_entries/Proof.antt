@@ -18,6 +18,9 @@ mul-print-entry c = search needs
 print-entry-requires : tie.Need-print-entry-requires Inv-loop μ-loop
 print-entry-requires c κs = search needs
 
+returns : tie.Need-returns Inv-loop μ-loop
+returns c = search needs
+
 add-i : tie.Need-add-i Inv-loop μ-loop
 add-i c = search needs
 
@@ -27,8 +30,8 @@ loop-less c = search needs
 loop-again : tie.Need-loop-again Inv-loop μ-loop
 loop-again c = search needs
 
-returns : tie.Need-returns Inv-loop μ-loop
-returns c = search needs
+returns-2 : tie.Need-returns-2 Inv-loop μ-loop
+returns-2 c = search needs
 
 pub print-entries-spec : {M : Type 1} → statement M
 print-entries-spec =
@@ -39,7 +42,8 @@ print-entries-spec =
     loop-holds
     mul-print-entry
     print-entry-requires
+    returns
     add-i
     loop-less
     loop-again
-    returns)
+    returns-2)

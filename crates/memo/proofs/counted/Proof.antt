@@ -6,7 +6,7 @@ use Rattle.memo.proofs.counted.Statement.{statement}
 use Rattle.memo.proofs.counted.Tie as tie
 
 lookup-requires : tie.Need-lookup-requires
-lookup-requires c κs = (whole-size (c .before .pre .0) (search needs), search needs, search needs)
+lookup-requires c κs = (whole-size (c .before .pre .0 .0) (search needs), search needs, search needs)
 
 enum-known-spot : tie.Need-enum-known-spot
 enum-known-spot c = search needs
@@ -24,19 +24,19 @@ line-at-requires : tie.Need-line-at-requires
 line-at-requires c κs =
     let l = c .before .before .before .before in
     let s = l .before .before in
-    (held-slot _ _ (s .args .first .radio) (s .pre .0) (s .pre .2) (l .lookup .ensures) (c .before .before .spot2 .given .1) (search needs), whole-size (s .pre .0) (search needs))
+    (held-slot _ _ (s .args .first .radio) (s .pre .0 .0) (s .pre .0 .2) (l .lookup .ensures) (c .before .before .spot2 .given .1) (search needs), whole-size (s .pre .0 .0) (search needs))
 
 add-t14 : tie.Need-add-t14
 add-t14 c =
     let l = c .before .before .before .before .before .before in
     let s = l .before .before in
-    omega (arith, held-room _ _ (s .args .first .radio) (s .pre .0) (s .pre .2) (l .lookup .ensures) (c .before .before .before .before .spot2 .given .1) (c .before .line-at .ensures) (s .pre .3))
+    omega (arith, held-room _ _ (s .args .first .radio) (s .pre .0 .0) (s .pre .0 .2) (l .lookup .ensures) (c .before .before .before .before .spot2 .given .1) (c .before .line-at .ensures) (s .pre .1))
 
 put-line-requires : tie.Need-put-line-requires
 put-line-requires c κs =
     let l = c .before .before .before .before .before .before .before in
     let s = l .before .before in
-    (held-slot _ _ (s .args .first .radio) (s .pre .0) (s .pre .2) (l .lookup .ensures) (c .before .before .before .before .before .spot2 .given .1) (search needs), whole-size (s .pre .0) (search needs))
+    (held-slot _ _ (s .args .first .radio) (s .pre .0 .0) (s .pre .0 .2) (l .lookup .ensures) (c .before .before .before .before .before .spot2 .given .1) (search needs), whole-size (s .pre .0 .0) (search needs))
 
 returns : tie.Need-returns
 returns c = search raise-open

@@ -46,6 +46,9 @@ loop-less c = search needs
 loop-again : tie.Need-loop-again Inv-loop μ-loop
 loop-again c = (search needs, search needs, search lower-turn)
 
+cast-result : tie.Need-cast-result Inv-loop μ-loop
+cast-result c = search needs
+
 returns : tie.Need-returns Inv-loop μ-loop
 returns c = search lower-end
 
@@ -66,4 +69,5 @@ written-anew-spec =
     add-i
     loop-less
     loop-again
+    cast-result
     returns)

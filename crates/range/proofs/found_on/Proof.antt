@@ -1,6 +1,7 @@
 -- Of the radios passed those found are kept.
 use Prim.Native.Nat.{_-_, _≤_}
-use Rattle.range_places.specs.Places.{rectOf, placesIn}
+use Rattle.desk.specs.Views.{rectOf}
+use Rattle.range_places.specs.Places.{placesIn}
 use Rattle.range.proofs.ListLaws.{on-radios, Kept, keep-start, keep-turn, keep-end}
 use borrow.Author.Needs.{needs}
 use Rattle.range.proofs.found_on.Statement.{statement}
@@ -11,6 +12,9 @@ Inv-loop easts norths marks area on n found₀ kept₀ i₀ found kept i = (i �
 
 abbrev μ-loop : tie.MeasureT-loop
 μ-loop easts norths marks area on n found₀ kept₀ i₀ found kept i = n - i
+
+cast-n : tie.Need-cast-n Inv-loop μ-loop
+cast-n c = search needs
 
 loop-holds : tie.Need-loop-holds Inv-loop μ-loop
 loop-holds c = (search needs, search needs, search (keep-start, needs))
@@ -45,6 +49,9 @@ loop-less c = search needs
 loop-again : tie.Need-loop-again Inv-loop μ-loop
 loop-again c = (search needs, search needs, search (keep-turn, needs))
 
+cast-found : tie.Need-cast-found Inv-loop μ-loop
+cast-found c = search needs
+
 returns : tie.Need-returns Inv-loop μ-loop
 returns c = (search keep-end, search needs)
 
@@ -54,6 +61,7 @@ found-on-spec =
     (tie.spec
     Inv-loop
     μ-loop
+    cast-n
     loop-holds
     mul-radio
     element-copy-out-radio
@@ -65,4 +73,5 @@ found-on-spec =
     add-i
     loop-less
     loop-again
+    cast-found
     returns)

@@ -9,20 +9,17 @@ hold-all-requires c κs = (empty-table, search needs, search needs)
 found-on-requires : tie.Need-found-on-requires
 found-on-requires c κs = search needs
 
+cast-if1 : tie.Need-cast-if1
+cast-if1 c = search needs
+
 mul-if1 : tie.Need-mul-if1
 mul-if1 c = search needs
-
-cast-t24 : tie.Need-cast-t24
-cast-t24 c = search needs
 
 returns : tie.Need-returns
 returns c = told-short _ _ _ _ _ _ _ (c .before .before .before .before .before .hold-all .ensures) (c .before .found-on .ensures .0) _ (search needs) (c .before .found-on .ensures .1) (c .if1 .taken)
 
 write-rows-requires : tie.Need-write-rows-requires
 write-rows-requires c κs = (search needs, search needs, search needs, found-radios _ _ _ (c .before .before .before .before .found-on .ensures .0) (c .before .before .before .before .before .before .before .before .before .before .before .before .before .before .pre .3), search needs)
-
-cast-t29 : tie.Need-cast-t29
-cast-t29 c = search needs
 
 same-length : tie.Need-same-length
 same-length c = search needs
@@ -36,10 +33,9 @@ list-spec =
     (tie.spec
     hold-all-requires
     found-on-requires
+    cast-if1
     mul-if1
-    cast-t24
     returns
     write-rows-requires
-    cast-t29
     same-length
     returns-2)

@@ -13,6 +13,9 @@ Inv-loop buffer₀ easts norths found n i₀ buffer i = (i ≤ n) × (length buf
 abbrev μ-loop : tie.MeasureT-loop
 μ-loop buffer₀ easts norths found n i₀ buffer i = n - i
 
+cast-n : tie.Need-cast-n Inv-loop μ-loop
+cast-n c = search needs
+
 loop-holds : tie.Need-loop-holds Inv-loop μ-loop
 loop-holds c = (search needs, search needs, search writing-start)
 
@@ -49,6 +52,7 @@ write-rows-spec =
     (tie.spec
     Inv-loop
     μ-loop
+    cast-n
     loop-holds
     mul-radio
     element-copy-out-radio

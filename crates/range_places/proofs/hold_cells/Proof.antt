@@ -2,8 +2,8 @@
 use Prim.Native.Nat.{_-_, _≤_}
 use lib.ListN.{take}
 use Rattle.lists.proofs.ShiftLaws.{length-mapped}
-use Rattle.desk.specs.Views.{slotsIn}
-use Rattle.range_places.specs.Places.{rectOf, placesIn, Holds, over, slotOver}
+use Rattle.desk.specs.Views.{slotsIn, rectOf}
+use Rattle.range_places.specs.Places.{placesIn, Holds, over, slotOver}
 use Rattle.range_places.proofs.TableLaws.{cells-start, cells-radios, cells-turn, cells-end}
 use borrow.Author.Needs.{needs}
 use Rattle.range_places.proofs.hold_cells.Statement.{statement}
@@ -14,6 +14,9 @@ Inv-loop pages area easts₀ norths₀ marks₀ cells n i₀ easts norths marks 
 
 abbrev μ-loop : tie.MeasureT-loop
 μ-loop pages area easts₀ norths₀ marks₀ cells n i₀ easts norths marks i = n - i
+
+cast-n : tie.Need-cast-n Inv-loop μ-loop
+cast-n c = search needs
 
 loop-holds : tie.Need-loop-holds Inv-loop μ-loop
 loop-holds c = (search needs, search cells-start)
@@ -45,6 +48,7 @@ hold-cells-spec =
     (tie.spec
     Inv-loop
     μ-loop
+    cast-n
     loop-holds
     mul-cell
     element-copy-out-cell

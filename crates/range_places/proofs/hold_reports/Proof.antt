@@ -16,6 +16,9 @@ Inv-loop easts₀ norths₀ marks₀ waiting n i₀ easts norths marks i = (i �
 abbrev μ-loop : tie.MeasureT-loop
 μ-loop easts₀ norths₀ marks₀ waiting n i₀ easts norths marks i = n - i
 
+cast-n : tie.Need-cast-n Inv-loop μ-loop
+cast-n c = search needs
+
 loop-holds : tie.Need-loop-holds Inv-loop μ-loop
 loop-holds c = (search needs, search reports-start)
 
@@ -50,6 +53,7 @@ hold-reports-spec =
     (tie.spec
     Inv-loop
     μ-loop
+    cast-n
     loop-holds
     mul-x
     element-copy-out-x

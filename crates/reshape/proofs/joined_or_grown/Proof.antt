@@ -25,7 +25,7 @@ enum-told : tie.Need-enum-told
 enum-told c = search needs
 
 settled-last-requires : tie.Need-settled-last-requires
-settled-last-requires c κs = let e = c .before .before .before .before .before .before .before .before .before in (e .pre .0, omega (arith, e .pre .1, e .pre .2), midway-loose (e .pre .3))
+settled-last-requires c κs = let e = c .before .before .before .before .before .before .before .before .before in ((e .pre .0, omega (arith, e .pre .1, e .pre .2)), midway-loose (e .pre .3))
 
 same-length : tie.Need-same-length
 same-length c = search needs
@@ -45,7 +45,7 @@ returns-2 c = λ x.
     let n = j .before .before .before .before .before .before in
     let t = n .before .before in
     let e = t .before .before .before .before in
-    near-returns x (t .taken-out .ensures) (e .pre .1) (e .pre .2) (n .find-neighbour .ensures) _ (search (needs, j .before .before .before .before .k, j .before .before .before .before .before .match)) (j .join .ensures)
+    near-returns x (t .taken-out .ensures) (e .pre .1) (e .pre .2) (n .find-neighbour .ensures) _ (j .before .before .before .before .k .given .1) (j .join .ensures)
 
 pub joined-or-grown-spec : {M : Type 1} → statement M
 joined-or-grown-spec =

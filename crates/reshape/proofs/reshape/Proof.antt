@@ -3,7 +3,7 @@ use Rattle.reshape.proofs.reshape.Statement.{statement}
 use Rattle.reshape.proofs.reshape.Tie as tie
 
 split-or-grown-requires : tie.Need-split-or-grown-requires
-split-or-grown-requires c κs = let e = c .before .before .before .before in (e .pre .0, e .pre .1, search needs, record { memo = _; midway = e .pre .3 })
+split-or-grown-requires c κs = let e = c .before .before .before .before in (e .pre .0, search needs, record { memo = _; midway = e .pre .2 })
 
 same-length : tie.Need-same-length
 same-length c = search needs

@@ -5,8 +5,11 @@ use Rattle.reshape.proofs.WholeLaws.{midway-in, cuts-few, full-returns,
 use Rattle.reshape.proofs.split_or_grown.Statement.{statement}
 use Rattle.reshape.proofs.split_or_grown.Tie as tie
 
+cast-if1 : tie.Need-cast-if1
+cast-if1 c = search needs
+
 settled-last-requires : tie.Need-settled-last-requires
-settled-last-requires c κs = let e = c .before .before .before .before in (e .pre .0, e .pre .1, midway-loose (e .pre .3 .midway))
+settled-last-requires c κs = let e = c .before .before .before .before in (e .pre .0, midway-loose (e .pre .2 .midway))
 
 same-length : tie.Need-same-length
 same-length c = search needs
@@ -15,13 +18,13 @@ returns : tie.Need-returns
 returns c = λ x. search (full-returns (x .midway))
 
 mul-d : tie.Need-mul-d
-mul-d c = let h = midway-in (c .before .before .before .pre .3 .midway) in omega arith
+mul-d c = let h = midway-in (c .before .before .before .pre .2 .midway) in omega arith
 
 element-copy-out-d : tie.Need-element-copy-out-d
-element-copy-out-d c = midway-in (c .before .before .before .pre .3 .midway)
+element-copy-out-d c = midway-in (c .before .before .before .pre .2 .midway)
 
 chosen-cut-requires : tie.Need-chosen-cut-requires
-chosen-cut-requires c κs = let e = c .before .before .before .before .before .before in let q = cuts-few (e .pre .3 .midway) in (e .pre .1, q .0, q .1)
+chosen-cut-requires c κs = let e = c .before .before .before .before .before .before in let q = cuts-few (e .pre .2 .midway) in (e .pre .0 .1, q .0, q .1)
 
 enum-known-axis : tie.Need-enum-known-axis
 enum-known-axis c = search needs
@@ -30,27 +33,28 @@ enum-told : tie.Need-enum-told
 enum-told c = search needs
 
 settled-last-requires-2 : tie.Need-settled-last-requires-2
-settled-last-requires-2 c κs = let e = c .before .before .before .before .before .before .before .before .before .before in (e .pre .0, e .pre .1, midway-loose (e .pre .3 .midway))
+settled-last-requires-2 c κs = let e = c .before .before .before .before .before .before .before .before .before .before in (e .pre .0, midway-loose (e .pre .2 .midway))
 
 same-length-2 : tie.Need-same-length-2
 same-length-2 c = search needs
 
 returns-2 : tie.Need-returns-2
-returns-2 c = λ x. search (uncut-returns (x .midway) (c .before .before .before .before .before .before .before .before .before .before .before .before .before .pre .2))
+returns-2 c = λ x. search (uncut-returns (x .midway) (c .before .before .before .before .before .before .before .before .before .before .before .before .before .pre .1))
 
 split-requires : tie.Need-split-requires
-split-requires c κs = let e = c .before .before .before .before .before .before .before .before .before .before .before in (e .pre .0, e .pre .1, search (splits (e .pre .3 .midway) (e .pre .2)))
+split-requires c κs = let e = c .before .before .before .before .before .before .before .before .before .before .before in (e .pre .0, search (splits (e .pre .2 .midway) (e .pre .1)))
 
 same-length-3 : tie.Need-same-length-3
 same-length-3 c = search needs
 
 returns-3 : tie.Need-returns-3
-returns-3 c = λ x. search (split-returns (x .midway) (c .before .before .before .before .before .before .before .before .before .before .before .before .before .before .pre .2))
+returns-3 c = λ x. search (split-returns (x .midway) (c .before .before .before .before .before .before .before .before .before .before .before .before .before .before .pre .1))
 
 pub split-or-grown-spec : {M : Type 1} → statement M
 split-or-grown-spec =
     tie.close
     (tie.spec
+    cast-if1
     settled-last-requires
     same-length
     returns

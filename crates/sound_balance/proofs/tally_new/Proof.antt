@@ -18,6 +18,9 @@ Inv-loop balance₀ w n so₀ i₀ balance so i = (i ≤ w .n) × (length (w .ro
 abbrev μ-loop : tie.MeasureT-loop
 μ-loop balance₀ w n so₀ i₀ balance so i = w .n - i
 
+cast-n : tie.Need-cast-n Inv-loop μ-loop
+cast-n c = search needs
+
 loop-holds : tie.Need-loop-holds Inv-loop μ-loop
 loop-holds c = (search needs, search length-mapped, search adding-start, search belonging-start)
 
@@ -69,6 +72,7 @@ tally-new-spec =
     (tie.spec
     Inv-loop
     μ-loop
+    cast-n
     loop-holds
     mul-x
     element-copy-out-x

@@ -19,6 +19,9 @@ boxes-of-requires c κs = search needs
 loop-holds : tie.Need-loop-holds Inv-loop μ-loop
 loop-holds c = (search needs, few-start _ _)
 
+cast-if1 : tie.Need-cast-if1 Inv-loop μ-loop
+cast-if1 c = search needs
+
 mul-box-index : tie.Need-mul-box-index Inv-loop μ-loop
 mul-box-index c = search needs
 
@@ -86,6 +89,7 @@ few-sound-spec =
     μ-loop
     boxes-of-requires
     loop-holds
+    cast-if1
     mul-box-index
     element-copy-out-box-index
     mul-box-index-2

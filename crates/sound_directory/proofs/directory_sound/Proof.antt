@@ -3,6 +3,9 @@ use borrow.Author.Needs.{needs}
 use Rattle.sound_directory.proofs.directory_sound.Statement.{statement}
 use Rattle.sound_directory.proofs.directory_sound.Tie as tie
 
+cast-if1 : tie.Need-cast-if1
+cast-if1 c = search needs
+
 returns : tie.Need-returns
 returns c = search directory-long
 
@@ -20,4 +23,4 @@ returns-3 c = search directory-names
 
 pub directory-sound-spec : {M : Type 1} → statement M
 directory-sound-spec =
-    tie.close (tie.spec returns slots-rest-requires returns-2 names-sound-requires returns-3)
+    tie.close (tie.spec cast-if1 returns slots-rest-requires returns-2 names-sound-requires returns-3)

@@ -14,6 +14,9 @@ Inv-loop d sum₀ i₀ sum i = (i ≤ maxCells) × (sum ≤ 6 * mostField * i) �
 abbrev μ-loop : tie.MeasureT-loop
 μ-loop d sum₀ i₀ sum i = maxCells - i
 
+cast-i : tie.Need-cast-i Inv-loop μ-loop
+cast-i c = search needs
+
 loop-holds : tie.Need-loop-holds Inv-loop μ-loop
 loop-holds c = (search needs, search needs, weighed-start _ _ _ _ (search length-mapped))
 
@@ -47,6 +50,7 @@ slots-rest-spec =
     (tie.spec
     Inv-loop
     μ-loop
+    cast-i
     loop-holds
     mul-slot-weight
     element-copy-out-slot-weight

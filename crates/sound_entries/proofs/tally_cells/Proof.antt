@@ -16,6 +16,9 @@ Inv-loop pages words lines balance₀ cells counts₀ n i₀ balance counts i = 
 abbrev μ-loop : tie.MeasureT-loop
 μ-loop pages words lines balance₀ cells counts₀ n i₀ balance counts i = cells .n - i
 
+cast-n : tie.Need-cast-n Inv-loop μ-loop
+cast-n c = search needs
+
 loop-holds : tie.Need-loop-holds Inv-loop μ-loop
 loop-holds c = (search needs, search length-mapped, search (cells-start, needs))
 
@@ -52,6 +55,7 @@ tally-cells-spec =
     (tie.spec
     Inv-loop
     μ-loop
+    cast-n
     loop-holds
     mul-s
     element-copy-out-s

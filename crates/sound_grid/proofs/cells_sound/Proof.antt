@@ -1,4 +1,4 @@
-use Rattle.sound_directory.proofs.LoopLaws.{stops}
+use Rattle.lists.proofs.SlotsLaws.{stops}
 use Rattle.sound_grid.proofs.TileLaws.{raised-size, tile-end}
 use borrow.Author.Needs.{needs}
 use Rattle.sound_grid.proofs.cells_sound.Statement.{statement}
@@ -10,8 +10,14 @@ mark-cells-requires c κs = search needs
 returns : tie.Need-returns
 returns c = search stops
 
+cast-rows-once : tie.Need-cast-rows-once
+cast-rows-once c = search needs
+
 add-rows-once : tie.Need-add-rows-once
 add-rows-once c = search needs
+
+cast-rows-once-2 : tie.Need-cast-rows-once-2
+cast-rows-once-2 c = search needs
 
 add-rows-once-2 : tie.Need-add-rows-once-2
 add-rows-once-2 c = search needs
@@ -28,7 +34,9 @@ cells-sound-spec =
     (tie.spec
     mark-cells-requires
     returns
+    cast-rows-once
     add-rows-once
+    cast-rows-once-2
     add-rows-once-2
     rows-once-requires
     returns-2)

@@ -1,4 +1,4 @@
-use Rattle.sound_directory.proofs.LoopLaws.{passed-true}
+use Rattle.lists.proofs.SlotsLaws.{passed-true}
 use Rattle.sound_grid.proofs.SoundLaws.{cuts-room, cells-room, grid-east, grid-north, grid-cells, grid-tile}
 use borrow.Author.Needs.{needs}
 use Rattle.sound_grid.proofs.grid_sound.Statement.{statement}

@@ -20,6 +20,9 @@ abbrev μ-loop : tie.MeasureT-loop
 loop-holds : tie.Need-loop-holds Inv-loop μ-loop
 loop-holds c = (search needs, search needs, search (pass-start, length-mapped), search (marked-start, length-mapped))
 
+cast-loop : tie.Need-cast-loop Inv-loop μ-loop
+cast-loop c = search needs
+
 mul-mark-slot : tie.Need-mul-mark-slot Inv-loop μ-loop
 mul-mark-slot c = search needs
 
@@ -51,6 +54,7 @@ mark-cells-spec =
     Inv-loop
     μ-loop
     loop-holds
+    cast-loop
     mul-mark-slot
     element-copy-out-mark-slot
     mark-slot-requires

@@ -4,6 +4,9 @@ use borrow.Author.Needs.{needs}
 use Rattle.sound_grid.proofs.mark_slot.Statement.{statement}
 use Rattle.sound_grid.proofs.mark_slot.Tie as tie
 
+cast-extent-of : tie.Need-cast-extent-of
+cast-extent-of c = search needs
+
 extent-of-requires : tie.Need-extent-of-requires
 extent-of-requires c κs = (search needs, search cuts-tested)
 
@@ -15,6 +18,9 @@ enum-told c = search needs
 
 returns : tie.Need-returns
 returns c = (search edges-east, search raised-not)
+
+cast-extent-of-2 : tie.Need-cast-extent-of-2
+cast-extent-of-2 c = search needs
 
 extent-of-requires-2 : tie.Need-extent-of-requires-2
 extent-of-requires-2 c κs = (search needs, search cuts-tested)
@@ -38,10 +44,12 @@ pub mark-slot-spec : {M : Type 1} → statement M
 mark-slot-spec =
     tie.close
     (tie.spec
+    cast-extent-of
     extent-of-requires
     enum-known-west
     enum-told
     returns
+    cast-extent-of-2
     extent-of-requires-2
     enum-known-south
     enum-told-2

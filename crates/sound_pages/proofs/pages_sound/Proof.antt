@@ -10,6 +10,9 @@ mul-if1 c = search needs
 returns : tie.Need-returns
 returns c = sound-short _ _ _ (c .if1 .taken)
 
+cast-if2 : tie.Need-cast-if2
+cast-if2 c = search needs
+
 returns-2 : tie.Need-returns-2
 returns-2 c = sound-many _ _ _ (search length-mapped) (c .if2 .taken)
 
@@ -55,6 +58,7 @@ pages-sound-spec =
     (tie.spec
     mul-if1
     returns
+    cast-if2
     returns-2
     no-marks-requires
     walk-slots-requires

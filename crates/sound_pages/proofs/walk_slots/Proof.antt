@@ -16,6 +16,9 @@ Inv-loop pages m₀ cells n i₀ m i = (i ≤ cells .n) × (length (cells .slots
 abbrev μ-loop : tie.MeasureT-loop
 μ-loop pages m₀ cells n i₀ m i = cells .n - i
 
+cast-n : tie.Need-cast-n Inv-loop μ-loop
+cast-n c = search needs
+
 loop-holds : tie.Need-loop-holds Inv-loop μ-loop
 loop-holds c = (search needs, search length-mapped, refl)
 
@@ -49,6 +52,7 @@ walk-slots-spec =
     (tie.spec
     Inv-loop
     μ-loop
+    cast-n
     loop-holds
     mul-s
     element-copy-out-s

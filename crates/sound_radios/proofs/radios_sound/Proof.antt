@@ -19,6 +19,9 @@ shown : (s : lts.Start (on-due-reads.Asked, on-due-reads.Learnt, lines-due-reads
     → Known (s .args .pages .now) (record { grid = s .args .grid; waiting = s .args .waiting; memo = record { n = s .args .n; words = s .args .words .now }; on = s .args .t6; tally = s .args .tally })
 shown s = known (s .args .pages .now) (record { grid = s .args .grid; waiting = s .args .waiting; memo = record { n = s .args .n; words = s .args .words .now }; on = s .args .t6; tally = s .args .tally }) (record { easts = search needs; norths = search needs; cells = search length-mapped; waiting = search length-mapped; memo = s .pre .0; on = search needs }) (s .pre .1) (s .pre .2)
 
+cast-on-due : tie.Need-cast-on-due
+cast-on-due c = search needs
+
 on-due-requires : tie.Need-on-due-requires
 on-due-requires c κs = let a = on-asks (shown (c .before .before .before .before)) in (search needs, a .0, a .1)
 
@@ -50,22 +53,29 @@ returns-2 c =
     let o = l .before .before .before in
     radios-fail (shown (o .before .before .before .before .before)) blank-zeros (o .on-due .ensures) (l .lines-due .ensures .0) (n .tally-new .ensures .1) (i .if1 .left) _ (l .lines-due .ensures .2) (n .tally-new .ensures .0) (t .tally-cells .ensures .0) (t .tally-cells .ensures .1) (c .before .all-settled .ensures) (c .if2 .taken)
 
+cast-bound-ok : tie.Need-cast-bound-ok
+cast-bound-ok c = search needs
+
+cast-bound-ok-2 : tie.Need-cast-bound-ok-2
+cast-bound-ok-2 c = search needs
+
 bound-ok-requires : tie.Need-bound-ok-requires
-bound-ok-requires c κs = bound-asks (shown (c .before .before .before .before .before .before .before .before .before .before .before .before .before .before .before .before .before))
+bound-ok-requires c κs = bound-asks (shown (c .before .before .before .before .before .before .before .before .before .before .before .before .before .before .before .before .before .before .before))
 
 returns-3 : tie.Need-returns-3
 returns-3 c =
-    let t = c .before .before .before .before in
+    let t = c .before .before .before .before .before .before in
     let i = t .before .before .before in
     let n = i .before in
     let l = n .before .before in
     let o = l .before .before .before in
-    radios-bound (shown (o .before .before .before .before .before)) blank-zeros (o .on-due .ensures) (l .lines-due .ensures .0) (n .tally-new .ensures .1) (i .if1 .left) _ (l .lines-due .ensures .2) (n .tally-new .ensures .0) (t .tally-cells .ensures .0) (t .tally-cells .ensures .1) (c .before .before .all-settled .ensures) (c .before .if2 .left) (c .bound-ok .ensures)
+    radios-bound (shown (o .before .before .before .before .before)) blank-zeros (o .on-due .ensures) (l .lines-due .ensures .0) (n .tally-new .ensures .1) (i .if1 .left) _ (l .lines-due .ensures .2) (n .tally-new .ensures .0) (t .tally-cells .ensures .0) (t .tally-cells .ensures .1) (c .before .before .before .before .all-settled .ensures) (c .before .before .before .if2 .left) (c .bound-ok .ensures)
 
 pub radios-sound-spec : {M : Type 1} → statement M
 radios-sound-spec =
     tie.close
     (tie.spec
+    cast-on-due
     on-due-requires
     lines-due-requires
     tally-new-requires
@@ -73,5 +83,7 @@ radios-sound-spec =
     tally-cells-requires
     all-settled-requires
     returns-2
+    cast-bound-ok
+    cast-bound-ok-2
     bound-ok-requires
     returns-3)

@@ -23,8 +23,14 @@ Inv-loop2 w sum k last₀ i₀ last i = (i ≤ w .n) × Climbs (λ x. x .radio) 
 abbrev μ-loop2 : tie.MeasureT-loop2
 μ-loop2 w sum k last₀ i₀ last i = w .n - i
 
+cast-if1 : tie.Need-cast-if1 Inv-loop μ-loop Inv-loop2 μ-loop2
+cast-if1 c = search needs
+
 returns : tie.Need-returns Inv-loop μ-loop Inv-loop2 μ-loop2
 returns c = search waiting-long
+
+cast-k : tie.Need-cast-k Inv-loop μ-loop Inv-loop2 μ-loop2
+cast-k c = search needs
 
 loop-holds : tie.Need-loop-holds Inv-loop μ-loop Inv-loop2 μ-loop2
 loop-holds c = (search needs, search needs, weighed-start _ _ _ _ (search length-mapped))
@@ -55,6 +61,9 @@ returns-2 c = search waiting-heavy
 
 loop2-holds : tie.Need-loop2-holds Inv-loop μ-loop Inv-loop2 μ-loop2
 loop2-holds c = (search needs, climb-start _ _ _ _ fullMemory (search length-mapped) (search needs))
+
+cast-loop2 : tie.Need-cast-loop2 Inv-loop μ-loop Inv-loop2 μ-loop2
+cast-loop2 c = search needs
 
 mul-x : tie.Need-mul-x Inv-loop μ-loop Inv-loop2 μ-loop2
 mul-x c = search needs
@@ -94,7 +103,9 @@ waiting-sound-spec =
     μ-loop
     Inv-loop2
     μ-loop2
+    cast-if1
     returns
+    cast-k
     loop-holds
     mul-report-weight
     element-copy-out-report-weight
@@ -105,6 +116,7 @@ waiting-sound-spec =
     loop-again
     returns-2
     loop2-holds
+    cast-loop2
     mul-x
     element-copy-out-x
     goes-on-requires

@@ -3,8 +3,8 @@ use mathlib.Core.Path.{_≡_}
 use Prim.Native.Nat.{_-_, _≤_}
 use lib.ListN.{length, take}
 use Rattle.terms.specs.Terms.{pages}
-use Rattle.page.specs.Buffer.{pagesOf}
-use Rattle.sweep.specs.Sweep.{entriesOn, lastsIn, Ready, Sweeps}
+use Rattle.page.specs.Buffer.{pagesOf, entriesOn}
+use Rattle.sweep.specs.Sweep.{lastsIn, Ready, Sweeps}
 use Rattle.sweep.proofs.SweepLaws.{chain-begins, chain-start, page-there, chain-ready, chain-turn, chain-end}
 use borrow.Author.Needs.{needs}
 use Rattle.sweep.proofs.sweep_pages.Statement.{statement}

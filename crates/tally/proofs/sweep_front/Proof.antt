@@ -1,6 +1,6 @@
 use mathlib.Core.Path.{refl}
 use borrow.Author.Needs.{needs}
-use Rattle.tally.proofs.TickLaws.{front-place, front-asks, front-holds}
+use Rattle.tally.proofs.TickLaws.{front-place, front-asks, front-laid}
 use Rattle.tally.proofs.sweep_front.Statement.{statement}
 use Rattle.tally.proofs.sweep_front.Tie as tie
 
@@ -18,7 +18,7 @@ same-length c = search needs
 returns : tie.Need-returns
 returns c =
     let d = c .before .before .before .before .before .before in
-    (refl, λ x. front-holds x _ _ (d .swept-at .ensures) (c .before .before .settled-last .ensures))
+    (refl, λ x. front-laid x _ _ (d .swept-at .ensures) (c .before .before .settled-last .ensures))
 
 pub sweep-front-spec : {M : Type 1} → statement M
 sweep-front-spec = tie.close (tie.spec swept-at-requires settled-last-requires same-length returns)

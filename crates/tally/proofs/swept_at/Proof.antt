@@ -13,10 +13,12 @@ read-chain-requires : tie.Need-read-chain-requires
 read-chain-requires c κs = search needs
 
 sweep-chain-requires : tie.Need-sweep-chain-requires
-sweep-chain-requires c κs = place-asks (c .before .before .before .before .before .pre) _ (c .before .read-chain .ensures)
+sweep-chain-requires c κs = place-asks (c .before .before .before .before .before .pre) (c .before .read-chain .result) (c .before .read-chain .ensures)
 
 returns : tie.Need-returns
-returns c = λ x. place-gives x _ (c .before .before .before .read-chain .ensures) (c .before .sweep-chain .result) (c .before .sweep-chain .ensures)
+returns c = λ x.
+    let r = c .before .before .before in
+    place-gives x (r .read-chain .result) (r .read-chain .ensures) (c .before .sweep-chain .result) (c .before .sweep-chain .ensures)
 
 pub swept-at-spec : {M : Type 1} → statement M
 swept-at-spec =

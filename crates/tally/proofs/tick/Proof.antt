@@ -1,6 +1,6 @@
 use native.Mathlib.Omega.{arith}
 use borrow.Author.Needs.{needs}
-use Rattle.tally.proofs.TickLaws.{tick-counts, tick-sixteenth, tick-sweeps}
+use Rattle.tally.proofs.TickLaws.{tick-counts, tick-sweep, tick-sweeps}
 use Rattle.tally.proofs.tick.Statement.{statement}
 use Rattle.tally.proofs.tick.Tie as tie
 
@@ -11,7 +11,7 @@ returns : tie.Need-returns
 returns c = λ x. tick-counts x (omega (arith, c .if1 .taken))
 
 sweep-front-requires : tie.Need-sweep-front-requires
-sweep-front-requires c κs = tick-sixteenth (c .before .before .before .before .pre) (omega (arith, c .before .before .if1 .left))
+sweep-front-requires c κs = tick-sweep (c .before .before .before .before .pre) (omega (arith, c .before .before .if1 .left))
 
 same-length : tie.Need-same-length
 same-length c = search needs

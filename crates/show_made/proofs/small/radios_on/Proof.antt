@@ -54,6 +54,9 @@ array-write-radios-3 c = search needs
 add-t14 : tie.Need-add-t14 Inv-loop μ-loop
 add-t14 c = search needs
 
+cast-t18 : tie.Need-cast-t18 Inv-loop μ-loop
+cast-t18 c = search needs
+
 returns : tie.Need-returns Inv-loop μ-loop
 returns c = search needs
 
@@ -78,4 +81,5 @@ radios-on-spec =
     mul-radios-3
     array-write-radios-3
     add-t14
+    cast-t18
     returns)

@@ -9,6 +9,9 @@ Inv-loop n memo₀ i₀ memo i = (i ≤ n) × (n ≤ 1151)
 abbrev μ-loop : tie.MeasureT-loop
 μ-loop n memo₀ i₀ memo i = n - i
 
+cast-blank-memo : tie.Need-cast-blank-memo Inv-loop μ-loop
+cast-blank-memo c = search needs
+
 blank-memo-requires : tie.Need-blank-memo-requires Inv-loop μ-loop
 blank-memo-requires c κs = search needs
 
@@ -39,6 +42,7 @@ stale-memo-spec =
     (tie.spec
     Inv-loop
     μ-loop
+    cast-blank-memo
     blank-memo-requires
     loop-holds
     stale-line-requires

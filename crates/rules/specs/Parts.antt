@@ -1,7 +1,7 @@
 -- A well-formed store by its parts, so that each step is shown part by part: the tiling, the radios' books, the pages, the round, and what waits.
 use mathlib.Core.Bool.{Bool, true, false}
 use mathlib.Core.List.{List, _++_, map}
-use mathlib.Core.Option.{Option, none, some}
+use mathlib.Core.Option.{some}
 use mathlib.Core.Path.{_≡_}
 use Prim.Native.Nat.{ℕ, _+_, _-_, _*_, _≤_, _<_}
 use lib.Dec.{ltb}
@@ -12,7 +12,7 @@ use Rattle.lists.specs.Sums.{sumBy, concat, count}
 use Rattle.lists.specs.Tests.{one-if, Each, isSome}
 use Rattle.rules.specs.Limits.{lastMetre, maxCells, maxCuts, fullMemory, sweepEvery}
 use Rattle.rules.specs.Grid.{Axis, spanOf, inside, Cuts, cutsOf}
-use Rattle.rules.specs.Store.{Report, Line, Cell, Store, pagesFor}
+use Rattle.rules.specs.Store.{Report, Line, missedOf, Cell, Store, pagesFor}
 use Rattle.rules.specs.Sweep.{staleBy}
 use Rattle.rules.specs.Carry.{wasNew}
 use Rattle.rules.specs.WellFormed.{RisingCuts, OnCuts, countIf, liveOf, staleIn, InSquare, InSquareIf}
@@ -37,10 +37,6 @@ pub record Tiling (cuts : Cuts) (cells : List Cell) : Type 0 where
 -- entries of a radio that its memo line tells to be stale
 unfoldable pub staleR : Rows Line → ℕ → List Cell → ℕ
 staleR memo r cells = sumBy (λ c. countIf (staleBy (find memo r)) (find (c .entries) r)) cells
-
-abbrev pub missedOf : Option Line → ℕ
-missedOf none = 0
-missedOf (some l) = l .missed
 
 pub record Rowed (c : Cell) : Type 0 where
   pub rising : Rising 0 (c .entries)
