@@ -78,7 +78,7 @@ meets s t = both (leb (s .low) (t .high)) (leb (t .low) (s .high))
 unfoldable pub touches : Rect → Rect → Bool
 touches a b = both (meets (a .easts) (b .easts)) (meets (a .norths) (b .norths))
 
--- "only the pages of cells that the rectangle touches"
+-- only the pages of cells that the rectangle touches
 unfoldable pub slotOver : List ℕ → Rect → Slot → Places → Places
 slotOver b rect s f = cond (touches rect (edgesOf s)) (entriesOver (entriesFrom b (s .first)) f) f
 

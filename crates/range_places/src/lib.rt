@@ -136,7 +136,7 @@ fn hold_touched(
     }
 }
 
-// "only the pages of cells that the rectangle touches"
+// only the pages of cells that the rectangle touches
 fn hold_cells(
     pages: &[u8],
     area: Rectangle,

@@ -16,7 +16,7 @@ pub record Told : Type 0 where
   pub count : ℕ
   pub buffer : List ℕ
 
--- "number 11 only where the bytes do not fit"
+-- number 11 only where the bytes do not fit
 unfoldable pub toldList : Rows Fix → List ℕ → Told
 toldList l buffer =
     cond (ltb (length buffer) (listBytes * length l))
