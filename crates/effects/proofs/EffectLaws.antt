@@ -18,7 +18,6 @@ use Rattle.rules.proofs.CutLaws.{flush-cases, reshaped-cases}
 use Rattle.desk.specs.declared.Grid.{Grid}
 use Rattle.desk.specs.declared.Waiting.{Waiting}
 use Rattle.desk.specs.declared.Memo.{Memo}
-use Rattle.desk.specs.declared.On.{On}
 use Rattle.desk.specs.declared.Desk.{Desk}
 use Rattle.desk.specs.Layout.{gridOf, waitingOf, memoOf, onOf, deskOf, Laid}
 use Rattle.desk.specs.Views.{cutsBy}

@@ -7,7 +7,7 @@ use Prim.Native.Nat.{ℕ, _+_, _≤_}
 use native.Mathlib.Omega.{arith}
 use lib.ListN.{length}
 use lib.Seq.{length-take-le}
-use Rattle.terms.specs.Terms.{Place, maxOn, pages}
+use Rattle.terms.specs.Terms.{Place}
 use Rattle.lists.specs.Rows.{Rows}
 use Rattle.lists.specs.Sums.{filter}
 use Rattle.lists.specs.Among.{Among}

@@ -2,7 +2,7 @@
 use mathlib.Core.Bool.{Bool, true, false, not}
 use mathlib.Core.List.{List, [], _∷_, _++_, append-assoc, append-nil}
 use mathlib.Core.Path.{_≡_, refl, sym, ap, _∙_}
-use Prim.Native.Nat.{ℕ, zero, suc, _+_, _-_, _<_, _≤_, min}
+use Prim.Native.Nat.{ℕ, zero, suc, _+_, _-_, _<_, _≤_}
 use native.Mathlib.Nat.{add-zero, sub-zero}
 use native.Mathlib.Numerals.{add-one}
 use native.Mathlib.Omega.{arith}
@@ -10,7 +10,7 @@ use lib.IntN.{ℤ, pos, negsuc}
 use lib.ListN.{length, take, drop, set, getD, length-drop, length-append}
 use lib.Seq.{take-at, take-add, take-take, take-suc, take-suc-set, drop-drop, drop-set-lt, getD-drop, length-take-le}
 use lib.Signed.{ltZ}
-use borrow.Author.Tests.{ltb-true, ltb-false}
+use borrow.Author.Tests.{ltb-true}
 use mir.Syntax.{w64}
 use mir.Val.{toZ, ofZ, SFits}
 use mir.ValLaws.{toZ-ofZ}
@@ -21,7 +21,7 @@ use Rattle.rules.specs.Records.{lengthField}
 use Rattle.journal_input.specs.declared.Hand.{Hand}
 use Rattle.journal_input.specs.declared.Source.{Source}
 use Rattle.journal_input.specs.declared.Source.the-variants.{Open, Ended, Failed}
-use Rattle.journal_input.specs.Input.{sourceOf, isOpen, windowBytes, atHand, InWindow, Grows, Fills, WholeRecord, Reaches}
+use Rattle.journal_input.specs.Input.{sourceOf, isOpen, atHand, InWindow, Grows, Fills, Reaches}
 
 -- ---- what a read says of the input
 

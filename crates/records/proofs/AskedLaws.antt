@@ -7,7 +7,7 @@ use native.Mathlib.Omega.{arith}
 use lib.Dec.{eqb}
 use lib.ListN.{length}
 use borrow.Author.Tests.{eq-eqb, eqb-true}
-use Rattle.terms.specs.Terms.{Place, maxRadio, maxOn}
+use Rattle.terms.specs.Terms.{Place, maxOn}
 use Rattle.lists.specs.Rows.{Rows, Rising, find}
 use Rattle.lists.specs.Tests.{isSome}
 use Rattle.lists.specs.Words.{Bytes}
@@ -15,7 +15,7 @@ use Rattle.lists.proofs.Cases.{by-cases, none-some, some-injective}
 use Rattle.rules.specs.Records.{Request, signOn, report, signOff, range, requestOf, refusal}
 use Rattle.rules.specs.Store.{Store}
 use Rattle.rules.specs.Carry.{isOn, onCount, carriedOut, carry, allowedIn, allowed}
-use Rattle.rules.specs.WellFormed.{InSquare, WellFormed}
+use Rattle.rules.specs.WellFormed.{WellFormed}
 use Rattle.rules.proofs.RecordLaws.{Accepted, on-passed, report-passed, off-passed, range-passed, accepted}
 use Rattle.desk.specs.declared.On.{On}
 use Rattle.desk.specs.Layout.{onOf}

@@ -26,7 +26,7 @@ use Rattle.rules.specs.Cut.{Cut, chosenCut}
 use Rattle.rules.specs.Flush.{joined, inBox, Flushed, flushedInto, grown, lowCell, highCell, unusedNumber, splitAt, splitOr, beside, neighbours, named, joinedEdges, joinedWith, joinOr, reshaped, lowEdges, highEdges}
 use Rattle.rules.specs.Carry.{wasNew}
 use Rattle.rules.specs.WellFormed.{staleIn}
-use Rattle.rules.specs.Parts.{Edged, Tiling, Rowed, Books, Clean, Paged, Bounded, Signed, Waits, Core, marks, onSet}
+use Rattle.rules.specs.Parts.{Edged, Tiling, Rowed, Books, Clean, Paged, Bounded, Waits, Core, marks, onSet}
 use Rattle.rules.specs.Midway.{MidCall, size, mostEntries, MidFlush}
 use Rattle.rules.proofs.BooksLaws.{books-back, books-back2, books-same, books-swap, books-ext, books-sweep, clean-swept, stale-sweep, stale-sweep-sum, Enters, marksWithout, books-enterEach, clean-enterEach, stale-enterEach, books-split, books-join, clean-join, entries-total, books-among}
 use Rattle.rules.proofs.TilingLaws.{inside-home, tiling-among, others-among, others-split, tiling-move, GoodCut, cutsWith, tiling-split, tiling-join, named-neighbour, smaller-number, round-others}

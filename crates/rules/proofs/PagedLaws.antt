@@ -6,7 +6,7 @@ use Prim.Native.Nat.{ℕ, _+_, _-_, _*_, _≤_, _<_}
 use native.Mathlib.Omega.{arith}
 use lib.Dec.{ltb}
 use lib.ListN.{length, length-append}
-use Rattle.terms.specs.Terms.{Fix, pages, pageEntries, maxOn}
+use Rattle.terms.specs.Terms.{Fix, pages, pageEntries}
 use Rattle.lists.specs.Chains.{settledFree}
 use Rattle.lists.specs.Rows.{Rows}
 use Rattle.lists.specs.Sums.{sumBy, concat}
@@ -14,7 +14,7 @@ use Rattle.lists.specs.Tests.{Each}
 use Rattle.lists.proofs.ChainsLaws.{sum-settled, length-settledChain, length-settledFree, settledFree-give}
 use Rattle.lists.proofs.SumsLaws.{sum-nil, sum-cons, sum-append, sum-const, sum-ext, sum-concat, sum-each, length-filter-not, length-each-once, sum-middle, sum-map}
 use Rattle.lists.proofs.TestsLaws.{each-append, each-split, each-middle, cond-holds}
-use Rattle.rules.specs.Limits.{maxCells, fullMemory, sweepEvery, joinEntries}
+use Rattle.rules.specs.Limits.{maxCells, joinEntries}
 use Rattle.rules.specs.Store.{Cell, Store, others, pagesFor, settled, freeAfter}
 use Rattle.rules.specs.Sweep.{stale, sweptEntries, swept, sweepFront}
 use Rattle.rules.specs.Cut.{Cut, lowSide}

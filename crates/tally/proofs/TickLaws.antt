@@ -7,7 +7,6 @@ use native.Mathlib.Omega.{arith}
 use lib.Dec.{ltb}
 use lib.ListN.{length, drop}
 use borrow.Author.Tests.{lt-ltb, le-ltb}
-use Rattle.terms.specs.Terms.{maxOn, pages}
 use Rattle.lists.proofs.SumsLaws.{length-filter-not}
 use Rattle.entries.specs.Entries.{rowsOf}
 use Rattle.page.specs.Buffer.{pagesOf}
