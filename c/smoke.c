@@ -91,11 +91,13 @@ int main(void)
 
     const uint8_t on[] = {10, 0, 1, 0, 7, 0, 100, 0, 200, 0};
     const uint8_t report[] = {10, 0, 2, 0, 7, 0, 44, 1, 200, 0};
-    const uint8_t range[] = {12, 0, 4, 0, 0, 0, 44, 1, 0, 0, 200, 0};
+    const uint8_t edges[] = {12, 0, 4, 0, 0, 0, 44, 1, 0, 0, 200, 0};
+    const uint8_t range[] = {12, 0, 4, 0, 0, 0, 45, 1, 0, 0, 201, 0};
     const uint8_t off[] = {6, 0, 3, 0, 7, 0};
     const uint8_t listed[] = {7, 0, 44, 1, 200, 0};
     expect(on, sizeof on, 0, 0);
     expect(report, sizeof report, 0, 0);
+    expect(edges, sizeof edges, 0, 0);
     assert(all(lent.buffer, sizeof lent.buffer, 0xA5));
     expect(range, sizeof range, 0, 1);
     assert(memcmp(lent.buffer, listed, sizeof listed) == 0);

@@ -8,9 +8,9 @@
 
 /* The layout of the desk is part of the version: a desk that another version saved is not for this one. */
 #define BORAGEFILE_VERSION_MAJOR 0
-#define BORAGEFILE_VERSION_MINOR 1
+#define BORAGEFILE_VERSION_MINOR 2
 #define BORAGEFILE_VERSION_PATCH 0
-#define BORAGEFILE_VERSION "0.1.0"
+#define BORAGEFILE_VERSION "0.2.0"
 
 #define BORAGEFILE_PAGES_BYTES 25600 /* 128 pages of 200 bytes */
 #define BORAGEFILE_DESK_BYTES 14402
@@ -166,7 +166,8 @@ extern "C" {
 boragefile_answer boragefile_begin(boragefile_desk *desk, uint8_t *pages, size_t pages_length);
 
 /* Hands in one record. A turned-down call keeps every byte. An accepted range lists its radios at the buffer's start, count of them; after any
- * other answer, number 11 among them, what stands in the buffer is no list. */
+ * other answer, number 11 among them, what stands in the buffer is no list. A range's west and south edges are inside, its east and north edges
+ * outside; but an east or north edge of 65,535 takes in that last line. */
 boragefile_answer boragefile_call(boragefile_desk *desk, uint8_t *pages, size_t pages_length,
                                   const uint8_t *bytes, size_t bytes_length,
                                   uint8_t *buffer, size_t buffer_length);

@@ -1,11 +1,12 @@
 #!/usr/bin/env python3
 """A plain model of the position desk: the contract with the user, sentence by sentence, on lists and dicts.
 
-    from model import Model             Model().call(record, buffer) answers number, count and the bytes written
+    from model import Model             Model().call(record, buffer, lent) answers number, count and the bytes written
     tools/model.py FILE...              holds journals (see tools/replay-vectors) against the model
 
 It is written from the contract's text and from the readings in docs/DECISIONS.md, not from the crates, so that one can be held
-against the other. Quick it is not: every step looks at everything. It takes its own store for sound, so it never answers 1 or 2.
+against the other. Quick it is not: every step looks at everything. It takes its own store for sound: it answers 1 where the lent page buffer has
+another length, and 2 where the pages are not the ones that it left, without asking whether some other store is laid out in them.
 """
 import hashlib
 import json
@@ -38,6 +39,7 @@ SIGN_ON, REPORT, SIGN_OFF, RANGE = 1, 2, 3, 4
 LENGTHS = {SIGN_ON: 10, REPORT: 10, SIGN_OFF: 6, RANGE: 12}
 
 EAST, NORTH = 0, 1          # the two directions; a place is (east, north)
+STRANGE = ("page_bytes", "damage")  # what a journal's line may say of the page buffer (tools/replay-vectors)
 ORDER = ("west", "east", "south", "north")  # where several neighbours may be joined, the first of these (left free by the contract)
 
 
@@ -62,9 +64,13 @@ def entry_bytes(radio, place):
     return fields(radio, *place)
 
 
+def takes_in(low, high, coordinate):
+    # "the west and south edges are inside and the east and north edges are outside, but an east or north edge of 65,535 still takes in that last line"
+    return low <= coordinate and (coordinate < high or high == LAST_METRE)
+
+
 def in_range(place, west, east, south, north):
-    # "All four edges count as inside."
-    return west <= place[EAST] <= east and south <= place[NORTH] <= north
+    return takes_in(west, east, place[EAST]) and takes_in(south, north, place[NORTH])
 
 
 def in_cell(place, west, east, south, north):
@@ -103,9 +109,10 @@ class Model:
 
     # ---- one call
 
-    def call(self, given, buffer):
+    def call(self, given, buffer, lent=None):
+        """`lent` is the page buffer; without it, the store's own pages."""
         self.seen = []
-        number = self.refusal(given)
+        number = self.pages_refusal(lent) or self.refusal(given)
         if number:
             return number, 0, b""
         kind, body = parsed(given)
@@ -124,6 +131,12 @@ class Model:
             self.flush_if_due(place)
         self.tick()
         return 0, 0, b""
+
+    def pages_refusal(self, lent):
+        # "Turned down, in checking order": 1 and 2, or 0
+        if lent is None or lent == self.pages():
+            return 0
+        return 1 if len(lent) != PAGES * PAGE_BYTES else 2
 
     def refusal(self, given):
         # "Turned down, in checking order": 3 to 10, or 0
@@ -361,11 +374,24 @@ class Model:
             "tally": self.tally,
         }
 
-    def line(self, given, buffer, with_store):
-        """Makes a call. Answers its line of a journal."""
-        number, count, answer = self.call(given, buffer)
-        line = {"record": given.hex(), "buffer": buffer, "number": number, "count": count, "answer": answer.hex(),
-                "pages": hashlib.sha256(self.pages()).hexdigest()}
+    def lent(self, page_bytes=None, damage=()):
+        """The page buffer that a line lends: the store's pages, cut off or with zeros behind them, with damage written in. None: as they are."""
+        if page_bytes is None and not damage:
+            return None
+        pages = bytearray(self.pages())
+        if page_bytes is not None:
+            pages = pages[:page_bytes].ljust(page_bytes, b"\0")
+        for at, byte in damage:
+            pages[at] = byte
+        return bytes(pages)
+
+    def line(self, given, buffer, with_store, **strange):
+        """Makes a call. Answers its line of a journal. `strange` is what the line says of the page buffer: `page_bytes`, `damage`."""
+        lent = self.lent(**strange)
+        number, count, answer = self.call(given, buffer, lent)
+        left = lent if number in (1, 2) else self.pages()
+        line = {"record": given.hex(), "buffer": buffer, **strange, "number": number, "count": count, "answer": answer.hex(),
+                "pages": hashlib.sha256(left).hexdigest()}
         return {**line, "store": self.store()} if with_store else line
 
 
@@ -379,9 +405,10 @@ def main(files):
         with open(name, encoding="ascii") as lines:
             for number, line in enumerate(lines, 1):
                 wanted = json.loads(line)
-                made = model.line(bytes.fromhex(wanted["record"]), wanted["buffer"], "store" in wanted)
+                strange = {key: wanted[key] for key in STRANGE if key in wanted}
+                made = model.line(bytes.fromhex(wanted["record"]), wanted["buffer"], "store" in wanted, **strange)
                 if made != wanted:
-                    differing = [key for key in wanted if made[key] != wanted[key]]
+                    differing = [key for key in wanted if made.get(key) != wanted[key]]
                     print(f"{name}: line {number}: {', '.join(differing)}")
                     agreed = False
                     break

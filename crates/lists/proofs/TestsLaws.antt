@@ -1,6 +1,6 @@
 -- Laws of tests as Bools, and of what they pick.
 use mathlib.Core.Path.{_≡_, refl, sym, ap}
-use mathlib.Core.Bool.{Bool, true, false, cond, _&&_}
+use mathlib.Core.Bool.{Bool, true, false, cond, _&&_, _||_}
 use mathlib.Core.List.{List, [], _∷_, _++_, map}
 use mathlib.Core.Option.{Option, none, some}
 use Prim.Native.Nat.{ℕ, zero, suc, _+_, _≤_, _<_}
@@ -21,6 +21,15 @@ and-both a b = by-cases a (λ t. rw t) (λ t. rw t)
 
 pub both-tell : {p q : Bool} (a b : Bool) → p ≡ a → q ≡ b → (p && q) ≡ both a b
 both-tell a b e f = rw (e, f) (and-both a b)
+
+-- the same for "or"
+pub or-either : (a b : Bool) → (a || b) ≡ either a b
+unfolding either
+or-either true b = refl
+or-either false b = refl
+
+pub either-tell : {p q : Bool} (a b : Bool) → p ≡ a → q ≡ b → (p || q) ≡ either a b
+either-tell a b e f = rw (e, f) (or-either a b)
 
 pub both-left : (a b : Bool) → both a b ≡ true → a ≡ true
 unfolding both

@@ -7,7 +7,7 @@ use mathlib.Core.Option.{Option, none, some}
 use Prim.Native.Nat.{ℕ, _+_, _≤_}
 use native.Mathlib.Omega.{arith}
 use lib.Dec.{eqb}
-use borrow.Author.Tests.{eqb-true, leb-true, le-leb}
+use borrow.Author.Tests.{eqb-true}
 use Rattle.terms.specs.Terms.{Place, Fix}
 use Rattle.lists.specs.Rows.{Rows, Rising, find, putRow, passed}
 use Rattle.lists.specs.Sums.{sumBy}
@@ -16,7 +16,7 @@ use Rattle.lists.proofs.Cases.{by-cases, option-cases, false-true}
 use Rattle.lists.proofs.RowsLaws.{find-below, each-find, find-each}
 use Rattle.lists.proofs.SumsLaws.{sum-nil, sum-cons, sum-ext, sum-zero}
 use Rattle.lists.proofs.TestsLaws.{both-left, both-right, both-intro, one-if-false, each-map}
-use Rattle.rules.specs.Grid.{Span, within, Rect, inside, samePlace}
+use Rattle.rules.specs.Grid.{within, Rect, inside, covers, samePlace}
 use Rattle.rules.specs.Store.{Report, Line, Cell, Store}
 use Rattle.rules.specs.Sweep.{stale}
 use Rattle.rules.specs.Carry.{isOn, wasNew, liveIn, storedIn, placeOf, latest, listIf, listOf, found}
@@ -24,7 +24,8 @@ use Rattle.rules.specs.Plain.{putAt}
 use Rattle.rules.specs.WellFormed.{WellFormed, GoodCell, countIf, liveOf}
 use Rattle.rules.proofs.LiveLaws.{liveBy, stored-at}
 use Rattle.rules.proofs.PlaceLaws.{samePlace-refl, samePlace-true}
-use Rattle.range_places.specs.Places.{Places, noPlaces, over, rowOver, entriesOver, linesOver, reportsOver, meets, touches}
+use Rattle.range_places.specs.Places.{Places, noPlaces, over, rowOver, entriesOver, linesOver, reportsOver, touches}
+use Rattle.range_places.proofs.TouchLaws.{covered-touches}
 
 -- ---- rows laid over places
 
@@ -108,17 +109,6 @@ module _ (memo : Rows Line) (r : ℕ) (unlined : find memo r ≡ none) where
       ∙ count-orElse t (find (c .entries) r) (storedIn memo r cs) (omega (arith, stored-count cs few anyPlace, sum-cons (f anyPlace) c cs))
       ∙ omega (arith, stored-count cs few t, sum-cons (f t) c cs)
 
--- two spans, and two rectangles, that have a coordinate, or a place, in common
-meets-within : (s t : Span) (x : ℕ) → within s x ≡ true → within t x ≡ true → meets s t ≡ true
-meets-within s t x h k =
-    both-intro (le-leb (s .low) (t .high) (omega (arith, leb-true (s .low) x (both-left _ _ h), leb-true x (t .high) (both-right _ _ k))))
-    (le-leb (t .low) (s .high) (omega (arith, leb-true (t .low) x (both-left _ _ k), leb-true x (s .high) (both-right _ _ h))))
-
-touches-inside : (a b : Rect) (p : Place) → inside a p ≡ true → inside b p ≡ true → touches a b ≡ true
-unfolding touches
-touches-inside a b p h k =
-    both-intro (meets-within (a .easts) (b .easts) (p .east) (both-left _ _ h) (both-left _ _ k)) (meets-within (a .norths) (b .norths) (p .north) (both-right _ _ h) (both-right _ _ k))
-
 -- a cell's entries over the places, if the rectangle touches it
 abbrev pub cellOver : Rect → Cell → Places → Places
 cellOver rect c f = cond (touches rect (c .edges)) (entriesOver (c .entries) f) f
@@ -143,19 +133,19 @@ module _ (rect : Rect) (r : ℕ) where
     count-few : countIf anyPlace (cellOver rect c f r) ≤ countIf anyPlace (f r) + countIf anyPlace (find (c .entries) r)
     count-few = by-cases (touches rect (c .edges)) (λ u. omega (arith, count-touched anyPlace u)) (λ u. rw u (omega arith))
 
-    count-skipped : (t : Place → Bool) → ((p : Place) → t p ≡ true → inside rect p ≡ true) → touches rect (c .edges) ≡ false → countIf t (find (c .entries) r) ≡ 0
+    count-skipped : (t : Place → Bool) → ((p : Place) → t p ≡ true → covers rect p ≡ true) → touches rect (c .edges) ≡ false → countIf t (find (c .entries) r) ≡ 0
     count-skipped t within u =
         option-cases (find (c .entries) r)
         (λ e. rw e)
         (λ p e. rw e (by-cases (t p)
-        (λ v. let y = touches-inside rect (c .edges) p (within p v) (each-find (λ _ q. inside (c .edges) q ≡ true) r p (c .entries) (k .placed) e) in false-true (sym u ∙ y))
+        (λ v. let y = covered-touches rect (c .edges) p (within p v) (each-find (λ _ q. inside (c .edges) q ≡ true) r p (c .entries) (k .placed) e) in false-true (sym u ∙ y))
         (λ v. rw v)))
 
-    count-cell : (t : Place → Bool) → ((p : Place) → t p ≡ true → inside rect p ≡ true) → countIf t (cellOver rect c f r) ≡ countIf t (f r) + countIf t (find (c .entries) r)
+    count-cell : (t : Place → Bool) → ((p : Place) → t p ≡ true → covers rect p ≡ true) → countIf t (cellOver rect c f r) ≡ countIf t (f r) + countIf t (find (c .entries) r)
     count-cell t within = by-cases (touches rect (c .edges)) (λ u. count-touched t u) (λ u. rw u (omega (arith, count-skipped t within u)))
 
   -- an entry in the rectangle is met, for its cell is touched
-  count-cells : (cells : List Cell) (f : Places) → Each Placed cells → countIf anyPlace (f r) + heldBy anyPlace r cells ≤ 1 → (t : Place → Bool) → ((p : Place) → t p ≡ true → inside rect p ≡ true)
+  count-cells : (cells : List Cell) (f : Places) → Each Placed cells → countIf anyPlace (f r) + heldBy anyPlace r cells ≤ 1 → (t : Place → Bool) → ((p : Place) → t p ≡ true → covers rect p ≡ true)
       → countIf t (over (cellOver rect) cells f r) ≡ countIf t (f r) + heldBy t r cells
   unfolding over
   count-cells [] f k h t within = omega (arith, sum-nil (λ (c : Cell). countIf t (find (c .entries) r)))
@@ -174,24 +164,24 @@ module _ (rect : Rect) (r : ℕ) where
 -- a place that lies in the rectangle
 abbrev pub seen : Rect → Option Place → Option Place
 seen rect none = none
-seen rect (some p) = cond (inside rect p) (some p) none
+seen rect (some p) = cond (covers rect p) (some p) none
 
 abbrev Alike : Rect → Option Place → Option Place → Type 0
-Alike rect a b = (t : Place → Bool) → ((p : Place) → t p ≡ true → inside rect p ≡ true) → countIf t a ≡ countIf t b
+Alike rect a b = (t : Place → Bool) → ((p : Place) → t p ≡ true → covers rect p ≡ true) → countIf t a ≡ countIf t b
 
 seen-alike : (rect : Rect) (a b : Option Place) → Alike rect a b → seen rect a ≡ seen rect b
 seen-alike rect none none h = refl
-seen-alike rect none (some q) h = rw (one-if-false (inside rect q) (sym (h (inside rect) (λ p e. e))))
-seen-alike rect (some p) none h = rw (one-if-false (inside rect p) (h (inside rect) (λ q e. e)))
+seen-alike rect none (some q) h = rw (one-if-false (covers rect q) (sym (h (covers rect) (λ p e. e))))
+seen-alike rect (some p) none h = rw (one-if-false (covers rect p) (h (covers rect) (λ q e. e)))
 seen-alike rect (some p) (some q) h =
-    by-cases (inside rect p)
-    (λ i. let t : Place → Bool = λ x. both (inside rect x) (samePlace p x) in
-    let w : (x : Place) → t x ≡ true → inside rect x ≡ true = λ x e. both-left _ _ e in
+    by-cases (covers rect p)
+    (λ i. let t : Place → Bool = λ x. both (covers rect x) (samePlace p x) in
+    let w : (x : Place) → t x ≡ true → covers rect x ≡ true = λ x e. both-left _ _ e in
     by-cases (t q)
     (λ u. rw (← samePlace-true p q (both-right _ _ u)))
     (λ u. absurd (omega (arith, h t w, ap one-if (both-intro i (samePlace-refl p)), ap one-if u))))
-    (λ i. by-cases (inside rect q)
-    (λ j. absurd (omega (arith, h (inside rect) (λ x e. e), ap one-if i, ap one-if j)))
+    (λ i. by-cases (covers rect q)
+    (λ j. absurd (omega (arith, h (covers rect) (λ x e. e), ap one-if i, ap one-if j)))
     (λ j. rw (i, j)))
 
 -- ---- the table of a well-formed store
@@ -253,7 +243,7 @@ module _ (s : Store) (w : WellFormed s) (rect : Rect) (r : ℕ) (on : isOn s r �
 
 listIf-seen : (rect : Rect) (r : ℕ) (o : Option Place) (l : Rows Fix) → listIf rect r o l ≡ putRow r (seen rect o) l
 listIf-seen rect r none l = refl
-listIf-seen rect r (some p) l = by-cases (inside rect p) (λ t. rw t) (λ t. rw t)
+listIf-seen rect r (some p) l = by-cases (covers rect p) (λ t. rw t) (λ t. rw t)
 
 listOf-seen : (rect : Rect) (f g : Places) (l : Rows (Unit {0})) → Each (λ x. seen rect (f (x .key)) ≡ seen rect (g (x .key))) l → listOf rect f l ≡ listOf rect g l
 unfolding listOf

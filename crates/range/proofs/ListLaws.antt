@@ -18,7 +18,7 @@ use Rattle.lists.proofs.SumsLaws.{filter-append}
 use Rattle.lists.proofs.PartsLaws.{put-nil, put-then}
 use Rattle.lists.proofs.TestsLaws.{each-filter}
 use Rattle.lists.proofs.SlotsLaws.{mapped-turn, mapped-end, each-mapped}
-use Rattle.rules.specs.Grid.{Rect, inside}
+use Rattle.rules.specs.Grid.{Rect, covers}
 use Rattle.rules.specs.Carry.{inRange, listIf, listOf, listBytes, bytesOf}
 use Rattle.rules.specs.Told.{toldList}
 use Rattle.desk.specs.declared.On.{On}
@@ -50,7 +50,7 @@ empty-table = record {
 
 -- ---- whether a radio is found
 
-pub found-tells : (easts norths : List ℕ) (marks : List Bool) (rect : Rect) (r : ℕ) {q : Bool} → q ≡ inside rect (record { east = getD easts r 0; north = getD norths r 0 })
+pub found-tells : (easts norths : List ℕ) (marks : List Bool) (rect : Rect) (r : ℕ) {q : Bool} → q ≡ covers rect (record { east = getD easts r 0; north = getD norths r 0 })
     → (getD marks r false && q) ≡ inRange rect (placesIn easts norths marks r)
 unfolding placesIn
 found-tells easts norths marks rect r e = rw e (by-cases (getD marks r false) (λ t. rw t) (λ t. rw t))

@@ -7,7 +7,7 @@ ghost use Rattle.terms.specs.Terms.{maxRadio, maxOn};
 ghost use Rattle.lists.specs.Parts.{put};
 ghost use Rattle.lists.specs.Rows.{UpTo};
 ghost use Rattle.lists.specs.Sums.{filter};
-ghost use Rattle.rules.specs.Grid.{within, inside};
+ghost use Rattle.rules.specs.Grid.{covers};
 ghost use Rattle.rules.specs.Carry.{inRange, listBytes, bytesOf};
 ghost use Rattle.rules.specs.Told.{toldList};
 ghost use Rattle.desk.specs.Layout.{lineSlots, lineFields};
@@ -21,6 +21,7 @@ use desk::On;
 use desk::Rectangle;
 use desk::Waiting;
 use range_places::RADIO_SLOTS;
+use range_places::takes_in;
 
 const LIST_BYTES: usize = 6;
 
@@ -36,18 +37,11 @@ pub struct Listed {
 
 // ---- rectangles
 
-// Whether a coordinate lies between two edges, both of them inside. No branch: which radios are found follows no pattern.
-fn is_within(low: u16, high: u16, x: u16) -> bool
-    ensures { λ r. ⌜ r ≡ within (record { low = low; high = high }) x ⌝ }
+// Whether the range takes in the place.
+fn is_covered(area: Rectangle, east: u16, north: u16) -> bool
+    ensures { λ r. ⌜ r ≡ covers (rectOf area) (record { east = east; north = north }) ⌝ }
 {
-    (low <= x) & (x <= high)
-}
-
-// Whether the place lies in the rectangle.
-fn is_inside(area: Rectangle, east: u16, north: u16) -> bool
-    ensures { λ r. ⌜ r ≡ inside (rectOf area) (record { east = east; north = north }) ⌝ }
-{
-    is_within(area.west, area.east, east) & is_within(area.south, area.north, north)
+    takes_in(area.west, area.east, east) & takes_in(area.south, area.north, north)
 }
 
 // ---- the list
@@ -64,7 +58,7 @@ fn is_found(
     ensures { λ r. ⌜ r ≡ inRange (rectOf area) (placesIn (now (easts .entry)) (now (norths .entry)) (now (marks .entry)) radio) ⌝ }
 {
     let at = radio as usize;
-    marks[at] & is_inside(area, easts[at], norths[at])
+    marks[at] & is_covered(area, easts[at], norths[at])
 }
 
 // Those of the radios on that are found: a radio is put after those kept, and kept where it is.

@@ -5,14 +5,13 @@ use mathlib.Core.List.{List, [], _∷_}
 use mathlib.Core.Option.{Option, none, some}
 use mathlib.Core.Path.{_≡_}
 use Prim.Native.Nat.{ℕ, _+_, _≤_}
-use lib.Dec.{leb}
 use lib.ListN.{length, getD}
 use Rattle.terms.specs.Terms.{Place, Fix, maxRadio, pages}
 use Rattle.lists.specs.Rows.{Row, Rows, UpTo}
-use Rattle.lists.specs.Tests.{both, Each}
+use Rattle.lists.specs.Tests.{both, Each, either}
 use Rattle.page.specs.Buffer.{entriesFrom}
 use Rattle.rules.specs.Limits.{maxCells, fullMemory}
-use Rattle.rules.specs.Grid.{Span, Rect}
+use Rattle.rules.specs.Grid.{Span, within, takesIn, Rect}
 use Rattle.rules.specs.Store.{Report, Line}
 use Rattle.rules.specs.Plain.{putAt}
 use Rattle.desk.specs.declared.Slot.{Slot}
@@ -71,10 +70,11 @@ linesOver = over (rowOver (λ l. l .last))
 unfoldable pub reportsOver : Rows Report → Places → Places
 reportsOver = over (rowOver (λ w. some (w .place)))
 
--- some place lies in both; "All four edges count as inside."
+-- a range's edges, and a cell's: the cell begins in the range, or the range, which takes in its own low edge, in the cell
 abbrev pub meets : Span → Span → Bool
-meets s t = both (leb (s .low) (t .high)) (leb (t .low) (s .high))
+meets s t = either (takesIn s (t .low)) (both (within t (s .low)) (takesIn s (s .low)))
 
+-- "A cell is touched if some place in it lies in one of the rectangles."
 unfoldable pub touches : Rect → Rect → Bool
 touches a b = both (meets (a .easts) (b .easts)) (meets (a .norths) (b .norths))
 

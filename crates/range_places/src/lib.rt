@@ -11,6 +11,7 @@ ghost use Rattle.lists.specs.Tests.{Each};
 ghost use Rattle.page.specs.Page.{entries};
 ghost use Rattle.page.specs.Buffer.{pageAt, there, entriesFrom};
 ghost use Rattle.rules.specs.Limits.{maxCells, fullMemory};
+ghost use Rattle.rules.specs.Grid.{takesIn};
 ghost use Rattle.rules.specs.Plain.{putAt};
 ghost use Rattle.desk.specs.Layout.{lineSlots, lineFields};
 ghost use Rattle.desk.specs.Views.{slotsIn, edgesOf, rectOf};
@@ -31,11 +32,20 @@ pub const RADIO_SLOTS: usize = MAX_RADIO as usize + 1;
 
 // ---- rectangles
 
-// Whether two spans have a coordinate in common.
-fn is_meeting(low: u16, high: u16, other_low: u16, other_high: u16) -> bool
-    ensures { λ r. ⌜ r ≡ meets (record { low = low; high = high }) (record { low = «other_low»; high = «other_high» }) ⌝ }
+// Whether a range's two edges take in a coordinate: the low edge is inside, the high one outside, but at the last metre it takes in that line. No branch: which
+// radios are found follows no pattern.
+pub fn takes_in(low: u16, high: u16, x: u16) -> bool
+    ensures { λ r. ⌜ r ≡ takesIn (record { low = low; high = high }) x ⌝ }
 {
-    (low <= other_high) & (other_low <= high)
+    (low <= x) & ((x < high) | (high == Desk::LAST_METRE))
+}
+
+// Whether a range's edges and a cell's have a coordinate in common: the cell begins in the range, or the range in the cell.
+fn is_meeting(low: u16, high: u16, cell_low: u16, cell_high: u16) -> bool
+    ensures { λ r. ⌜ r ≡ meets (record { low = low; high = high }) (record { low = «cell_low»; high = «cell_high» }) ⌝ }
+{
+    takes_in(low, high, cell_low)
+        | ((cell_low <= low) & (low <= cell_high) & takes_in(low, high, low))
 }
 
 // Whether the rectangle touches the cell.

@@ -10,6 +10,7 @@ pub mod PlainLaws
 pub mod RecordLaws
 pub mod RoundLaws
 pub mod ShortPoints
+pub mod SquaresLaws
 pub mod StepLaws
 pub mod TilingLaws
 pub mod ToldLaws

@@ -16,7 +16,7 @@ use Rattle.lists.specs.Tests.{one-if, both, isSome}
 use Rattle.lists.proofs.Cases.{by-cases, option-cases, false-true, isSome-true, isSome-false}
 use Rattle.lists.proofs.RowsLaws.{find-below, rising-less, find-alter, ext-find, sum-rows, rising-tab, find-tab, find-within, length-found}
 use Rattle.lists.proofs.SumsLaws.{sumTo-ext}
-use Rattle.rules.specs.Grid.{Rect, inside, Cuts, Box, sameBox, boxOf}
+use Rattle.rules.specs.Grid.{Rect, covers, Cuts, Box, sameBox, boxOf}
 use Rattle.rules.specs.Store.{Report, Line, Store, withWaiting, withOn, fresh}
 use Rattle.rules.specs.Flush.{inBox}
 use Rattle.rules.specs.Records.{refusal}
@@ -70,14 +70,14 @@ refusal-same s x k g bytes =
 
 abbrev placeIn : Rect → Option Place → Option Place
 placeIn rect none = none
-placeIn rect (some p) = cond (inside rect p) (some p) none
+placeIn rect (some p) = cond (covers rect p) (some p) none
 
 module _ (rect : Rect) (f : ℕ → Option Place) where
   rising-listIf : (b r : ℕ) (o : Option Place) (l : Rows Fix) → b < r → Rising r l → Rising b (listIf rect r o l)
   rising-listIf b r none l h a = rising-less b r l (omega arith) a
-  rising-listIf b r (some p) l h a = by-cases (inside rect p) (λ t. rw t (h, a)) (λ t. rw t (rising-less b r l (omega arith) a))
+  rising-listIf b r (some p) l h a = by-cases (covers rect p) (λ t. rw t (h, a)) (λ t. rw t (rising-less b r l (omega arith) a))
 
-  rising-listOf : (b : ℕ) (l : Rows (Unit {0})) → Rising b l → Rising b (listOf rect f l)
+  pub rising-listOf : (b : ℕ) (l : Rows (Unit {0})) → Rising b l → Rising b (listOf rect f l)
   unfolding listOf
   rising-listOf b [] a = tt
   rising-listOf b (x ∷ xs) a = rising-listIf b (x .key) (f (x .key)) (listOf rect f xs) (a .0) (rising-listOf (x .key) xs (a .1))
@@ -85,12 +85,12 @@ module _ (rect : Rect) (f : ℕ → Option Place) where
   find-listIf-same : (r : ℕ) (o : Option Place) (l : Rows Fix) → Rising r l → find (listIf rect r o l) r ≡ placeIn rect o
   unfolding find
   find-listIf-same r none l a = find-below r r l (omega arith) a
-  find-listIf-same r (some p) l a = by-cases (inside rect p) (λ t. rw (t, eq-eqb r r refl)) (λ t. rw t (find-below r r l (omega arith) a))
+  find-listIf-same r (some p) l a = by-cases (covers rect p) (λ t. rw (t, eq-eqb r r refl)) (λ t. rw t (find-below r r l (omega arith) a))
 
   find-listIf-other : (r q : ℕ) (o : Option Place) (l : Rows Fix) → eqb q r ≡ false → find (listIf rect r o l) q ≡ find l q
   unfolding find
   find-listIf-other r q none l e = refl
-  find-listIf-other r q (some p) l e = by-cases (inside rect p) (λ t. rw (t, e)) (λ t. rw t)
+  find-listIf-other r q (some p) l e = by-cases (covers rect p) (λ t. rw (t, e)) (λ t. rw t)
 
   find-listOf : (b q : ℕ) (l : Rows (Unit {0})) → Rising b l → find (listOf rect f l) q ≡ cond (isSome (find l q)) (placeIn rect (f q)) none
   unfolding listOf find

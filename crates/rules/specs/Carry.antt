@@ -12,7 +12,7 @@ use Rattle.lists.specs.Sums.{sumBy, keep}
 use Rattle.lists.specs.Tests.{one-if, isSome, orElse, best}
 use Rattle.lists.specs.Words.{le}
 use Rattle.rules.specs.Limits.{fullBox, fullMemory}
-use Rattle.rules.specs.Grid.{Rect, inside, Cuts, Box, boxOf, boxes}
+use Rattle.rules.specs.Grid.{Rect, covers, Cuts, Box, boxOf, boxes}
 use Rattle.rules.specs.Store.{Report, Line, Cell, Store, withWaiting, withMemo, withOn}
 use Rattle.rules.specs.Sweep.{stale, tick}
 use Rattle.rules.specs.Flush.{raised, inBox, flush, allowedFlush}
@@ -98,14 +98,14 @@ placeOf (some w) = some (w .place)
 unfoldable pub latest : Store → ℕ → Option Fix
 latest s r = orElse (placeOf (find (s .waiting) r)) (storedIn (s .memo) r (s .cells))
 
--- "All four edges count as inside."
+-- by the edges of Job 1
 abbrev pub inRange : Rect → Option Fix → Bool
 inRange rect none = false
-inRange rect (some p) = inside rect p
+inRange rect (some p) = covers rect p
 
 abbrev pub listIf : Rect → ℕ → Option Fix → Rows Fix → Rows Fix
 listIf rect r none l = l
-listIf rect r (some p) l = keep (inside rect p) (record { key = r; val = p }) l
+listIf rect r (some p) l = keep (covers rect p) (record { key = r; val = p }) l
 
 -- "the radios on whose latest place .. lies in the rectangle, by rising number"
 unfoldable pub listOf : Rect → (ℕ → Option Fix) → Rows (Unit {0}) → Rows Fix

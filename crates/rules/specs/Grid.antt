@@ -1,13 +1,13 @@
--- Places, rectangles, cuts and memory cells (01, "What the desk holds").
+-- Places, rectangles, cuts and memory cells (01, "What the desk holds"), and what a range takes in (02, Job 1).
 use mathlib.Core.Bool.{Bool}
 use mathlib.Core.List.{List, _∷_}
 use Prim.Native.Nat.{ℕ, suc}
-use lib.Dec.{eqb, leb}
+use lib.Dec.{eqb, leb, ltb}
 use lib.ListN.{length, getD}
 use Rattle.terms.specs.Terms.{Place}
 use Rattle.lists.specs.Parts.{tab}
 use Rattle.lists.specs.Sums.{sumBy, concat}
-use Rattle.lists.specs.Tests.{one-if, both}
+use Rattle.lists.specs.Tests.{one-if, both, either}
 use Rattle.rules.specs.Limits.{lastMetre}
 
 -- ---- places and rectangles
@@ -55,6 +55,14 @@ withSpan northward s r = record { easts = r .easts; norths = s }
 
 abbrev pub inside : Rect → Place → Bool
 inside r p = both (within (r .easts) (p .east)) (within (r .norths) (p .north))
+
+-- what a range takes in, in one direction: "the west and south edges are inside and the east and north edges are outside, but an east or north edge of
+-- 65,535 still takes in that last line"
+abbrev pub takesIn : Span → ℕ → Bool
+takesIn s x = both (leb (s .low) x) (either (ltb x (s .high)) (eqb (s .high) lastMetre))
+
+abbrev pub covers : Rect → Place → Bool
+covers r p = both (takesIn (r .easts) (p .east)) (takesIn (r .norths) (p .north))
 
 -- the whole square
 abbrev pub square : Rect

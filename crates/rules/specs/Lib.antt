@@ -7,6 +7,7 @@ pub mod Midway
 pub mod Parts
 pub mod Plain
 pub mod Records
+pub mod Squares
 pub mod Store
 pub mod Sweep
 pub mod Told

@@ -92,12 +92,12 @@ shortPoints =
     -- "Radio 4,095 passes", "4,096 gives 6"
     ∷ record { before = []; bytes = onBytes 4095 (apart 1); room = 0; sees = numbered 0 }
     ∷ record { before = []; bytes = onBytes 4096 (apart 1); room = 0; sees = numbered 6 }
-    -- "Range 5–5, 5–5 finds a radio at (5,5)."
+    -- "A range of 5–5 then finds nobody"
     ∷ record {
       before = onBytes 7 (record { east = 5; north = 5 }) ∷ [];
       bytes = rangeBytes 5 5 5 5;
       room = 6;
-      sees = record { number = 0; count = 1; buffer = fieldsOf (7 ∷ 5 ∷ 5 ∷ []); entries = 0 ∷ []; pages = 1 ∷ []; cuts = 0 };
+      sees = record { number = 0; count = 0; buffer = replicate 6 0; entries = 0 ∷ []; pages = 1 ∷ []; cuts = 0 };
     }
     -- "West 6, east 5: 7."
     ∷ record { before = []; bytes = rangeBytes 6 5 0 9; room = 0; sees = numbered 7 }

@@ -9,7 +9,7 @@
 //! let mut store = Store::fresh();
 //! let mut buffer = [0; LIST_BYTES];
 //! let on = Record::SignOn { radio: 7, east: 100, north: 200 };
-//! let range = Record::Range { west: 0, east: 300, south: 0, north: 200 };
+//! let range = Record::Range { west: 0, east: 301, south: 0, north: 201 };
 //! for record in [on, range] {
 //!     match store.call(&record.to_bytes(), &mut buffer) {
 //!         Answer::Accepted { .. } => println!("ok"),

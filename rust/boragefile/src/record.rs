@@ -19,7 +19,8 @@ pub enum Record {
     Report { radio: u16, east: u16, north: u16 },
     /// A radio signs off.
     SignOff { radio: u16 },
-    /// Which radios are in this rectangle? All four edges count as inside.
+    /// Which radios are in this rectangle? Its west and south edges are inside, its east and north edges outside; but an east
+    /// or north edge of 65,535 takes in that last line.
     Range {
         west: u16,
         east: u16,

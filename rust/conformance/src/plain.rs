@@ -108,7 +108,7 @@ impl Plain {
         let mut count = 0;
         let mut list = Vec::new();
         for (radio, (e, n)) in &self.latest {
-            if (west..=east).contains(e) && (south..=north).contains(n) {
+            if takes_in(west, east, *e) && takes_in(south, north, *n) {
                 count += 1;
                 for field in [radio, e, n] {
                     list.extend_from_slice(&field.to_le_bytes());
@@ -120,6 +120,11 @@ impl Plain {
         }
         Told { number: 0, count, list }
     }
+}
+
+/// The low edge is inside and the high edge outside, but a high edge at the last metre takes in that line.
+fn takes_in(low: u16, high: u16, coordinate: u16) -> bool {
+    (low..high).contains(&coordinate) || (high == 65535 && low <= coordinate)
 }
 
 fn is_radio(radio: u16) -> bool {

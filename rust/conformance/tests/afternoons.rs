@@ -15,7 +15,7 @@ fn off(both: &mut Both, radio: u16) {
     assert_eq!(both.record(Record::SignOff { radio }).number, 0);
 }
 
-/// How many are between these easts. `Both` compares the list itself.
+/// How many are from this east up to that one. `Both` compares the list itself.
 fn between(both: &mut Both, west: u16, east: u16) -> usize {
     both.record(Record::Range {
         west,
@@ -53,7 +53,7 @@ fn nine_radios_over_the_ridge_and_back() {
             for radio in team.clone() {
                 let away = 1500 * if step <= 8 { step } else { 16 - step };
                 report(&mut both, radio, 15000 + away, 20000 + radio + afternoon);
-                let (low, high) = (between(&mut both, 0, ridge - 1), between(&mut both, ridge, 65535));
+                let (low, high) = (between(&mut both, 0, ridge), between(&mut both, ridge, 65535));
                 assert_eq!(low + high, 49, "each radio stands on one side of the ridge");
                 most_lines = most_lines.max(both.store.desk().memo.n);
             }
@@ -68,7 +68,7 @@ fn nine_radios_over_the_ridge_and_back() {
     }
     assert_eq!(both.store.desk().memo.n, 0);
     assert_eq!(
-        (between(&mut both, 0, ridge - 1), between(&mut both, ridge, 65535)),
+        (between(&mut both, 0, ridge), between(&mut both, ridge, 65535)),
         (29, 20)
     );
 }

@@ -44,9 +44,10 @@ fn the_journal_of_the_contract() {
     let mut both = Both::fresh();
     assert_eq!(both.record(on(7, 100, 200)).numbers(), ACCEPTED);
     assert_eq!(both.record(report(7, 300, 200)).numbers(), ACCEPTED);
-    assert_eq!(both.record(range(0, 300, 0, 200)).numbers(), found(1));
+    assert_eq!(both.record(range(0, 300, 0, 200)).numbers(), found(0));
+    assert_eq!(both.record(range(0, 301, 0, 201)).numbers(), found(1));
     let mut buffer = [0; LIST_BYTES];
-    let answer = both.store.call(&range(0, 300, 0, 200).to_bytes(), &mut buffer);
+    let answer = both.store.call(&range(0, 301, 0, 201).to_bytes(), &mut buffer);
     let list = answer.list().expect("an accepted range has a list");
     let seven = Located {
         radio: 7,
@@ -126,12 +127,29 @@ fn radio_4095_passes_and_0_and_4096_do_not() {
 }
 
 #[test]
-fn a_range_of_one_place() {
+fn a_range_of_5_to_5_finds_nobody() {
     let mut both = Both::fresh();
     both.record(on(9, 5, 5));
-    assert_eq!(both.record(range(5, 5, 5, 5)).numbers(), found(1));
+    assert_eq!(both.record(range(5, 5, 5, 5)).numbers(), found(0));
+    assert_eq!(both.record(range(5, 5, 0, 65535)).numbers(), found(0));
+    assert_eq!(both.record(range(0, 65535, 5, 5)).numbers(), found(0));
+    assert_eq!(both.record(range(5, 6, 5, 6)).numbers(), found(1));
     assert_eq!(both.record(range(6, 5, 5, 5)).numbers(), refused(Refusal::Rectangle));
     assert_eq!(both.record(range(5, 5, 6, 5)).numbers(), refused(Refusal::Rectangle));
+}
+
+#[test]
+fn an_edge_of_65535_takes_in_the_last_line() {
+    let mut both = Both::fresh();
+    both.record(on(9, 65535, 65535));
+    assert_eq!(both.record(range(65535, 65535, 65535, 65535)).numbers(), found(1));
+    assert_eq!(both.record(range(0, 65535, 0, 65535)).numbers(), found(1));
+    assert_eq!(both.record(range(0, 65534, 0, 65535)).numbers(), found(0));
+    assert_eq!(both.record(range(0, 65535, 0, 65534)).numbers(), found(0));
+    both.record(report(9, 65534, 65534));
+    assert_eq!(both.record(range(65534, 65534, 65534, 65534)).numbers(), found(0));
+    assert_eq!(both.record(range(65534, 65535, 65534, 65535)).numbers(), found(1));
+    assert_eq!(both.record(range(65535, 65535, 65535, 65535)).numbers(), found(0));
 }
 
 #[test]
@@ -213,7 +231,7 @@ fn what_stands_after_the_record_does_not_count() {
     let mut bytes = on(3, 30, 30).to_bytes();
     bytes.extend_from_slice(&[0xff; 70_000]);
     assert_eq!(both.call(&bytes, 0).numbers(), ACCEPTED);
-    assert_eq!(both.record(range(30, 30, 30, 30)).numbers(), found(1));
+    assert_eq!(both.record(range(30, 31, 30, 31)).numbers(), found(1));
 }
 
 /// The comparison itself: a desk that has another place than the list does not get through.

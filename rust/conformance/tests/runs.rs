@@ -66,7 +66,7 @@ fn one_on(random: &mut Xorshift, both: &Both) -> Option<(u16, (u16, u16))> {
     both.plain.place(radio).map(|place| (radio, place))
 }
 
-/// The whole square, any rectangle, or one with a radio at an edge or just outside.
+/// The whole square, any rectangle, or one with a radio at an edge or beside it.
 fn rectangle(random: &mut Xorshift, both: &Both) -> Record {
     let (_, (e, n)) = one_on(random, both).unwrap_or((0, (5, 5)));
     let (a, b, c, d) = (
@@ -75,14 +75,16 @@ fn rectangle(random: &mut Xorshift, both: &Both) -> Record {
         random.coordinate(),
         random.coordinate(),
     );
+    // The radio on the east or north edge, which is outside, or a metre inside.
+    let (to_east, to_north) = (e.saturating_add(a % 2), n.saturating_add(c % 2));
     let (west, east, south, north) = match random.below(8) {
         0 => (0, 65535, 0, 65535),
         1 | 2 => (a.min(b), a.max(b), c.min(d), c.max(d)),
-        3 => (e, e, n, n),
-        4 => (e, 65535, 0, n),
+        3 => (e, to_east, n, to_north),
+        4 => (e, 65535, 0, to_north),
         5 => (e.saturating_add(1), 65535, 0, 65535),
-        6 => (0, e, n.saturating_add(1), 65535),
-        _ => (random.near(e, 2000).min(e), e, n, random.near(n, 2000).max(n)),
+        6 => (0, to_east, n.saturating_add(1), 65535),
+        _ => (random.near(e, 2000).min(e), to_east, n, random.near(n, 2000).max(n)),
     };
     Record::Range {
         west,

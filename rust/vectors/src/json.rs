@@ -45,6 +45,14 @@ impl Json {
         }
     }
 
+    /// A list.
+    pub fn list(&self) -> Option<&[Json]> {
+        match self {
+            Json::List(items) => Some(items),
+            _ => None,
+        }
+    }
+
     /// A text.
     pub fn text(&self) -> Option<&str> {
         match self {

@@ -1,13 +1,14 @@
 //! Replays journals on the compiled desk: JSON lines that say what each call must answer and leave.
 //!
 //! `replay FILE...` ends with 0 only if every call of every file agrees in number, count, answer bytes, pages and, where it
-//! is given, the whole store. It says the first difference of each file.
+//! is given, the whole store. It says the first difference of each file. A line may lend other pages than the store's, for
+//! its call only: of another length (`page_bytes`), or with other bytes in them (`damage`).
 #![forbid(unsafe_code)]
 mod json;
 mod sha256;
 mod whole;
 
-use boragefile::Store;
+use boragefile::{Refusal, Store};
 use json::Json;
 use std::process::ExitCode;
 
@@ -59,18 +60,30 @@ fn replay_call(store: &mut Store, wanted: &Json) -> Result<(), String> {
     let record = bytes_of(text(wanted, "record")?)?;
     let room = number(wanted, "buffer")?;
     let list = bytes_of(text(wanted, "answer")?)?;
-    let mut buffer = vec![UNTOUCHED; usize::try_from(room).map_err(|error| error.to_string())?];
-    let answer = store.call(&record, &mut buffer);
+    let mut buffer = vec![UNTOUCHED; size(room)?];
+    let mut strange = strange_pages(store.pages(), wanted)?;
+    let before = strange.is_some().then(|| store.clone());
+    let answer = match &mut strange {
+        Some(pages) => boragefile::call(store.parts_mut().0, pages, &record, &mut buffer),
+        None => store.call(&record, &mut buffer),
+    };
     let (count, pages) = (number(wanted, "count")?, text(wanted, "pages")?);
     equal("number", answer.number().into(), number(wanted, "number")?)?;
     equal("count", answer.count() as u64, count)?;
+    let refusal = answer.refusal();
+    if strange.is_some() && !matches!(refusal, Some(Refusal::PageBuffer | Refusal::Unsound)) {
+        return Err("a call that is lent strange pages is turned down with 1 or 2".to_string());
+    }
+    if before.is_some_and(|before| before != *store) {
+        return Err("a call that is turned down changes the desk".to_string());
+    }
     if !buffer.starts_with(&list) {
         return Err(format!("the answer's bytes are not {list:?}"));
     }
     if buffer[list.len()..].iter().any(|byte| *byte != UNTOUCHED) {
         return Err("the answer buffer is written past the answer".to_string());
     }
-    let digest = sha256::hex_digest(store.pages());
+    let digest = sha256::hex_digest(strange.as_deref().unwrap_or(store.pages()));
     if digest != pages {
         return Err(format!("the pages' sha256 is {digest}, not {pages}"));
     }
@@ -78,6 +91,41 @@ fn replay_call(store: &mut Store, wanted: &Json) -> Result<(), String> {
         Some(given) => whole::difference("store", &whole::whole(store), given).map_or(Ok(()), Err),
         None => Ok(()),
     }
+}
+
+/// The pages that the line lends in place of the store's: a copy of these, cut off or with zeros behind them (`page_bytes`),
+/// and with other bytes written into it (`damage`). The store's own stay as they are, for the next call.
+fn strange_pages(pages: &[u8], line: &Json) -> Result<Option<Vec<u8>>, String> {
+    let (length, damage) = (line.get("page_bytes"), line.get("damage"));
+    if length.is_none() && damage.is_none() {
+        return Ok(None);
+    }
+    let mut strange = pages.to_vec();
+    if length.is_some() {
+        strange.resize(size(number(line, "page_bytes")?)?, 0);
+    }
+    if let Some(damage) = damage {
+        let pairs = damage.list().ok_or("no list \"damage\"")?;
+        for pair in pairs {
+            let [at, byte] = pair.list().unwrap_or_default() else {
+                return Err("\"damage\" is no list of pairs".to_string());
+            };
+            let place = at
+                .number()
+                .and_then(|at| usize::try_from(at).ok())
+                .and_then(|at| strange.get_mut(at))
+                .ok_or("\"damage\" is outside the pages")?;
+            *place = byte
+                .number()
+                .and_then(|byte| u8::try_from(byte).ok())
+                .ok_or("\"damage\" writes no byte")?;
+        }
+    }
+    Ok(Some(strange))
+}
+
+fn size(number: u64) -> Result<usize, String> {
+    usize::try_from(number).map_err(|error| error.to_string())
 }
 
 fn equal(name: &str, is: u64, wanted: u64) -> Result<(), String> {
