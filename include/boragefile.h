@@ -8,9 +8,9 @@
 
 /* The layout of the desk is part of the version: a desk that another version saved is not for this one. */
 #define BORAGEFILE_VERSION_MAJOR 0
-#define BORAGEFILE_VERSION_MINOR 2
+#define BORAGEFILE_VERSION_MINOR 3
 #define BORAGEFILE_VERSION_PATCH 0
-#define BORAGEFILE_VERSION "0.2.0"
+#define BORAGEFILE_VERSION "0.3.0"
 
 #define BORAGEFILE_PAGES_BYTES 25600 /* 128 pages of 200 bytes */
 #define BORAGEFILE_DESK_BYTES 14402
@@ -25,7 +25,7 @@ enum {
     BORAGEFILE_KIND_RANGE = 4
 };
 
-/* an answer's number: 0, or the first check that turned the call down, in checking order */
+/* an answer's number: 0, or that of the first check that turned the call down. They are checked in this order, but 12 after 6 and before 7. */
 enum {
     BORAGEFILE_ACCEPTED = 0,
     BORAGEFILE_PAGE_BUFFER = 1,
@@ -38,7 +38,8 @@ enum {
     BORAGEFILE_ALREADY_ON = 8,
     BORAGEFILE_NOT_ON = 9,
     BORAGEFILE_FULL = 10,
-    BORAGEFILE_ANSWER_BUFFER = 11
+    BORAGEFILE_ANSWER_BUFFER = 11,
+    BORAGEFILE_NO_FIX = 12
 };
 
 /* An answer's number in words. The text is constant; it is never null. */
@@ -57,6 +58,7 @@ static inline const char *boragefile_words(uint16_t number)
     case BORAGEFILE_NOT_ON: return "a report or sign-off names a radio that isn't on";
     case BORAGEFILE_FULL: return "a sign-on comes while 512 are on";
     case BORAGEFILE_ANSWER_BUFFER: return "the answer buffer is too small for the radios found";
+    case BORAGEFILE_NO_FIX: return "a sign-on or report has the place (0,0): the radio has no fix";
     default: return "no number of this version";
     }
 }

@@ -139,7 +139,7 @@ class Model:
         return 1 if len(lent) != PAGES * PAGE_BYTES else 2
 
     def refusal(self, given):
-        # "Turned down, in checking order": 3 to 10, or 0
+        # "Turned down, in checking order": 3 to 10 and 12 of Job 2, or 0
         if len(given) < RECORD_HEAD:
             return 3
         length, kind = struct.unpack("<2H", given[:RECORD_HEAD])
@@ -156,6 +156,8 @@ class Model:
         radio = body[0]
         if radio == 0 or radio > LAST_RADIO:
             return 6
+        if kind in (SIGN_ON, REPORT) and tuple(body[1:3]) == (0, 0):
+            return 12
         if kind == SIGN_ON and radio in self.on:
             return 8
         if kind in (REPORT, SIGN_OFF) and radio not in self.on:

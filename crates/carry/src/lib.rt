@@ -64,7 +64,7 @@ fn listed(
 
 // ---- a record
 
-// One record on a sound store: carried out, or turned down under 3 to 11.
+// One record on a sound store: carried out, or turned down under 3 to 12.
 fn carry_sound(
     parts: Parts,
     words: &mut [u16; Desk::MEMO_WORDS],
@@ -111,7 +111,7 @@ fn carry_sound(
     }
 }
 
-// One record, well formed or not, with a store in any condition: carried out, or turned down under one of eleven numbers with every byte kept.
+// One record, well formed or not, with a store in any condition: carried out, or turned down under one of twelve numbers with every byte kept.
 pub fn carry_lent<'a>(
     parts: Parts,
     words: &'a mut [u16; Desk::MEMO_WORDS],

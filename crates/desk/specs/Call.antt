@@ -40,7 +40,7 @@ turnedDown n x = record { number = n; count = 0; desk = x .desk; pages = x .page
 unfoldable pub laidOut : Outcome → After
 laidOut o = record { number = o .number; count = o .count; desk = deskOf (o .store); pages = pagesOf (o .store); buffer = o .buffer }
 
--- carried out, or turned down under 3 to 11, with a neighbour that 01 allows: what is left free is its name
+-- carried out, or turned down under 3 to 12, with a neighbour that 01 allows: what is left free is its name
 pub record Carried (x : Before) (s : Sound (x .desk) (x .pages)) (y : After) : Type 0 where
   pub pick : ℕ
   pub permitted : allowed pick (s .store) (x .bytes) ≡ true
@@ -51,5 +51,5 @@ pub record Answers (x : Before) (y : After) : Type 0 where
   pub size : (length (x .pages) ≡ bufferBytes → ⊥) → y ≡ turnedDown 1 x
   -- 2: "The store isn't sound."
   pub unsound : length (x .pages) ≡ bufferBytes → (Sound (x .desk) (x .pages) → ⊥) → y ≡ turnedDown 2 x
-  -- 3 to 11, or carried out
+  -- 3 to 12, or carried out
   pub sound : (s : Sound (x .desk) (x .pages)) → Carried x s y

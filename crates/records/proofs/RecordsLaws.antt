@@ -12,8 +12,9 @@ use Rattle.terms.specs.Terms.{maxRadio, maxOn}
 use Rattle.lists.specs.Tests.{both, either}
 use Rattle.lists.proofs.Cases.{by-cases}
 use Rattle.lists.proofs.TestsLaws.{both-left-false, both-second, either-left, either-right, either-false, not-false}
-use Rattle.rules.specs.Records.{Request, signOn, report, signOff, range, lengthField, kindField, lengthOf, radioField, placeField, rectField, requestOf, kindSignOn, kindReport, kindSignOff, kindRange, notAtHand, unknownKind, wrongLength, noRadio, reversed, onAlready, notOn, noRoom, refusal}
+use Rattle.rules.specs.Records.{Request, signOn, report, signOff, range, lengthField, kindField, lengthOf, radioField, placeField, rectField, requestOf, kindSignOn, kindReport, kindSignOff, kindRange, notAtHand, unknownKind, wrongLength, noRadio, noFix, reversed, onAlready, notOn, noRoom, refusal}
 use Rattle.rules.specs.Grid.{Rect}
+use Rattle.rules.proofs.RecordLaws.{passed}
 use Rattle.desk.specs.declared.On.{On}
 use Rattle.desk.specs.Views.{radiosOf}
 use Rattle.waiting.specs.On.{WholeOn}
@@ -96,6 +97,26 @@ module _ (b : List ℕ) where
       unfolding noRadio both either
       radio-above n = rw (lt-ltb (kindField b) kindRange (omega (arith, kind)), ne-eqb (radioField b) 0 (λ z. n (radio ∙ z))) (ap (ltb maxRadio) radio)
 
+    -- 12
+
+    pub fix-there : Whole b → k < kindSignOff → placedBytes ≤ length b
+    fix-there w h = omega (arith, length-placed (kindField b) (omega (arith, kind)) (omega (arith, kind)), w .body)
+
+    pub fix-other : kindSignOff ≤ k → false ≡ noFix b
+    unfolding noFix
+    fix-other h = sym (both-left-false _ (le-ltb (kindField b) kindSignOff (omega (arith, kind))))
+
+    module _ (p : Placed) (body : p ≡ record { radio = radioField b; east = placeField b .east; north = placeField b .north }) (h : k < kindSignOff) where
+      pub fix-east : p .east ≢ 0 → false ≡ noFix b
+      unfolding noFix both
+      fix-east n = rw (lt-ltb (kindField b) kindSignOff (omega (arith, kind)), ne-eqb (placeField b .east) 0 (λ z. n (ap (λ (x : Placed). x .east) body ∙ z)))
+
+      pub fix-north : p .east ≡ 0 → eqb (p .north) 0 ≡ noFix b
+      unfolding noFix both
+      fix-north e =
+          rw (lt-ltb (kindField b) kindSignOff (omega (arith, kind)), eq-eqb (placeField b .east) 0 (sym (ap (λ (x : Placed). x .east) body) ∙ e))
+          (ap (λ (x : Placed). eqb (x .north) 0) body)
+
     -- 7
 
     pub rect-there : Whole b → k ≡ kindRange → rangeBytes ≤ length b
@@ -177,29 +198,34 @@ module _ (on : ℕ → Bool) (many : ℕ) (b : List ℕ) {t₃ : Bool} (e₃ : t
         unfolding refusal
         refused-6 f = rw (sym e₃ ∙ p₃, sym e₄ ∙ p₄, sym e₅ ∙ p₅, sym e₆ ∙ f)
 
-        module _ (p₆ : t₆ ≡ false) {t₇ : Bool} (e₇ : t₇ ≡ reversed b) where
-          pub refused-7 : t₇ ≡ true → 7 ≡ refusal on many b
+        module _ (p₆ : t₆ ≡ false) {t₁₂ : Bool} (e₁₂ : t₁₂ ≡ noFix b) where
+          pub refused-12 : t₁₂ ≡ true → 12 ≡ refusal on many b
           unfolding refusal
-          refused-7 f = rw (sym e₃ ∙ p₃, sym e₄ ∙ p₄, sym e₅ ∙ p₅, sym e₆ ∙ p₆, sym e₇ ∙ f)
+          refused-12 f = rw (sym e₃ ∙ p₃, sym e₄ ∙ p₄, sym e₅ ∙ p₅, sym e₆ ∙ p₆, sym e₁₂ ∙ f)
 
-          module _ (p₇ : t₇ ≡ false) {t₈ : Bool} (e₈ : t₈ ≡ onAlready on b) where
-            pub refused-8 : t₈ ≡ true → 8 ≡ refusal on many b
+          module _ (p₁₂ : t₁₂ ≡ false) {t₇ : Bool} (e₇ : t₇ ≡ reversed b) where
+            pub refused-7 : t₇ ≡ true → 7 ≡ refusal on many b
             unfolding refusal
-            refused-8 f = rw (sym e₃ ∙ p₃, sym e₄ ∙ p₄, sym e₅ ∙ p₅, sym e₆ ∙ p₆, sym e₇ ∙ p₇, sym e₈ ∙ f)
+            refused-7 f = rw (sym e₃ ∙ p₃, sym e₄ ∙ p₄, sym e₅ ∙ p₅, sym e₆ ∙ p₆, sym e₁₂ ∙ p₁₂, sym e₇ ∙ f)
 
-            module _ (p₈ : t₈ ≡ false) {t₉ : Bool} (e₉ : t₉ ≡ notOn on b) where
-              pub refused-9 : t₉ ≡ true → 9 ≡ refusal on many b
+            module _ (p₇ : t₇ ≡ false) {t₈ : Bool} (e₈ : t₈ ≡ onAlready on b) where
+              pub refused-8 : t₈ ≡ true → 8 ≡ refusal on many b
               unfolding refusal
-              refused-9 f = rw (sym e₃ ∙ p₃, sym e₄ ∙ p₄, sym e₅ ∙ p₅, sym e₆ ∙ p₆, sym e₇ ∙ p₇, sym e₈ ∙ p₈, sym e₉ ∙ f)
+              refused-8 f = rw (sym e₃ ∙ p₃, sym e₄ ∙ p₄, sym e₅ ∙ p₅, sym e₆ ∙ p₆, sym e₁₂ ∙ p₁₂, sym e₇ ∙ p₇, sym e₈ ∙ f)
 
-              module _ (p₉ : t₉ ≡ false) {t₁₀ : Bool} (e₁₀ : t₁₀ ≡ noRoom many b) where
-                pub refused-10 : t₁₀ ≡ true → 10 ≡ refusal on many b
+              module _ (p₈ : t₈ ≡ false) {t₉ : Bool} (e₉ : t₉ ≡ notOn on b) where
+                pub refused-9 : t₉ ≡ true → 9 ≡ refusal on many b
                 unfolding refusal
-                refused-10 f = rw (sym e₃ ∙ p₃, sym e₄ ∙ p₄, sym e₅ ∙ p₅, sym e₆ ∙ p₆, sym e₇ ∙ p₇, sym e₈ ∙ p₈, sym e₉ ∙ p₉, sym e₁₀ ∙ f)
+                refused-9 f = rw (sym e₃ ∙ p₃, sym e₄ ∙ p₄, sym e₅ ∙ p₅, sym e₆ ∙ p₆, sym e₁₂ ∙ p₁₂, sym e₇ ∙ p₇, sym e₈ ∙ p₈, sym e₉ ∙ f)
 
-                pub refused-none : t₁₀ ≡ false → 0 ≡ refusal on many b
-                unfolding refusal
-                refused-none f = rw (sym e₃ ∙ p₃, sym e₄ ∙ p₄, sym e₅ ∙ p₅, sym e₆ ∙ p₆, sym e₇ ∙ p₇, sym e₈ ∙ p₈, sym e₉ ∙ p₉, sym e₁₀ ∙ f)
+                module _ (p₉ : t₉ ≡ false) {t₁₀ : Bool} (e₁₀ : t₁₀ ≡ noRoom many b) where
+                  pub refused-10 : t₁₀ ≡ true → 10 ≡ refusal on many b
+                  unfolding refusal
+                  refused-10 f = rw (sym e₃ ∙ p₃, sym e₄ ∙ p₄, sym e₅ ∙ p₅, sym e₆ ∙ p₆, sym e₁₂ ∙ p₁₂, sym e₇ ∙ p₇, sym e₈ ∙ p₈, sym e₉ ∙ p₉, sym e₁₀ ∙ f)
+
+                  pub refused-none : t₁₀ ≡ false → 0 ≡ refusal on many b
+                  unfolding refusal
+                  refused-none f = rw (sym e₃ ∙ p₃, sym e₄ ∙ p₄, sym e₅ ∙ p₅, sym e₆ ∙ p₆, sym e₁₂ ∙ p₁₂, sym e₇ ∙ p₇, sym e₈ ∙ p₈, sym e₉ ∙ p₉, sym e₁₀ ∙ f)
 
 -- ---- what is at hand once the first checks pass
 
@@ -278,25 +304,9 @@ Ordered (report r p) = Unit {0}
 Ordered (signOff r) = Unit {0}
 Ordered (range rect) = (rect .easts .low ≤ rect .easts .high) × (rect .norths .low ≤ rect .norths .high)
 
--- the first of the checks passed, and so did the rest
-first-passed : (t : Bool) {n m : ℕ} → 0 < n → cond t n m ≡ 0 → (t ≡ false) × (m ≡ 0)
-first-passed true h e = absurd (omega arith)
-first-passed false h e = (refl, e)
-
 module _ (on : ℕ → Bool) (many : ℕ) (b : List ℕ) (zero : refusal on many b ≡ 0) where
-  -- those on the bytes alone
-  passed : (notAtHand b ≡ false) × (unknownKind b ≡ false) × (wrongLength b ≡ false) × (reversed b ≡ false)
-  unfolding refusal
-  passed =
-      let a₃ = first-passed (notAtHand b) (omega arith) zero in
-      let a₄ = first-passed (unknownKind b) (omega arith) (a₃ .1) in
-      let a₅ = first-passed (wrongLength b) (omega arith) (a₄ .1) in
-      let a₆ = first-passed (noRadio b) (omega arith) (a₅ .1) in
-      let a₇ = first-passed (reversed b) (omega arith) (a₆ .1) in
-      (a₃ .0, a₄ .0, a₅ .0, a₇ .0)
-
   passed-whole : Whole b
-  passed-whole = let p = passed in whole b refl (p .0) refl (p .1) refl (p .2)
+  passed-whole = let p = passed on many b zero in whole b refl (p .at-hand) refl (p .kind) refl (p .long)
 
   -- "west above east or south above north" is no range's edges
   pub ordered : Ordered (requestOf b)
@@ -312,7 +322,7 @@ module _ (on : ℕ → Bool) (many : ℕ) (b : List ℕ) (zero : refusal on many
       let m = eqb-false (kindField b) kindReport u in
       let n = eqb-false (kindField b) kindSignOff v in
       let w = passed-whole in
-      let e = either-false _ _ (both-second _ _ (eq-eqb (kindField b) kindRange (omega (arith, l, m, n, w))) (passed .3)) in
+      let e = either-false _ _ (both-second _ _ (eq-eqb (kindField b) kindRange (omega (arith, l, m, n, w))) (passed on many b zero .edges)) in
       rw (t, u, v) (ltb-false (rectField b .easts .high) (rectField b .easts .low) (e .0), ltb-false (rectField b .norths .high) (rectField b .norths .low) (e .1)))))
 
 -- ---- the whole

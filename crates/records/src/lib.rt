@@ -4,7 +4,7 @@ ghost use Prim.Native.Nat.{_≤_};
 ghost use lib.ListN.{length};
 ghost use Rattle.terms.specs.Terms.{maxOn};
 ghost use Rattle.lists.specs.Rows.{Rising};
-ghost use Rattle.rules.specs.Records.{lengthField, kindField, lengthOf, radioField, placeField, rectField, requestOf, notAtHand, unknownKind, wrongLength, noRadio, reversed, onAlready, notOn, noRoom, refusal};
+ghost use Rattle.rules.specs.Records.{lengthField, kindField, lengthOf, radioField, placeField, rectField, requestOf, notAtHand, unknownKind, wrongLength, noRadio, noFix, reversed, onAlready, notOn, noRoom, refusal};
 ghost use Rattle.desk.specs.Views.{radiosOf};
 ghost use Rattle.waiting.specs.On.{onWith, WholeOn};
 ghost use Rattle.records.specs.Asked.{headBytes, signOffBytes, placedBytes, rangeBytes, Whole, onIn, asks, askedOf, checked};
@@ -173,6 +173,21 @@ fn no_radio(bytes: &[u8]) -> bool
     MAX_RADIO < radio
 }
 
+// 12: "place is (0,0) in kind 1 or 2"
+fn no_fix(bytes: &[u8]) -> bool
+    requires { ⌜ Whole (now bytes) ⌝ }
+    ensures { λ r. ⌜ r ≡ noFix (now (bytes .entry)) ⌝ }
+{
+    if KIND_SIGN_OFF <= kind_field(bytes) {
+        return false;
+    }
+    let body = placed_body(bytes);
+    if body.east != 0 {
+        return false;
+    }
+    body.north == 0
+}
+
 // 7: "A range has west above east or south above north."
 fn reversed(bytes: &[u8]) -> bool
     requires { ⌜ Whole (now bytes) ⌝ }
@@ -237,6 +252,9 @@ fn refusal<'a>(bytes: &[u8], radios: &'a [u16; Desk::MAX_ON], n: usize) -> u16
     }
     if no_radio(bytes) {
         return 6;
+    }
+    if no_fix(bytes) {
+        return 12;
     }
     if reversed(bytes) {
         return 7;

@@ -18,7 +18,7 @@ use Rattle.lists.proofs.TestsLaws.{either-left, either-right, either-false, bot
 use Rattle.lists.proofs.WordsLaws.{word-small}
 use Rattle.rules.specs.Grid.{Rect}
 use Rattle.rules.specs.Store.{Report}
-use Rattle.rules.specs.Records.{Request, signOn, report, signOff, range, requestOf, kindField, radioField, placeField, rectField, kindSignOn, kindReport, kindSignOff, kindRange, notAtHand, unknownKind, wrongLength, noRadio, reversed, onAlready, notOn, noRoom, refusal}
+use Rattle.rules.specs.Records.{Request, signOn, report, signOff, range, requestOf, kindField, radioField, placeField, rectField, kindSignOn, kindReport, kindSignOff, kindRange, notAtHand, unknownKind, wrongLength, noRadio, noFix, reversed, onAlready, notOn, noRoom, refusal}
 use Rattle.rules.specs.WellFormed.{InSquare}
 use Rattle.rules.specs.Parts.{Signed, Waits}
 
@@ -31,22 +31,50 @@ pub data Accepted (on : ℕ → Bool) (howMany : ℕ) : Request → Type 0 where
   off-passed : (r : ℕ) → 1 ≤ r → r ≤ maxRadio → on r ≡ true → Accepted on howMany (signOff r)
   range-passed : (rect : Rect) → Accepted on howMany (range rect)
 
--- eight tests in a row, none of which failed
-none-failed : (a b c d e f g h : Bool) → _≡_ {A = ℕ} (cond a 3 (cond b 4 (cond c 5 (cond d 6 (cond e 7 (cond f 8 (cond g 9 (cond h 10 0)))))))) 0
-    → (d ≡ false) × (f ≡ false) × (g ≡ false) × (h ≡ false)
-none-failed true b c d e f g h z = absurd (omega arith)
-none-failed false true c d e f g h z = absurd (omega arith)
-none-failed false false true d e f g h z = absurd (omega arith)
-none-failed false false false true e f g h z = absurd (omega arith)
-none-failed false false false false true f g h z = absurd (omega arith)
-none-failed false false false false false true g h z = absurd (omega arith)
-none-failed false false false false false false true h z = absurd (omega arith)
-none-failed false false false false false false false true z = absurd (omega arith)
-none-failed false false false false false false false false z = (refl, refl, refl, refl)
+-- the first of the checks passed, and so did the rest
+first-passed : (t : Bool) {n m : ℕ} → 0 < n → cond t n m ≡ 0 → (t ≡ false) × (m ≡ 0)
+first-passed true h e = absurd (omega arith)
+first-passed false h e = (refl, e)
 
 place-small : (b : List ℕ) → Bytes b → InSquare (placeField b)
 unfolding placeField
 place-small b small = (let h = word-small b 6 small in omega arith, let h = word-small b 8 small in omega arith)
+
+-- a record that is carried out fails none of them
+pub record Passed (on : ℕ → Bool) (howMany : ℕ) (b : List ℕ) : Type 0 where
+  pub at-hand : notAtHand b ≡ false
+  pub kind : unknownKind b ≡ false
+  pub long : wrongLength b ≡ false
+  pub radio : noRadio b ≡ false
+  pub fix : noFix b ≡ false
+  pub edges : reversed b ≡ false
+  pub was-off : onAlready on b ≡ false
+  pub was-on : notOn on b ≡ false
+  pub room : noRoom howMany b ≡ false
+
+pub passed : (on : ℕ → Bool) (howMany : ℕ) (b : List ℕ) → refusal on howMany b ≡ 0 → Passed on howMany b
+unfolding refusal
+passed on howMany b zero =
+    let t₃ = first-passed (notAtHand b) (omega arith) zero in
+    let t₄ = first-passed (unknownKind b) (omega arith) (t₃ .1) in
+    let t₅ = first-passed (wrongLength b) (omega arith) (t₄ .1) in
+    let t₆ = first-passed (noRadio b) (omega arith) (t₅ .1) in
+    let t₁₂ = first-passed (noFix b) (omega arith) (t₆ .1) in
+    let t₇ = first-passed (reversed b) (omega arith) (t₁₂ .1) in
+    let t₈ = first-passed (onAlready on b) (omega arith) (t₇ .1) in
+    let t₉ = first-passed (notOn on b) (omega arith) (t₈ .1) in
+    let t₁₀ = first-passed (noRoom howMany b) (omega arith) (t₉ .1) in
+    record {
+      at-hand = t₃ .0;
+      kind = t₄ .0;
+      long = t₅ .0;
+      radio = t₆ .0;
+      fix = t₁₂ .0;
+      edges = t₇ .0;
+      was-off = t₈ .0;
+      was-on = t₉ .0;
+      room = t₁₀ .0;
+    }
 
 module _ (on : ℕ → Bool) (howMany : ℕ) (b : List ℕ) (small : Bytes b) where
   radio-small : kindField b < kindRange → noRadio b ≡ false → (1 ≤ radioField b) × (radioField b ≤ maxRadio)
@@ -55,26 +83,22 @@ module _ (on : ℕ → Bool) (howMany : ℕ) (b : List ℕ) (small : Bytes b) wh
       let t = either-false _ _ (both-second _ _ (lt-ltb (kindField b) kindRange h) e) in
       (let u = eqb-false (radioField b) 0 (t .0) in omega (arith, u), ltb-false maxRadio (radioField b) (t .1))
 
-  passed : refusal on howMany b ≡ 0 → (noRadio b ≡ false) × (onAlready on b ≡ false) × (notOn on b ≡ false) × (noRoom howMany b ≡ false)
-  unfolding refusal
-  passed e = none-failed (notAtHand b) (unknownKind b) (wrongLength b) (noRadio b) (reversed b) (onAlready on b) (notOn on b) (noRoom howMany b) e
-
   pub accepted : refusal on howMany b ≡ 0 → Accepted on howMany (requestOf b)
   unfolding requestOf onAlready notOn noRoom
   accepted e =
-      let t = passed e in
+      let t = passed on howMany b e in
       by-cases (eqb (kindField b) kindSignOn)
       (λ k. let z = eqb-true (kindField b) kindSignOn k in
-      let r = radio-small (omega arith) (t .0) in
-      rw k (on-passed (radioField b) (placeField b) (r .0) (r .1) (place-small b small) (both-second _ _ k (t .1)) (leb-false maxOn howMany (both-second _ _ k (t .3)))))
+      let r = radio-small (omega arith) (t .radio) in
+      rw k (on-passed (radioField b) (placeField b) (r .0) (r .1) (place-small b small) (both-second _ _ k (t .was-off)) (leb-false maxOn howMany (both-second _ _ k (t .room)))))
       (λ k. by-cases (eqb (kindField b) kindReport)
       (λ l. let z = eqb-true (kindField b) kindReport l in
-      let r = radio-small (omega arith) (t .0) in
-      rw (k, l) (report-passed (radioField b) (placeField b) (r .0) (r .1) (place-small b small) (not-false _ (both-second _ _ (either-left _ l) (t .2)))))
+      let r = radio-small (omega arith) (t .radio) in
+      rw (k, l) (report-passed (radioField b) (placeField b) (r .0) (r .1) (place-small b small) (not-false _ (both-second _ _ (either-left _ l) (t .was-on)))))
       (λ l. by-cases (eqb (kindField b) kindSignOff)
       (λ m. let z = eqb-true (kindField b) kindSignOff m in
-      let r = radio-small (omega arith) (t .0) in
-      rw (k, l, m) (off-passed (radioField b) (r .0) (r .1) (not-false _ (both-second _ _ (either-right _ m) (t .2)))))
+      let r = radio-small (omega arith) (t .radio) in
+      rw (k, l, m) (off-passed (radioField b) (r .0) (r .1) (not-false _ (both-second _ _ (either-right _ m) (t .was-on)))))
       (λ m. rw (k, l, m) (range-passed (rectField b)))))
 
 -- ---- who is on

@@ -6,12 +6,12 @@ use Prim.Native.Nat.{ℕ, _*_}
 use native.Mathlib.Omega.{arith}
 use lib.Dec.{eqb, ltb}
 use lib.ListN.{length}
-use borrow.Author.Tests.{eq-eqb}
+use borrow.Author.Tests.{eq-eqb, eqb-false}
 use Rattle.lists.specs.Tests.{either}
 use Rattle.lists.proofs.Cases.{by-cases}
 use Rattle.lists.proofs.TestsLaws.{either-cases}
 use Rattle.rules.specs.Grid.{Rect}
-use Rattle.rules.specs.Records.{Request, signOn, report, signOff, range, requestOf, refusal, kindField, kindSignOn, kindReport, notAtHand, unknownKind, wrongLength, noRadio, reversed, onAlready, notOn, noRoom}
+use Rattle.rules.specs.Records.{Request, signOn, report, signOff, range, requestOf, refusal, kindField, kindSignOn, kindReport, notAtHand, unknownKind, wrongLength, noRadio, noFix, reversed, onAlready, notOn, noRoom}
 use Rattle.rules.specs.Store.{Store}
 use Rattle.rules.specs.Carry.{carry, carriedOut, answered, found, listBytes}
 use Rattle.rules.specs.Plain.{Plain, plainOn, plainOnCount, plainRefusal, plainFound}
@@ -48,22 +48,22 @@ told-same pick s x bytes buffer g k =
 
 -- ---- numbers that the plain rule tells
 
-refusal-not-2 : (a b c d e f g h : Bool) → _≡_ {A = ℕ} (cond a 3 (cond b 4 (cond c 5 (cond d 6 (cond e 7 (cond f 8 (cond g 9 (cond h 10 0)))))))) 2 → ⊥
-refusal-not-2 true b c d e f g h z = omega arith
-refusal-not-2 false true c d e f g h z = omega arith
-refusal-not-2 false false true d e f g h z = omega arith
-refusal-not-2 false false false true e f g h z = omega arith
-refusal-not-2 false false false false true f g h z = omega arith
-refusal-not-2 false false false false false true g h z = omega arith
-refusal-not-2 false false false false false false true h z = omega arith
-refusal-not-2 false false false false false false false true z = omega arith
-refusal-not-2 false false false false false false false false z = omega arith
+first-not-2 : (t : Bool) (n : ℕ) {m : ℕ} → eqb n 2 ≡ false → (m ≡ 2 → ⊥) → cond t n m ≡ 2 → ⊥
+first-not-2 true n h rest e = eqb-false n 2 h e
+first-not-2 false n h rest e = rest e
 
 plain-not-2 : (x : Plain) (bytes : List ℕ) → plainRefusal x bytes ≡ 2 → ⊥
 unfolding plainRefusal refusal
-plain-not-2 x bytes e =
-    refusal-not-2 (notAtHand bytes) (unknownKind bytes) (wrongLength bytes) (noRadio bytes) (reversed bytes) (onAlready (plainOn x) bytes) (notOn (plainOn x) bytes)
-    (noRoom (plainOnCount x) bytes) e
+plain-not-2 x bytes =
+    first-not-2 (notAtHand bytes) 3 refl
+    (first-not-2 (unknownKind bytes) 4 refl
+    (first-not-2 (wrongLength bytes) 5 refl
+    (first-not-2 (noRadio bytes) 6 refl
+    (first-not-2 (noFix bytes) 12 refl
+    (first-not-2 (reversed bytes) 7 refl
+    (first-not-2 (onAlready (plainOn x) bytes) 8 refl
+    (first-not-2 (notOn (plainOn x) bytes) 9 refl
+    (first-not-2 (noRoom (plainOnCount x) bytes) 10 refl (λ e. omega (arith, e))))))))))
 
 done-not-2 : (q : Request) (x : Plain) (buffer : List ℕ) → toldDone q x buffer .number ≡ 2 → ⊥
 unfolding toldDone toldList

@@ -1,4 +1,4 @@
--- Records, and what they are turned down for (01, "Records and pages", "Turned down, in checking order").
+-- Records, and what they are turned down for (01, "Records and pages", "Turned down, in checking order"; 02, Job 2).
 use mathlib.Core.Bool.{Bool, not, cond}
 use mathlib.Core.List.{List}
 use Prim.Native.Nat.{ℕ}
@@ -78,6 +78,10 @@ wrongLength b = not (eqb (lengthField b) (lengthOf (kindField b)))
 unfoldable pub noRadio : List ℕ → Bool
 noRadio b = both (ltb (kindField b) kindRange) (either (eqb (radioField b) 0) (ltb maxRadio (radioField b)))
 
+-- 12: "place is (0,0) in kind 1 or 2"
+unfoldable pub noFix : List ℕ → Bool
+noFix b = both (ltb (kindField b) kindSignOff) (both (eqb (placeField b .east) 0) (eqb (placeField b .north) 0))
+
 -- 7: "A range has west above east or south above north."
 unfoldable pub reversed : List ℕ → Bool
 reversed b =
@@ -103,7 +107,8 @@ refusal isOn howMany b =
     (cond (unknownKind b) 4
     (cond (wrongLength b) 5
     (cond (noRadio b) 6
+    (cond (noFix b) 12
     (cond (reversed b) 7
     (cond (onAlready isOn b) 8
     (cond (notOn isOn b) 9
-    (cond (noRoom howMany b) 10 0)))))))
+    (cond (noRoom howMany b) 10 0))))))))

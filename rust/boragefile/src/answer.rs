@@ -32,7 +32,8 @@ pub enum Answer<'b> {
     },
 }
 
-/// Why a call was turned down: the eleven checks, in checking order.
+/// Why a call was turned down: one of twelve checks. A later request's number is greater, wherever its check stands: [`Refusal::ALL`] has
+/// the checking order.
 #[derive(Clone, Copy, PartialEq, Eq, PartialOrd, Ord, Debug)]
 #[repr(u16)]
 pub enum Refusal {
@@ -58,17 +59,20 @@ pub enum Refusal {
     Full,
     /// Number 11: the answer buffer is too small for the radios found.
     AnswerBuffer,
+    /// Number 12: a sign-on or report has the place (0,0), which a handheld without a satellite fix sends. It is checked after 6 and before 7.
+    NoFix,
 }
 
 impl Refusal {
     /// All of them, in checking order.
-    pub const ALL: [Refusal; 11] = [
+    pub const ALL: [Refusal; 12] = [
         Refusal::PageBuffer,
         Refusal::Unsound,
         Refusal::Length,
         Refusal::Kind,
         Refusal::LengthOfKind,
         Refusal::Radio,
+        Refusal::NoFix,
         Refusal::Rectangle,
         Refusal::AlreadyOn,
         Refusal::NotOn,
@@ -78,10 +82,10 @@ impl Refusal {
 
     /// The refusal with this number.
     pub fn from_number(number: u16) -> Option<Refusal> {
-        Refusal::ALL.get(usize::from(number).checked_sub(1)?).copied()
+        Refusal::ALL.into_iter().find(|refusal| refusal.number() == number)
     }
 
-    /// Its number, 1 to 11.
+    /// Its number, 1 to 12.
     pub fn number(self) -> u16 {
         self as u16
     }
@@ -100,6 +104,7 @@ impl Refusal {
             Refusal::NotOn => "a report or sign-off names a radio that isn't on",
             Refusal::Full => "a sign-on comes while 512 are on",
             Refusal::AnswerBuffer => "the answer buffer is too small for the radios found",
+            Refusal::NoFix => "a sign-on or report has the place (0,0): the radio has no fix",
         }
     }
 }
@@ -164,7 +169,7 @@ impl<'b> Answer<'b> {
                 count: numbers.count.into(),
             },
             None => {
-                assert_eq!(numbers.number, 0, "an answer's number is 0 to 11");
+                assert_eq!(numbers.number, 0, "an answer's number is 0 to 12");
                 Answer::Accepted {}
             }
         }
@@ -185,13 +190,13 @@ mod tests {
 
     #[test]
     fn each_number_has_its_refusal_and_words() {
-        for number in 1..=11 {
+        for number in 1..=12 {
             let refusal = Refusal::from_number(number).unwrap();
             assert_eq!(refusal.number(), number);
             assert!(!refusal.to_string().is_empty());
         }
         assert_eq!(Refusal::from_number(0), None);
-        assert_eq!(Refusal::from_number(12), None);
+        assert_eq!(Refusal::from_number(13), None);
     }
 
     #[test]

@@ -43,7 +43,7 @@ impl Plain {
         self.latest.len()
     }
 
-    /// Checks 3 to 11 in their order, then the record's effect. `room` is the length of the answer buffer.
+    /// Checks 3 to 12 in their order, then the record's effect. `room` is the length of the answer buffer.
     pub fn call(&mut self, bytes: &[u8], room: usize) -> Told {
         let field = |at: usize| u16::from_le_bytes([bytes[2 * at], bytes[2 * at + 1]]);
         if bytes.len() < 4 || field(0) < 4 || usize::from(field(0)) > bytes.len() {
@@ -70,6 +70,9 @@ impl Plain {
         if !is_radio(radio) {
             return refused(6, 0);
         }
+        if place == (0, 0) {
+            return refused(12, 0);
+        }
         if self.latest.contains_key(&radio) {
             return refused(8, 0);
         }
@@ -83,6 +86,9 @@ impl Plain {
     fn report(&mut self, radio: u16, place: (u16, u16)) -> Told {
         if !is_radio(radio) {
             return refused(6, 0);
+        }
+        if place == (0, 0) {
+            return refused(12, 0);
         }
         let Some(latest) = self.latest.get_mut(&radio) else {
             return refused(9, 0);

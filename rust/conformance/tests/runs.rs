@@ -13,7 +13,7 @@ const _: () = assert!(RUNS * CALLS >= 1_000_000);
 #[derive(Default, Debug)]
 struct Seen {
     /// Answers by number; at 0 the accepted ones.
-    answers: [usize; 12],
+    answers: [usize; 13],
     found: usize,
     flushes: usize,
     splits: usize,
@@ -158,7 +158,7 @@ fn borders() {
         let place = (random.pick(&edges), random.pick(&edges));
         with_room(sends(random, both, radio, place, 15))
     });
-    assert!(seen.splits > 0 && seen.answers[6] > 0 && seen.answers[7] > 0);
+    assert!(seen.splits > 0 && seen.answers[6] > 0 && seen.answers[7] > 0 && seen.answers[12] > 0);
 }
 
 #[test]
@@ -221,7 +221,8 @@ fn malformed_bytes() {
             4 => bytes[2] = random.within(0, 6) as u8,
             5 => bytes[3] = random.within(0, 1) as u8,
             6 => bytes.resize(random.below(40), 0xee),
-            7 => bytes = (0..random.below(16)).map(|_| random.within(0, 255) as u8).collect(),
+            7 => bytes.iter_mut().skip(6).for_each(|byte| *byte = 0),
+            8 => bytes = (0..random.below(16)).map(|_| random.within(0, 255) as u8).collect(),
             _ => (),
         }
         (

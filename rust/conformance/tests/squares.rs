@@ -55,12 +55,21 @@ fn cuts(random: &mut Xorshift, through: &[u16], meet: &CutList) -> Vec<u16> {
     (0..7).map(|_| cut()).collect()
 }
 
-/// A place where lines are likely to be: few coordinates for many radios, and the borders.
-fn place(random: &mut Xorshift) -> u16 {
+/// A coordinate where lines are likely to be: few for many radios, and the borders.
+fn coordinate(random: &mut Xorshift) -> u16 {
     match random.below(4) {
         0 => random.pick(&[0, 1, LAST_METRE - 1, LAST_METRE]),
         1 => random.coordinate(),
         _ => 4000 * random.within(0, 16),
+    }
+}
+
+/// The nearest place that a fix can be: (0,0) is none.
+fn fix(east: u16, north: u16) -> (u16, u16) {
+    if (east, north) == (0, 0) {
+        (0, 1)
+    } else {
+        (east, north)
     }
 }
 
@@ -74,7 +83,7 @@ fn squares_at_random_cuts_add_up_to_the_radios_on() {
         let radios = 1 + 8 * seed as u16;
         for i in 1..=RECORDS {
             let radio = random.within(1, radios);
-            let (east, north) = (place(&mut random), place(&mut random));
+            let (east, north) = fix(coordinate(&mut random), coordinate(&mut random));
             let record = match (both.plain.place(radio), random.once_in(9)) {
                 (None, _) => Record::SignOn { radio, east, north },
                 (Some(_), true) => Record::SignOff { radio },
@@ -123,6 +132,7 @@ fn a_party_on_each_kind_of_line_is_in_one_square() {
     for (i, (east, east_stripe)) in LINES.into_iter().enumerate() {
         for (j, (north, north_stripe)) in LINES.into_iter().enumerate() {
             let radio = (1 + LINES.len() * i + j) as u16;
+            let (east, north) = fix(east, north);
             assert_eq!(both.record(Record::SignOn { radio, east, north }).number, 0);
             parties[east_stripe][north_stripe].push(radio);
             for (e, column) in parties.iter().enumerate() {
@@ -139,10 +149,12 @@ fn a_party_on_each_kind_of_line_is_in_one_square() {
 fn the_ends_of_the_map() {
     let mut both = Both::fresh();
     let ends = [0, LAST_METRE - 1, LAST_METRE];
-    // Radios 1 to 9 from the south-west, along each column; then eight more in the middle, so that they are stored.
+    // Radios 1 to 9 from the south-west, along each column, the first a metre north of the corner; then eight more in the
+    // middle, so that they are stored.
     for (i, east) in ends.into_iter().enumerate() {
         for (j, north) in ends.into_iter().enumerate() {
             let radio = (1 + 3 * i + j) as u16;
+            let (east, north) = fix(east, north);
             both.record(Record::SignOn { radio, east, north });
         }
     }
@@ -157,7 +169,8 @@ fn the_ends_of_the_map() {
         );
         assert_eq!(found(&mut both, [LAST_METRE, LAST_METRE], whole), [7, 8, 9]);
         assert_eq!(found(&mut both, whole, [0, 0]), []);
-        assert_eq!(found(&mut both, whole, [0, 1]), [1, 4, 7]);
+        assert_eq!(found(&mut both, whole, [0, 1]), [4, 7]);
+        assert_eq!(found(&mut both, whole, [0, 2]), [1, 4, 7]);
         assert_eq!(found(&mut both, whole, [LAST_METRE - 1, LAST_METRE - 1]), []);
         assert_eq!(
             found(&mut both, whole, [LAST_METRE - 1, LAST_METRE]),
