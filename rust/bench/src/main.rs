@@ -1,116 +1,89 @@
 //! Times the desk, one core, beside the plain list on the same calls.
 //!
 //! 512 radios walk in steps of 200 m; one call in eight is a range of 1 % of the square. Prints nanoseconds a call: the
-//! mean of reports and of ranges, the best of the soundness test alone, on the store that the walk leaves (`test`) and on a
-//! made one with more to look at (`test-made`). `--smoke` makes a short run; `--calls FILE` also writes the calls, records
-//! one after the other.
+//! mean of reports and of ranges, and of the times of single ones the 99.9th percentile and the greatest (`p999`,
+//! `most`); the best of the soundness test alone, on the store that the walk leaves (`test`) and on a made one with
+//! more to look at (`test-made`); the greatest time of a report on stores made to be slow (`worst-..`). `--smoke` makes
+//! a short run; `--worst` also prints all stores that were tried for the worst; `--calls FILE` also writes the calls,
+//! records one after the other.
 #![forbid(unsafe_code)]
+mod found;
 mod made;
+mod plan;
+mod tails;
+mod walk;
+mod worst;
 
-use boragefile::{Record, Store, LIST_BYTES, PAGE_BYTES};
-use conformance::{Plain, Xorshift};
+use boragefile::{Store, LIST_BYTES, PAGE_BYTES};
+use conformance::Plain;
 use made::made_store;
-use std::f64::consts::TAU;
 use std::hint::black_box;
 use std::process::ExitCode;
 use std::time::{Duration, Instant};
+use tails::{empty_timing, Run, Tail};
+use walk::{Walk, REPORTS};
+use worst::Worst;
 
-const RADIOS: u16 = 512;
-const STEP: f64 = 200.0;
-/// A tenth of the square's side, so that a range has a hundredth of its area.
-const SIDE: u16 = 6553;
+/// How much is timed: the calls of the walk, how often these are made again for the tails, and the worst cases.
+struct Extent {
+    calls: usize,
+    walks: usize,
+    worst: usize,
+}
+
+const WHOLE: Extent = Extent {
+    calls: 200_000,
+    walks: 7,
+    worst: 400,
+};
+const SMOKE: Extent = Extent {
+    calls: 4_000,
+    walks: 3,
+    worst: 10,
+};
 
 fn main() -> ExitCode {
-    let mut calls = 200_000;
+    let mut extent = WHOLE;
+    let mut all_tried = false;
     let mut file = None;
     let mut arguments = std::env::args().skip(1);
     while let Some(argument) = arguments.next() {
         match argument.as_str() {
-            "--smoke" => calls = 4_000,
+            "--smoke" => extent = SMOKE,
+            "--worst" => all_tried = true,
             "--calls" => file = arguments.next(),
             _ => {
-                eprintln!("usage: bench [--smoke] [--calls FILE]");
+                eprintln!("usage: bench [--smoke] [--worst] [--calls FILE]");
                 return ExitCode::from(2);
             }
         }
     }
-    let walk = Walk::new(calls);
+    let walk = Walk::new(extent.calls);
     if let Some(file) = file {
         std::fs::write(file, walk.journal()).expect("the calls are written");
     }
-    let (desk, store) = time_desk(&walk);
-    let plain = time_plain(&walk);
-    assert_eq!(desk.found, plain.found, "desk and plain list find the same radios");
-    println!("report {}", desk.report);
-    println!("range {}", desk.range);
-    println!("test {}", time_test(&store, calls / 8));
-    println!("test-made {}", time_test(&made_store(), calls / 8));
-    println!("pages-changed-per-report {:.3}", pages_changed(&walk));
-    println!("plain-report {}", plain.report);
-    println!("plain-range {}", plain.range);
+    print_walk(&walk, &extent);
+    let mut worst = Worst::new();
+    worst.time(extent.worst, empty_timing());
+    worst.print();
+    if all_tried {
+        worst.print_tried();
+    }
     ExitCode::SUCCESS
 }
 
-/// Everyone's sign-on, then the calls in groups: seven reports and a range.
-struct Walk {
-    sign_ons: Vec<Vec<u8>>,
-    groups: Vec<(Vec<Vec<u8>>, Vec<u8>)>,
-}
-
-impl Walk {
-    fn new(calls: usize) -> Walk {
-        let mut random = Xorshift::new(512);
-        let mut places: Vec<(u16, u16)> = (0..RADIOS)
-            .map(|_| (random.coordinate(), random.coordinate()))
-            .collect();
-        let sign_ons = (1..=RADIOS).zip(&places).map(|(radio, (east, north))| {
-            Record::SignOn {
-                radio,
-                east: *east,
-                north: *north,
-            }
-            .to_bytes()
-        });
-        let sign_ons = sign_ons.collect();
-        let groups = (0..calls / 8).map(|_| {
-            let reports = (0..7).map(|_| step(&mut random, &mut places)).collect();
-            let (west, south) = (random.within(0, 65535 - SIDE), random.within(0, 65535 - SIDE));
-            let range = Record::Range {
-                west,
-                east: west + SIDE,
-                south,
-                north: south + SIDE,
-            };
-            (reports, range.to_bytes())
-        });
-        let groups = groups.collect();
-        Walk { sign_ons, groups }
-    }
-
-    /// All calls in their order.
-    fn journal(&self) -> Vec<u8> {
-        let groups = self
-            .groups
-            .iter()
-            .flat_map(|(reports, range)| reports.iter().chain([range]));
-        self.sign_ons.iter().chain(groups).flatten().copied().collect()
-    }
-}
-
-/// Some radio goes a step in some direction and reports.
-fn step(random: &mut Xorshift, places: &mut [(u16, u16)]) -> Vec<u8> {
-    let walker = random.below(places.len());
-    let direction = TAU * f64::from(random.coordinate()) / 65536.0;
-    let moved = |from: u16, by: f64| (f64::from(from) + STEP * by).round().clamp(0.0, 65535.0) as u16;
-    let (east, north) = places[walker];
-    let (east, north) = (moved(east, direction.cos()), moved(north, direction.sin()));
-    places[walker] = (east, north);
-    Record::Report {
-        radio: walker as u16 + 1,
-        east,
-        north,
-    }
-    .to_bytes()
+fn print_walk(walk: &Walk, extent: &Extent) {
+    let (desk, store) = time_desk(walk);
+    let plain = time_plain(walk);
+    assert_eq!(desk.found, plain.found, "desk and plain list find the same radios");
+    println!("report {}", desk.report);
+    println!("range {}", desk.range);
+    print_tails(walk, extent.walks);
+    println!("test {}", time_test(&store, extent.calls / 8));
+    println!("test-made {}", time_test(&made_store(), extent.calls / 8));
+    println!("pages-changed-per-report {:.3}", pages_changed(walk));
+    println!("plain-report {}", plain.report);
+    println!("plain-range {}", plain.range);
 }
 
 /// Nanoseconds a report and a range, and how many radios the ranges found.
@@ -137,7 +110,7 @@ fn time_groups(walk: &Walk, mut call: impl FnMut(&[u8]) -> usize) -> Times {
     }
     let groups = walk.groups.len() as u128;
     Times {
-        report: reporting.as_nanos() / (7 * groups),
+        report: reporting.as_nanos() / (REPORTS as u128 * groups),
         range: ranging.as_nanos() / groups,
         found,
     }
@@ -161,6 +134,26 @@ fn time_plain(walk: &Walk) -> Times {
         assert_eq!(told.number, 0);
         told.count
     })
+}
+
+/// The tails of the walk's reports and ranges, each call by itself, the best of so many walks.
+fn print_tails(walk: &Walk, walks: usize) {
+    let mut store = Store::fresh();
+    for sign_on in &walk.sign_ons {
+        assert_eq!(store.call(sign_on, &mut []).number(), 0);
+    }
+    let empty = empty_timing();
+    let mut run = Run::new(store, walk.calls().cloned().collect());
+    for _ in 0..walks {
+        run.again(empty);
+    }
+    let groups = run.best().chunks_exact(REPORTS + 1);
+    let reports = Tail::of(groups.clone().flat_map(|group| &group[..REPORTS]).copied().collect());
+    let ranges = Tail::of(groups.map(|group| group[REPORTS]).collect());
+    for (kind, tail) in [("report", reports), ("range", ranges)] {
+        println!("{kind}-p999 {}", tail.p999.as_nanos());
+        println!("{kind}-most {}", tail.most.as_nanos());
+    }
 }
 
 /// The best time of the soundness test alone, on a store that it accepts.

@@ -1,0 +1,76 @@
+//! The calls that are timed: 512 radios walk in steps of 200 m.
+use boragefile::Record;
+use conformance::Xorshift;
+use std::f64::consts::TAU;
+
+const RADIOS: u16 = 512;
+const STEP: f64 = 200.0;
+/// A tenth of the square's side, so that a range has a hundredth of its area.
+const SIDE: u16 = 6553;
+/// The reports of a group; its last call is a range.
+pub const REPORTS: usize = 7;
+
+/// Everyone's sign-on, then the calls in groups: seven reports and a range.
+pub struct Walk {
+    pub sign_ons: Vec<Vec<u8>>,
+    pub groups: Vec<(Vec<Vec<u8>>, Vec<u8>)>,
+}
+
+impl Walk {
+    pub fn new(calls: usize) -> Walk {
+        let mut random = Xorshift::new(512);
+        let mut places: Vec<(u16, u16)> = (0..RADIOS)
+            .map(|_| (random.coordinate(), random.coordinate()))
+            .collect();
+        let sign_ons = (1..=RADIOS).zip(&places).map(|(radio, (east, north))| {
+            Record::SignOn {
+                radio,
+                east: *east,
+                north: *north,
+            }
+            .to_bytes()
+        });
+        let sign_ons = sign_ons.collect();
+        let groups = (0..calls / (REPORTS + 1)).map(|_| {
+            let reports = (0..REPORTS).map(|_| step(&mut random, &mut places)).collect();
+            let (west, south) = (random.within(0, 65535 - SIDE), random.within(0, 65535 - SIDE));
+            let range = Record::Range {
+                west,
+                east: west + SIDE,
+                south,
+                north: south + SIDE,
+            };
+            (reports, range.to_bytes())
+        });
+        let groups = groups.collect();
+        Walk { sign_ons, groups }
+    }
+
+    /// The calls after the sign-ons, in their order.
+    pub fn calls(&self) -> impl Iterator<Item = &Vec<u8>> {
+        self.groups
+            .iter()
+            .flat_map(|(reports, range)| reports.iter().chain([range]))
+    }
+
+    /// All records in their order.
+    pub fn journal(&self) -> Vec<u8> {
+        self.sign_ons.iter().chain(self.calls()).flatten().copied().collect()
+    }
+}
+
+/// Some radio goes a step in some direction and reports.
+fn step(random: &mut Xorshift, places: &mut [(u16, u16)]) -> Vec<u8> {
+    let walker = random.below(places.len());
+    let direction = TAU * f64::from(random.coordinate()) / 65536.0;
+    let moved = |from: u16, by: f64| (f64::from(from) + STEP * by).round().clamp(0.0, 65535.0) as u16;
+    let (east, north) = places[walker];
+    let (east, north) = (moved(east, direction.cos()), moved(north, direction.sin()));
+    places[walker] = (east, north);
+    Record::Report {
+        radio: walker as u16 + 1,
+        east,
+        north,
+    }
+    .to_bytes()
+}
