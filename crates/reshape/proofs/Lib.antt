@@ -1,2 +1,3 @@
+pub mod CoordinatesLaws
 pub mod ReshapeLaws
 pub mod WholeLaws

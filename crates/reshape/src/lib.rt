@@ -2,21 +2,66 @@
 // the round.
 ghost use mathlib.Core.Path.{_≡_};
 ghost use Prim.Native.Nat.{_<_, _≤_};
-ghost use Rattle.terms.specs.Terms.{pages, pageEntries};
-ghost use Rattle.entries.specs.Entries.{rowsOf};
+ghost use Rattle.terms.specs.Terms.{maxOn, pages, pageEntries};
+ghost use Rattle.entries.specs.Entries.{placeOf, rowsOf};
+ghost use Rattle.rules.specs.Cut.{chosenCut};
+ghost use Rattle.rules.specs.Grid.{along};
+ghost use Rattle.rules.specs.Limits.{maxCuts};
+ghost use Rattle.desk.specs.Views.{axisOf, cutsBy, edgesOf};
+ghost use Rattle.cut.specs.Choice.{choiceOf, coordinates};
 ghost use Rattle.page.specs.Buffer.{pagesOf};
-ghost use lib.ListN.{length};
+ghost use lib.ListN.{length, take};
 ghost use Rattle.memo.specs.Memo.{memoIn};
 ghost use Rattle.cell_last.specs.Settling.{HandFits, BeforeReshape};
 ghost use Rattle.reshape.specs.Reshape.{BeforeSplitOrGrow, AfterReshape};
 use cell_last::Reshaped;
 use cut::CutChoice;
+use desk::CutList;
 use desk::Desk;
+use desk::EAST;
 use desk::Grid;
+use desk::NORTH;
+use desk::Slot;
 use entries::Entries;
+use entries::Entry;
 use join::Neighbour;
 use page::Chain;
 use terms::PAGE_ENTRIES;
+
+// ---- the coordinates of d's entries
+
+fn coordinate(e: Entry, axis: u8) -> u16
+    ensures { λ r. ⌜ r ≡ along (axisOf axis) (placeOf e) ⌝ }
+{
+    if axis == EAST { e.east } else { e.north }
+}
+
+// The entries' coordinates in a direction, in an array of their own, which can be lent.
+fn coordinates(table: Entries, axis: u8) -> [u16; Desk::MAX_ON]
+    requires { ⌜ table .n ≤ maxOn ⌝ }
+    ensures { λ r. ⌜ take (table .n) r ≡ coordinates (axisOf axis) (rowsOf table) ⌝ }
+{
+    let mut xs = [0u16; Desk::MAX_ON];
+    let mut i: usize = 0;
+    while i < table.n {
+        let e = table.all[i];
+        xs[i] = coordinate(e, axis);
+        i += 1;
+    }
+    xs
+}
+
+// The cut of d, if there is one.
+fn chosen_cut(easts: CutList, norths: CutList, d: Slot, table: Entries) -> CutChoice
+    requires { ⌜ (table .n ≤ maxOn) × (easts .n ≤ maxCuts) × (norths .n ≤ maxCuts) ⌝ }
+    ensures { λ r. ⌜ choiceOf r ≡ chosenCut (cutsBy easts norths) (edgesOf d) (rowsOf table) ⌝ }
+{
+    let eastings = coordinates(table, EAST);
+    let northings = coordinates(table, NORTH);
+    cut::chosen_cut(easts, norths, d, table.n, &eastings, &northings)
+}
+
+// ---- split, joined or left
 
 // "when d has more than 32 entries": split, if there are "fewer than 64 cells" and a cut is found; else "d grows its chain".
 fn split_or_grown(buffer: &mut [u8], grid: Grid, at: usize, chain: Chain, table: Entries) -> Grid
@@ -32,7 +77,7 @@ fn split_or_grown(buffer: &mut [u8], grid: Grid, at: usize, chain: Chain, table:
     let d = cells.slots[at];
     let easts = grid.easts;
     let norths = grid.norths;
-    let CutChoice::At(axis, cut) = cut::chosen_cut(easts, norths, d, table) else {
+    let CutChoice::At(axis, cut) = chosen_cut(easts, norths, d, table) else {
         return cell_last::settled_last(buffer, grid, at, chain, table);
     };
     cell_split::split(buffer, grid, at, chain, table, axis, cut)

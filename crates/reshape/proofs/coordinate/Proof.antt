@@ -1,6 +1,6 @@
-use Rattle.cut.proofs.SideLaws.{east-along, north-along}
-use Rattle.cut.proofs.coordinate.Statement.{statement}
-use Rattle.cut.proofs.coordinate.Tie as tie
+use Rattle.reshape.proofs.CoordinatesLaws.{east-along, north-along}
+use Rattle.reshape.proofs.coordinate.Statement.{statement}
+use Rattle.reshape.proofs.coordinate.Tie as tie
 
 returns : tie.Need-returns
 returns c = search east-along
