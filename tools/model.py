@@ -40,7 +40,7 @@ LENGTHS = {SIGN_ON: 10, REPORT: 10, SIGN_OFF: 6, RANGE: 12}
 
 EAST, NORTH = 0, 1          # the two directions; a place is (east, north)
 STRANGE = ("page_bytes", "damage")  # what a journal's line may say of the page buffer (tools/replay-vectors)
-ORDER = ("west", "east", "south", "north")  # where several neighbours may be joined, the first of these (left free by the contract)
+ORDER = ("west", "east", "south", "north")  # "take the first of west, east, south, north" (02, Job 7)
 
 
 def fields(*numbers):

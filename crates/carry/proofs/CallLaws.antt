@@ -13,7 +13,7 @@ use Rattle.page.specs.Buffer.{bufferBytes}
 use Rattle.rules.specs.Grid.{Rect}
 use Rattle.rules.specs.Store.{Store}
 use Rattle.rules.specs.Records.{Request, signOn, report, signOff, range, requestOf, refusal}
-use Rattle.rules.specs.Carry.{Outcome, carriedOut, carry, allowedIn}
+use Rattle.rules.specs.Carry.{Outcome, carriedOut, carry}
 use Rattle.rules.specs.Told.{toldList}
 use Rattle.rules.specs.WellFormed.{WellFormed, chains, PagesOnce}
 use Rattle.rules.proofs.StepLaws.{step-well}
@@ -22,13 +22,13 @@ use Rattle.desk.specs.declared.Parts.{Parts}
 use Rattle.desk.specs.Layout.{onOf}
 use Rattle.desk.specs.Views.{radiosOf, partsOf, deskWith, rectOf}
 use Rattle.desk.specs.Sound.{Sound}
-use Rattle.desk.specs.Call.{Before, After, turnedDown, laidOut, Carried as CarriedOut, Answers}
+use Rattle.desk.specs.Call.{Before, After, turnedDown, laidOut, CarriedOut, Answers, wrong-size, unsound, carried}
 use Rattle.desk.specs.Laid.{LaidDesk}
 use Rattle.desk.proofs.PagesLaws.{pages-laid}
 use Rattle.waiting.specs.On.{WholeOn}
 use Rattle.waiting.proofs.OnLaws.{whole-on-laid}
 use Rattle.records.specs.Asked.{onIn, Checked, asks, fails, checked}
-use Rattle.records.proofs.AskedLaws.{on-few, on-rises, refused-carry, refused-allowed, taken-carry, taken-allowed, asks-on, asks-report, asks-off}
+use Rattle.records.proofs.AskedLaws.{on-few, on-rises, refused-carry, taken-carry, asks-on, asks-report, asks-off}
 use Rattle.desk.specs.declared.Rectangle.{Rectangle}
 use Rattle.range.specs.declared.Listed.{Listed}
 use Rattle.range.specs.Range.{foundIn}
@@ -70,24 +70,15 @@ module _ (parts : Parts) (ws : List ℕ) {b : List ℕ} (x : Sound (deskWith par
 
     pub refused-answers : (n : ℕ) → k ≡ fails n → CarriedOut before x (record { number = n; count = 0; desk = desk; pages = b; buffer = buffer })
     refused-answers n e =
-        let c = refused-carry s (desk .on) bytes on-laid told e 0 buffer in
-        record {
-          pick = 0;
-          permitted = refused-allowed s (desk .on) bytes on-laid told e 0;
-          done = laid-out (record { number = n; count = 0; buffer = buffer; store = s }) (x .well) (desk-laid s (x .held) (x .laid)) ∙ ap laidOut (sym c);
-        }
+        laid-out (record { number = n; count = 0; buffer = buffer; store = s }) (x .well) (desk-laid s (x .held) (x .laid)) ∙ ap laidOut (sym (refused-carry s (desk .on) bytes on-laid told e buffer))
 
     -- ---- carried out
 
-    taken : (q : Request) → k ≡ asks q → (pick : ℕ) → allowedIn pick q s ≡ true → (y : Outcome) → carriedOut pick q s buffer ≡ y → {d : Desk} {b′ : List ℕ} → LaidDesk (y .store) d b′
+    taken : (q : Request) → k ≡ asks q → (y : Outcome) → carriedOut q s buffer ≡ y → {d : Desk} {b′ : List ℕ} → LaidDesk (y .store) d b′
         → CarriedOut before x (record { number = y .number; count = y .count; desk = d; pages = b′; buffer = y .buffer })
-    taken q e pick a y g h =
-        let c : carry pick s bytes buffer ≡ y = taken-carry s (desk .on) bytes on-laid told q e pick buffer ∙ g in
-        record {
-          pick = pick;
-          permitted = taken-allowed s (desk .on) bytes on-laid told q e pick ∙ a;
-          done = laid-out y (subst (λ (z : Outcome). WellFormed (z .store)) c (step-well pick s bytes buffer small (x .well))) h ∙ ap laidOut (sym c);
-        }
+    taken q e y g h =
+        let c : carry s bytes buffer ≡ y = taken-carry s (desk .on) bytes on-laid told q e buffer ∙ g in
+        laid-out y (subst (λ (z : Outcome). WellFormed (z .store)) c (step-well s bytes buffer small (x .well))) h ∙ ap laidOut (sym c)
 
     module _ (r : ℕ) (p : Place) where
       pub on-asked : k ≡ asks (signOn r p) → BeforeSignOn desk r p b
@@ -98,24 +89,24 @@ module _ (parts : Parts) (ws : List ℕ) {b : List ℕ} (x : Sound (deskWith par
 
       pub on-answers : {d : Desk} {b′ : List ℕ} → k ≡ asks (signOn r p) → AfterRequest s (signOn r p) d b′ → CarriedOut before x (record { number = 0; count = 0; desk = d; pages = b′; buffer = buffer })
       unfolding carriedOut
-      on-answers e c = taken (signOn r p) e (c .pick) (c .permitted) _ refl (c .laid)
+      on-answers e c = taken (signOn r p) e _ refl c
 
       pub report-answers : {d : Desk} {b′ : List ℕ} → k ≡ asks (report r p) → AfterRequest s (report r p) d b′ → CarriedOut before x (record { number = 0; count = 0; desk = d; pages = b′; buffer = buffer })
       unfolding carriedOut
-      report-answers e c = taken (report r p) e (c .pick) (c .permitted) _ refl (c .laid)
+      report-answers e c = taken (report r p) e _ refl c
 
     pub off-asked : (r : ℕ) → k ≡ asks (signOff r) → BeforeSignOff desk r b
     off-asked r e = record { sound = x; signs = asks-off s (desk .on) bytes on-laid told small r e }
 
     pub off-answers : (r : ℕ) {d : Desk} {b′ : List ℕ} → k ≡ asks (signOff r) → AfterRequest s (signOff r) d b′ → CarriedOut before x (record { number = 0; count = 0; desk = d; pages = b′; buffer = buffer })
     unfolding carriedOut
-    off-answers r e c = taken (signOff r) e (c .pick) (c .permitted) _ refl (c .laid)
+    off-answers r e c = taken (signOff r) e _ refl c
 
     range-answers : (rect : Rect) {r : Told} {after : List ℕ} → k ≡ asks (range rect) → AfterRange s rect parts buffer r after
         → CarriedOut before x (record { number = r .answer .number; count = r .answer .count; desk = deskWith (r .parts) ws; pages = b; buffer = after })
-    unfolding carriedOut allowedIn
+    unfolding carriedOut
     range-answers rect {r = r} {after = after} e l =
-        taken (range rect) e 0 refl (record { number = r .answer .number; count = r .answer .count; buffer = after; store = s }) (sym (l .told)) (desk-laid s (ap (λ (p : Parts). deskWith p ws) (l .kept) ∙ x .held) (x .laid))
+        taken (range rect) e (record { number = r .answer .number; count = r .answer .count; buffer = after; store = s }) (sym (l .told)) (desk-laid s (ap (λ (p : Parts). deskWith p ws) (l .kept) ∙ x .held) (x .laid))
 
     -- ---- the same, in the words of the calls
 
@@ -161,14 +152,14 @@ module _ (parts : Parts) (ws pages bytes buffer : List ℕ) where
   turned n e = ap keeps e
 
   pub size-answers : {r : Told} → (length pages ≡ bufferBytes → ⊥) → r ≡ record { parts = parts; answer = record { number = 1; count = 0 } } → Answers x (keeps r)
-  size-answers n e = record { size = λ _. turned 1 e; unsound = λ l _. absurd (n l); sound = λ s. absurd (n (s .laid .size)) }
+  size-answers n e = wrong-size n (turned 1 e)
 
   pub unsound-answers : {t : Bool} {r : Told} → length pages ≡ bufferBytes → (Sound (x .desk) pages → t ≡ true) → not t ≡ true
       → r ≡ record { parts = parts; answer = record { number = 2; count = 0 } } → Answers x (keeps r)
-  unsound-answers {t = t} l f n e = record { size = λ h. absurd (h l); unsound = λ _ _. turned 2 e; sound = λ s. false-true (sym (not-true t n) ∙ f s) }
+  unsound-answers {t = t} l f n e = unsound l (λ s. false-true (sym (not-true t n) ∙ f s)) (turned 2 e)
 
   pub sound-answers : {y : After} → Sound (x .desk) pages → ((s : Sound (x .desk) pages) → CarriedOut x s y) → Answers x y
-  sound-answers s c = record { size = λ n. absurd (n (s .laid .size)); unsound = λ _ n. absurd (n s); sound = c }
+  sound-answers s c = carried s (c s)
 
 -- ---- the list
 

@@ -1,6 +1,6 @@
 // A record on a store in any condition: carried out, or turned down. The desk comes in its parts, with the memo's array, the pages and the answer buffer lent.
 ghost use mathlib.Core.Path.{_≡_};
-ghost use Rattle.desk.specs.Call.{handed, left, Answers, Carried as CarriedOut};
+ghost use Rattle.desk.specs.Call.{handed, left, CarriedOut, Answers};
 ghost use Rattle.desk.specs.Sound.{Sound};
 ghost use Rattle.desk.specs.Views.{deskWith, rectOf};
 ghost use Rattle.carry.specs.Carry.{MemoArray, AfterRange};

@@ -5,7 +5,6 @@ use mathlib.Core.Path.{_≡_, refl, sym, ap, ap₂, subst, _∙_}
 use Prim.Native.Nat.{ℕ, suc, _+_, _≤_, _<_}
 use native.Mathlib.Omega.{arith}
 use lib.ListN.{length, take, drop, getD}
-use borrow.Author.Tests.{leb-true}
 use Rattle.terms.specs.Terms.{Fix, maxOn, pages, noPage}
 use Rattle.lists.specs.Chains.{firstOf}
 use Rattle.lists.specs.Parts.{removeAt}
@@ -15,15 +14,15 @@ use Rattle.lists.specs.Among.{Among}
 use Rattle.lists.proofs.AmongLaws.{each-among}
 use Rattle.lists.proofs.RowsLaws.{rising-filter}
 use Rattle.lists.proofs.SumsLaws.{sum-cons, sum-middle, length-middle, length-filter-not}
-use Rattle.lists.proofs.TestsLaws.{each-middle, both-right}
+use Rattle.lists.proofs.TestsLaws.{each-middle}
 use Rattle.entries.specs.declared.Entries.{Entries}
 use Rattle.entries.specs.Entries.{rowsOf}
 use Rattle.page.specs.declared.Chain.{Chain}
 use Rattle.page.specs.Buffer.{there, pagesOf, chainFrom, entriesOn}
-use Rattle.rules.specs.Limits.{maxCells, joinEntries}
+use Rattle.rules.specs.Limits.{maxCells}
 use Rattle.rules.specs.Store.{Cell, pagesFor}
 use Rattle.rules.specs.Sweep.{stale, swept, sweptEntries, sweptMemo}
-use Rattle.rules.specs.Flush.{Flushed, beside, joinable, joined, joinedWith}
+use Rattle.rules.specs.Flush.{Flushed, joined, joinedWith}
 use Rattle.rules.specs.WellFormed.{staleIn}
 use Rattle.rules.specs.Parts.{Rowed}
 use Rattle.rules.proofs.BooksLaws.{memo-total}
@@ -33,6 +32,7 @@ use Rattle.desk.specs.declared.Directory.{Directory}
 use Rattle.desk.specs.declared.Grid.{Grid}
 use Rattle.desk.specs.declared.Memo.{Memo}
 use Rattle.desk.specs.Layout.{noSlot, lineSlots, slotOf, directoryOf, gridOf, memoOf}
+use Rattle.desk.specs.Laid.{LaidMemo}
 use Rattle.desk.specs.Views.{slotsIn, directoryWith}
 use Rattle.desk.proofs.ReadLaws.{CellRead, cells-read}
 use Rattle.memo.specs.Memo.{linesOf, Whole}
@@ -45,7 +45,7 @@ use Rattle.join.specs.Join.{joinedSlot}
 use Rattle.join.proofs.JoinLaws.{joined-slot-cell}
 use Rattle.cell_last.specs.Grids.{withDirectory}
 use Rattle.cell_last.specs.Settling.{BeforeReshape}
-use Rattle.cell_join.specs.Joining.{BeforeJoin, BeforeJoinPages, AfterJoinPages, AfterJoin}
+use Rattle.cell_join.specs.Joining.{BeforeJoin, BeforeJoinPages, AfterJoinPages}
 use Rattle.cell_last.proofs.MidwayLaws.{store-once, midway-loose, midway-slot}
 use Rattle.cell_join.proofs.LaidLaws.{few-joined, cells-joined}
 use Rattle.cell_last.proofs.CellsLaws.{slots-with}
@@ -84,10 +84,6 @@ module _ {grid : Grid} {at : ℕ} {rest : Directory} {k : ℕ} {chain : List ℕ
   abbrev among : Among cells m
   among = record { before = take k cells; after = drop (suc k) cells; split = x .stands .split }
 
-  pub small : length (f .cell .entries) + length (m .entries) ≤ joinEntries
-  unfolding joinable
-  small = leb-true (length (f .cell .entries) + length (m .entries)) joinEntries (both-right (beside (f .cell .edges) (m .edges)) _ (x .near))
-
   cells-few : length cells < maxCells
   cells-few = omega (arith, x .midway .mid .tiled .few-cells, length-middle (x .midway .before) (x .midway .d) (x .midway .after))
 
@@ -116,7 +112,7 @@ module _ {grid : Grid} {at : ℕ} {rest : Directory} {k : ℕ} {chain : List ℕ
   few-stay = omega (arith, length-filter-not (stale (f .store .memo)) (m .entries))
 
   pub near-swept : Sweepable b (f .store .memo) m
-  near-swept = sweepable b (f .store .memo) m read paged (rowed .rising) (omega (arith, few-stay, small))
+  near-swept = sweepable b (f .store .memo) m read paged (rowed .rising) (omega (arith, few-stay, x .small))
 
   -- its slot
   slot-first : getD (rest .slots) k noSlot .first ≡ firstOf noPage (m .chain)
@@ -151,7 +147,7 @@ module _ {grid : Grid} {at : ℕ} {rest : Directory} {k : ℕ} {chain : List ℕ
       near-merges table n e = (
         rw stays (rising-filter (λ e. not (stale (f .store .memo) e)) 0 (m .entries) (rowed .rising)),
         rw (← e, x .midway .entered) (x .midway .mid .books .cells-rowed .0 .rising),
-        omega (arith, count-stays, small, n, ap length e, ap length (x .midway .entered)),
+        omega (arith, count-stays, x .small, n, ap length e, ap length (x .midway .entered)),
       )
 
       abbrev pub near-joins : (all : Rows Fix) → all ≡ merge (rowsOf stay) rows → BeforeJoinPages (grid .free) (getD (grid .cells .slots) at noSlot) chain (getD (rest .slots) k noSlot) (pagesOf other) all b
@@ -166,7 +162,7 @@ module _ {grid : Grid} {at : ℕ} {rest : Directory} {k : ℕ} {chain : List ℕ
         mid = x .midway .mid;
         neighbour = m;
         among = among;
-        small = small;
+        small = x .small;
         free-is = loose-free (midway-loose (x .midway));
         d-is = sym (slots-at (grid .cells) at (loose-in (midway-loose (x .midway)))) ∙ loose-slot (midway-loose (x .midway));
         chained = x .midway .chained;
@@ -177,7 +173,7 @@ module _ {grid : Grid} {at : ℕ} {rest : Directory} {k : ℕ} {chain : List ℕ
       }
 
       pub near-fits : (all : Rows Fix) → all ≡ merge (rowsOf stay) rows → length all ≤ maxOn
-      near-fits all e = omega (arith, few-joined (x .midway .mid) b (x .midway .laid .in-grid .laid) m among small, small, ap length (e ∙ ap₂ merge stays (x .midway .entered)))
+      near-fits all e = omega (arith, few-joined (x .midway .mid) b (x .midway .laid .in-grid .laid) m among (x .small), x .small, ap length (e ∙ ap₂ merge stays (x .midway .entered)))
 
       noted : after ≡ memoOf (sweptMemo (f .store .memo) (m .entries))
       noted = gives .2
@@ -185,7 +181,7 @@ module _ {grid : Grid} {at : ℕ} {rest : Directory} {k : ℕ} {chain : List ℕ
       pub near-returns : {ends : Settled} {b′ : List ℕ} {cells′ : Directory} {g : Grid} → AfterJoinPages f m ends b′
           → cells′ ≡ directoryWith (removeAt (slotsIn rest) k ++ (joinedSlot (getD (grid .cells .slots) at noSlot) (getD (rest .slots) k noSlot) (ends .first) ∷ []))
           → g ≡ withDirectory cells′ (ends .free) grid
-          → AfterJoin f m g after b′
+          → LaidMemo (joinedWith f m) g after b′
       unfolding gridOf joinedWith
       near-returns {ends = ends} {cells′ = cells′} {g = g} laid is-cells is-g =
           let d-slot : getD (grid .cells .slots) at noSlot ≡ slotOf (f .cell) = sym (slots-at (grid .cells) at (loose-in (midway-loose (x .midway)))) ∙ midway-slot (x .midway) in
@@ -196,15 +192,13 @@ module _ {grid : Grid} {at : ℕ} {rest : Directory} {k : ℕ} {chain : List ℕ
           let all : cells′ ≡ directoryOf (joinedWith f m .cells) =
           is-cells ∙ ap₂ (λ (l : List Slot) (s : Slot). directoryWith (l ++ (s ∷ []))) left last
           ∙ ap directoryWith (sym (map-append slotOf (take k cells ++ drop (suc k) cells) (joined f m ∷ []))) ∙ with-slots ((take k cells ++ drop (suc k) cells) ++ (joined f m ∷ []))
-          ∙ ap directoryOf (sym (cells-joined (x .midway .mid) b (x .midway .laid .in-grid .laid) m among small refl)) in
+          ∙ ap directoryOf (sym (cells-joined (x .midway .mid) b (x .midway .laid .in-grid .laid) m among (x .small) refl)) in
           record {
-            laid = record {
-              in-grid = record {
-                grid-is = is-g ∙ ap₂ (λ (h : Grid) (p : Directory × ℕ). withDirectory (p .0) (p .1) h) (x .midway .laid .in-grid .grid-is) (ap₂ (λ (d : Directory) (n : ℕ). (d, n)) all (laid .free));
-                laid = laid .laid;
-              };
-              memo-is = noted;
+            in-grid = record {
+              grid-is = is-g ∙ ap₂ (λ (h : Grid) (p : Directory × ℕ). withDirectory (p .0) (p .1) h) (x .midway .laid .in-grid .grid-is) (ap₂ (λ (d : Directory) (n : ℕ). (d, n)) all (laid .free));
+              laid = laid .laid;
             };
+            memo-is = noted;
           }
 
   pub near-puts : WholeDirectory rest × (k < rest .n) × (rest .n < maxCells)

@@ -1,5 +1,4 @@
--- A join under way, and what is left at its end (01, "Join").
-use mathlib.Core.Bool.{true}
+-- A join under way (01, "Join"), and its pages at its end.
 use mathlib.Core.List.{List, _++_}
 use mathlib.Core.Path.{_≡_}
 use Prim.Native.Nat.{ℕ, _+_, _≤_}
@@ -11,14 +10,13 @@ use Rattle.lists.specs.Among.{Among}
 use Rattle.rules.specs.Limits.{joinEntries}
 use Rattle.rules.specs.Store.{Line, Cell}
 use Rattle.rules.specs.Sweep.{sweptEntries}
-use Rattle.rules.specs.Flush.{Flushed, joinable, joined, joinedWith}
+use Rattle.rules.specs.Flush.{Flushed, joined, joinedWith}
 use Rattle.rules.specs.Midway.{MidFlush}
 use Rattle.desk.specs.declared.Slot.{Slot}
 use Rattle.desk.specs.declared.Directory.{Directory}
 use Rattle.desk.specs.declared.Grid.{Grid}
 use Rattle.desk.specs.declared.Memo.{Memo}
 use Rattle.desk.specs.Layout.{slotOf, directoryOf, Laid}
-use Rattle.desk.specs.Laid.{LaidMemo}
 use Rattle.directory.specs.Directory.{Stands}
 use Rattle.settle.specs.declared.Settled.{Settled}
 use Rattle.cell_last.specs.Settling.{BeforeReshape}
@@ -50,14 +48,10 @@ pub record AfterJoinPages (f : Flushed) (m : Cell) (ends : Settled) (bytes : Lis
   pub free : ends .free ≡ firstOf noPage (joinedWith f m .free)
   pub laid : Laid (joinedWith f m) bytes
 
--- the cell at place k of the others may be joined with d
+-- the cell at place k of the others is to be joined with d: few are together
 pub record BeforeJoin (grid : Grid) (at : ℕ) (rest : Directory) (k : ℕ) (chain : List ℕ) (rows : Rows Fix) (memo : Memo) (bytes : List ℕ) : Type 0 where
   pub midway : BeforeReshape grid at chain rows memo bytes
   pub neighbour : Cell
   pub rest-is : rest ≡ directoryOf (midway .before ++ midway .after)
   pub stands : Stands rest (midway .before ++ midway .after) neighbour k
-  pub near : joinable (midway .flushed .cell) neighbour ≡ true
-
--- grid, memo and pages are those of d joined with m
-pub record AfterJoin (f : Flushed) (m : Cell) (grid : Grid) (memo : Memo) (bytes : List ℕ) : Type 0 where
-  pub laid : LaidMemo (joinedWith f m) grid memo bytes
+  pub small : length (midway .flushed .cell .entries) + length (neighbour .entries) ≤ joinEntries

@@ -7,13 +7,15 @@ ghost use Rattle.lists.specs.Parts.{removeAt};
 ghost use Rattle.entries.specs.Entries.{rowsOf};
 ghost use Rattle.page.specs.Buffer.{pagesOf};
 ghost use Rattle.rules.specs.Limits.{maxCells};
+ghost use Rattle.rules.specs.Flush.{joinedWith};
 ghost use lib.ListN.{length};
+ghost use Rattle.desk.specs.Laid.{LaidMemo};
 ghost use Rattle.desk.specs.Views.{slotsIn, directoryWith};
 ghost use Rattle.directory.specs.Directory.{WholeDirectory};
 ghost use Rattle.join.specs.Join.{joinedSlot};
 ghost use Rattle.memo.specs.Memo.{memoIn};
 ghost use Rattle.cell_last.specs.Settling.{HandFits};
-ghost use Rattle.cell_join.specs.Joining.{BeforeJoinPages, AfterJoinPages, BeforeJoin, AfterJoin};
+ghost use Rattle.cell_join.specs.Joining.{BeforeJoinPages, AfterJoinPages, BeforeJoin};
 use cell_last::Reshaped;
 use desk::Desk;
 use desk::Directory;
@@ -110,7 +112,7 @@ pub fn join(
     requires { ⌜ (chain .n ≤ pages) × (table .n ≡ length (rowsOf table))
         × BeforeJoin grid at rest k (pagesOf chain) (rowsOf table) (memoIn lines (now words)) (now buffer) ⌝ }
     ensures { λ r. ⌜ ((x : BeforeJoin grid at rest k (pagesOf chain) (rowsOf table) (memoIn lines (now (words .entry))) (now (buffer .entry)))
-        → AfterJoin (x .midway .flushed) (x .neighbour) (r .grid) (memoIn (r .lines) (now (words .exit))) (now (buffer .exit))) ⌝ }
+        → LaidMemo (joinedWith (x .midway .flushed) (x .neighbour)) (r .grid) (memoIn (r .lines) (now (words .exit))) (now (buffer .exit))) ⌝ }
 {
     let cells = grid.cells;
     let d = cells.slots[at];

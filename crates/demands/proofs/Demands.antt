@@ -16,6 +16,7 @@ use Rattle.desk.specs.declared.Desk.{Desk}
 use Rattle.desk.specs.Layout.{deskOf, Laid, freshPages}
 use Rattle.desk.specs.Sound.{Sound}
 use Rattle.desk.specs.Call.{After, Answers, laidOut}
+use Rattle.desk.proofs.CallLaws.{answers-sound}
 use Rattle.desk.proofs.PagesLaws.{laid-pages}
 use Rattle.desk.proofs.FreshLaws.{fresh-laid, fresh-well}
 use Rattle.demands.specs.Trace.{Trace, begun, called, freshDesk, deskCuts, EveryState, EveryCall}
@@ -39,27 +40,24 @@ begins = record { store = fresh; well = fresh-well; held = refl; laid = fresh-la
 
 -- what a call answers and leaves, as the rules say of the store beside it
 outcome : {d : Desk} {b : List ℕ} {x : Plain} (k : Beside d b x) (bytes buffer : List ℕ) {y : After}
-    → Answers (record { desk = d; pages = b; bytes = bytes; buffer = buffer }) y → (pick : ℕ) → y ≡ laidOut (carry pick (k .store) bytes buffer) → Bytes bytes
+    → y ≡ laidOut (carry (k .store) bytes buffer) → Bytes bytes
     → Beside (y .desk) (y .pages) (plainStep (deskCuts d) bytes x)
 unfolding laidOut
-outcome {d} {b} {x} k bytes buffer {y} a pick e small =
-    let s = carry pick (k .store) bytes buffer .store in
-    let w = step-well pick (k .store) bytes buffer small (k .well) in
+outcome {d} {b} {x} k bytes buffer {y} e small =
+    let s = carry (k .store) bytes buffer .store in
+    let w = step-well (k .store) bytes buffer small (k .well) in
     let cuts : deskCuts d ≡ k .store .cuts = ap deskCuts (k .held) ∙ desk-cuts (k .store) in
     record {
       store = s;
       well = w;
       held = ap (λ (z : After). z .desk) e;
       laid = subst (λ (l : List ℕ). Laid s l) (sym (ap (λ (z : After). z .pages) e)) (laid-pages s (w .once));
-      link = rw cuts (step-link pick (k .store) x bytes buffer small (k .well) (k .link));
+      link = rw cuts (step-link (k .store) x bytes buffer small (k .well) (k .link));
     }
 
 beside : {d : Desk} {b : List ℕ} {x : Plain} → Trace d b x → Beside d b x
 beside begun = begins
-beside (called t bytes buffer y small a) =
-    let k = beside t in
-    let c = a .sound (sound k) in
-    outcome k bytes buffer a (c .pick) (c .done) small
+beside (called t bytes buffer y small a) = let k = beside t in outcome k bytes buffer (answers-sound a (sound k)) small
 
 state : {d : Desk} {b : List ℕ} {x : Plain} → Beside d b x → Kept d b x
 state {d} {b} {x} k = rw (k .held) (kept (k .store) x b (k .well) (k .laid) (k .link))
@@ -70,12 +68,12 @@ as-told : {d : Desk} {b : List ℕ} {x : Plain} (k : Beside d b x) (bytes buffer
     → Answers (record { desk = d; pages = b; bytes = bytes; buffer = buffer }) y → AsTold x bytes buffer y
 unfolding laidOut
 as-told {x = x} k bytes buffer a =
-    let c = a .sound (sound k) in
-    let t = told-same (c .pick) (k .store) x bytes buffer (well-core (k .store) (k .well) .signed) (k .link) in
+    let c = answers-sound a (sound k) in
+    let t = told-same (k .store) x bytes buffer (well-core (k .store) (k .well) .signed) (k .link) in
     record {
-      number = ap (λ (z : After). z .number) (c .done) ∙ t .0;
-      count = ap (λ (z : After). z .count) (c .done) ∙ t .1;
-      buffer = ap (λ (z : After). z .buffer) (c .done) ∙ t .2;
+      number = ap (λ (z : After). z .number) c ∙ t .0;
+      count = ap (λ (z : After). z .count) c ∙ t .1;
+      buffer = ap (λ (z : After). z .buffer) c ∙ t .2;
     }
 
 every-told : {d : Desk} {b : List ℕ} {x : Plain} (t : Trace d b x) → EveryCall AsTold t

@@ -1,3 +1,4 @@
+pub mod CallLaws
 pub mod FreshLaws
 pub mod LinesLaws
 pub mod PagesLaws

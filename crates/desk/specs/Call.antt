@@ -1,12 +1,11 @@
 -- What one call answers and leaves, from what it finds: the definition that an entry point's contract cites, and a list of calls is made of
 -- (01, "Turned down, in checking order", "My note on what I won't accept").
-use mathlib.Core.Bool.{true}
 use mathlib.Core.List.{List}
 use mathlib.Core.Path.{_≡_}
 use Prim.Native.Nat.{ℕ}
 use lib.ListN.{length}
 use Rattle.page.specs.Buffer.{bufferBytes}
-use Rattle.rules.specs.Carry.{Outcome, carry, allowed}
+use Rattle.rules.specs.Carry.{Outcome, carry}
 use Rattle.desk.specs.declared.Desk.{Desk}
 use Rattle.desk.specs.Layout.{deskOf, pagesOf}
 use Rattle.desk.specs.Sound.{Sound}
@@ -40,16 +39,15 @@ turnedDown n x = record { number = n; count = 0; desk = x .desk; pages = x .page
 unfoldable pub laidOut : Outcome → After
 laidOut o = record { number = o .number; count = o .count; desk = deskOf (o .store); pages = pagesOf (o .store); buffer = o .buffer }
 
--- carried out, or turned down under 3 to 12, with a neighbour that 01 allows: what is left free is its name
-pub record Carried (x : Before) (s : Sound (x .desk) (x .pages)) (y : After) : Type 0 where
-  pub pick : ℕ
-  pub permitted : allowed pick (s .store) (x .bytes) ≡ true
-  pub done : y ≡ laidOut (carry pick (s .store) (x .bytes) (x .buffer))
+-- on a sound store: carried out, or turned down under 3 to 12
+abbrev pub CarriedOut : (x : Before) → Sound (x .desk) (x .pages) → After → Type 0
+CarriedOut x s y = y ≡ laidOut (carry (s .store) (x .bytes) (x .buffer))
 
-pub record Answers (x : Before) (y : After) : Type 0 where
+-- which case a call is, and its result outright: what it is handed settles what it answers and leaves
+pub data Answers (x : Before) (y : After) : Type 0 where
   -- 1: "The page buffer isn't 25,600 bytes."
-  pub size : (length (x .pages) ≡ bufferBytes → ⊥) → y ≡ turnedDown 1 x
+  wrong-size : (length (x .pages) ≡ bufferBytes → ⊥) → y ≡ turnedDown 1 x → Answers x y
   -- 2: "The store isn't sound."
-  pub unsound : length (x .pages) ≡ bufferBytes → (Sound (x .desk) (x .pages) → ⊥) → y ≡ turnedDown 2 x
-  -- 3 to 12, or carried out
-  pub sound : (s : Sound (x .desk) (x .pages)) → Carried x s y
+  unsound : length (x .pages) ≡ bufferBytes → (Sound (x .desk) (x .pages) → ⊥) → y ≡ turnedDown 2 x → Answers x y
+  -- 3 to 12, or 0
+  carried : (s : Sound (x .desk) (x .pages)) → CarriedOut x s y → Answers x y

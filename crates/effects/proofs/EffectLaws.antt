@@ -21,13 +21,13 @@ use Rattle.desk.specs.declared.Memo.{Memo}
 use Rattle.desk.specs.declared.Desk.{Desk}
 use Rattle.desk.specs.Layout.{gridOf, waitingOf, memoOf, onOf, deskOf, Laid}
 use Rattle.desk.specs.Views.{cutsBy}
-use Rattle.desk.specs.Laid.{LaidDesk}
+use Rattle.desk.specs.Laid.{LaidWaiting, LaidDesk}
 use Rattle.waiting.specs.Waiting.{reportsOf}
 use Rattle.tally.specs.Tally.{BeforeTally, AfterTally}
 use Rattle.tally.proofs.TickLaws.{tick-counts}
-use Rattle.flush.specs.Flush.{quiet, FewCuts, BeforeFlush, AfterDueFlush}
+use Rattle.flush.specs.Flush.{quiet, FewCuts, BeforeFlush}
 use Rattle.flush.proofs.AfterLaws.{due-asks, quiet-due, after-none, after-tallied}
-use Rattle.effects.specs.Effects.{BeforeTallyDesk, BeforeFlushDesk, AfterFlushAndTally}
+use Rattle.effects.specs.Effects.{BeforeTallyDesk, BeforeFlushDesk}
 
 -- ---- a desk by its parts
 
@@ -101,40 +101,40 @@ module _ {desk : Desk} {b : List ℕ} (x : BeforeTallyDesk desk b) where
 
 -- ---- the flush
 
-reshaped-on : (pick : ℕ) (f : Flushed) → reshaped pick f .on ≡ f .store .on
+reshaped-on : (f : Flushed) → reshaped f .on ≡ f .store .on
 unfolding grown splitAt joinedWith
-reshaped-on pick f = reshaped-cases (λ x. x .on ≡ f .store .on) pick f refl (λ c _ _ _. refl) (λ n _ _. refl)
+reshaped-on f = reshaped-cases (λ x. x .on ≡ f .store .on) f refl (λ c _ _ _. refl) (λ n _ _. refl)
 
 flushed-on : (m : Box) (s : Store) (d : Cell) → flushedInto m s d .store .on ≡ s .on
 unfolding flushedInto
 flushed-on m s d = refl
 
-pub after-on : (pick : ℕ) (p : Place) (s : Store) → afterReport pick p s .on ≡ s .on
+pub after-on : (p : Place) (s : Store) → afterReport p s .on ≡ s .on
 unfolding afterReport
-after-on pick p s =
+after-on p s =
     option-cases (flushDue s p) (λ e. rw e)
-    (λ m e. rw e (flush-cases (λ t. t .on ≡ s .on) pick m s (λ n. refl) (λ d n. reshaped-on pick (flushedInto m s d) ∙ flushed-on m s d)))
+    (λ m e. rw e (flush-cases (λ t. t .on ≡ s .on) m s (λ n. refl) (λ d n. reshaped-on (flushedInto m s d) ∙ flushed-on m s d)))
 
 module _ {desk : Desk} {p : Place} {b : List ℕ} (x : BeforeFlushDesk desk p b) where
   abbrev store : Store
   store = x .before .store
 
-  module _ {g : Grid} {w : Waiting} {m : Memo} {b′ : List ℕ} (l : (y : BeforeFlush (desk .grid) (desk .waiting) (desk .memo) b) → AfterDueFlush (y .store) p g w m b′) where
-    abbrev after : AfterDueFlush store p g w m b′
+  module _ {g : Grid} {w : Waiting} {m : Memo} {b′ : List ℕ} (l : (y : BeforeFlush (desk .grid) (desk .waiting) (desk .memo) b) → LaidWaiting (afterReport p (y .store)) g w m b′) where
+    abbrev after : LaidWaiting (afterReport p store) g w m b′
     after = l (x .before)
 
     -- what is tallied then
     abbrev pub flushed-tallies : BeforeTallyDesk (record { grid = g; waiting = w; memo = m; on = desk .on; tally = desk .tally }) b′
     flushed-tallies = record {
       before = after-tallied (x .before) p (desk .tally) (x .others-few) after (x .tally-is);
-      waiting-is = after .laid .waiting-is;
-      on-is = x .on-is ∙ ap onOf (sym (after-on (after .pick) p store));
+      waiting-is = after .waiting-is;
+      on-is = x .on-is ∙ ap onOf (sym (after-on p store));
     }
 
     pub flush-returns : {r : Desk} {b″ : List ℕ}
         → ((y : BeforeTallyDesk (record { grid = g; waiting = w; memo = m; on = desk .on; tally = desk .tally }) b′) → LaidDesk (tick (y .before .store)) r b″)
-        → AfterFlushAndTally store p r b″
-    flush-returns k = record { pick = after .pick; permitted = after .permitted; laid = k flushed-tallies }
+        → LaidDesk (tick (afterReport p store)) r b″
+    flush-returns k = k flushed-tallies
 
   -- ---- nothing more is due
 
@@ -146,7 +146,7 @@ module _ {desk : Desk} {p : Place} {b : List ℕ} (x : BeforeFlushDesk desk p b)
   cuts = cutsBy (desk .grid .easts) (desk .grid .norths)
 
   pub effect-quiet : {q : Bool} → q ≡ quiet (boxToFlush cuts (waitingIn cuts (reportsOf (desk .waiting))) (length (reportsOf (desk .waiting))) p) (desk .tally + 1) → q ≡ true
-      → AfterFlushAndTally store p (record { grid = desk .grid; waiting = desk .waiting; memo = desk .memo; on = desk .on; tally = desk .tally + 1 }) b
+      → LaidDesk (tick (afterReport p store)) (record { grid = desk .grid; waiting = desk .waiting; memo = desk .memo; on = desk .on; tally = desk .tally + 1 }) b
   effect-quiet e t =
       let q = quiet-due _ (desk .tally + 1) (sym e ∙ t) in
       flush-returns (λ y. after-none y p (q .0)) (λ y. tally-returns y (λ z. tick-counts z (q .1)))

@@ -13,7 +13,7 @@ use Rattle.rules.specs.Store.{Report, Store}
 use Rattle.rules.specs.Sweep.{tick}
 use Rattle.rules.specs.Flush.{raised}
 use Rattle.rules.specs.Records.{signOn, report, signOff}
-use Rattle.rules.specs.Carry.{wasNew, signedOn, reported, signedOff, waitingIn, allowedIn, carriedOut}
+use Rattle.rules.specs.Carry.{wasNew, signedOn, reported, signedOff, waitingIn, afterReport, carriedOut}
 use Rattle.rules.proofs.StepLaws.{put-few, put-boxes, put-bounded, on-core, report-core, off-done}
 use Rattle.rules.specs.WellFormed.{WellFormed}
 use Rattle.rules.specs.Midway.{MidCall}
@@ -29,7 +29,7 @@ use Rattle.waiting.specs.Waiting.{reportsOf}
 use Rattle.own_effect.specs.declared.SignedOn.{SignedOn}
 use Rattle.own_effect.proofs.StoreLaws.{on-gives, report-gives, off-gives, on-laid, report-laid, off-laid}
 use Rattle.records.specs.Asked.{SignsOn, Reports}
-use Rattle.effects.specs.Effects.{BeforeFlushDesk, AfterFlushAndTally, BeforeTallyDesk, BeforeSignOn, BeforeReport, BeforeSignOff, AfterRequest}
+use Rattle.effects.specs.Effects.{BeforeFlushDesk, BeforeTallyDesk, BeforeSignOn, BeforeReport, BeforeSignOff, AfterRequest}
 use Rattle.effects.proofs.EffectLaws.{desk-laid}
 
 -- ---- the store then
@@ -88,9 +88,9 @@ module _ {desk : Desk} {r : ℕ} {p : Place} {b : List ℕ} (x : BeforeSignOn de
         put-effect (signedOn r p s) (on-put s (x .sound .well) r p (x .signs))
         (desk-laid (signedOn r p s) (on-gives s desk (x .sound .held) r p o own) (on-laid s b (x .sound .laid) r p))
 
-    pub on-carries : {d : Desk} {b′ : List ℕ} → ((y : BeforeFlushDesk signed p b) → AfterFlushAndTally (y .before .store) p d b′) → AfterRequest s (signOn r p) d b′
-    unfolding on-effect put-effect carriedOut allowedIn
-    on-carries l = let f : AfterFlushAndTally (signedOn r p s) p _ _ = l on-effect in record { pick = f .pick; permitted = f .permitted; laid = f .laid }
+    pub on-carries : {d : Desk} {b′ : List ℕ} → ((y : BeforeFlushDesk signed p b) → LaidDesk (tick (afterReport p (y .before .store))) d b′) → AfterRequest s (signOn r p) d b′
+    unfolding on-effect put-effect carriedOut
+    on-carries l = l on-effect
 
 -- ---- report
 
@@ -105,9 +105,9 @@ module _ {desk : Desk} {r : ℕ} {p : Place} {b : List ℕ} (x : BeforeReport de
         put-effect (reported r p (x .sound .store)) (report-put (x .sound .store) (x .sound .well) r p (x .reports))
         (desk-laid (reported r p (x .sound .store)) (report-gives (x .sound .store) desk (x .sound .held) r p own) (report-laid (x .sound .store) b (x .sound .laid) r p))
 
-    pub report-carries : {d : Desk} {b′ : List ℕ} → ((y : BeforeFlushDesk told p b) → AfterFlushAndTally (y .before .store) p d b′) → AfterRequest (x .sound .store) (report r p) d b′
-    unfolding report-effect put-effect carriedOut allowedIn
-    report-carries l = let f : AfterFlushAndTally (reported r p (x .sound .store)) p _ _ = l report-effect in record { pick = f .pick; permitted = f .permitted; laid = f .laid }
+    pub report-carries : {d : Desk} {b′ : List ℕ} → ((y : BeforeFlushDesk told p b) → LaidDesk (tick (afterReport p (y .before .store))) d b′) → AfterRequest (x .sound .store) (report r p) d b′
+    unfolding report-effect put-effect carriedOut
+    report-carries l = l report-effect
 
 -- ---- sign-off
 
@@ -140,5 +140,5 @@ module _ {desk : Desk} {r : ℕ} {b : List ℕ} (x : BeforeSignOff desk r b) whe
         }
 
     pub off-carries : {d : Desk} {b′ : List ℕ} → ((y : BeforeTallyDesk signed-off b) → LaidDesk (tick (y .before .store)) d b′) → AfterRequest (x .sound .store) (signOff r) d b′
-    unfolding off-tallies carriedOut allowedIn
-    off-carries l = record { pick = 0; permitted = refl; laid = l off-tallies }
+    unfolding off-tallies carriedOut
+    off-carries l = l off-tallies

@@ -1,5 +1,5 @@
--- A sign-on, a report and a sign-off on a sound store: what each leaves (01, "How a record is carried out").
-use mathlib.Core.Bool.{true, false}
+-- A sign-on, a report and a sign-off on a sound store: what each finds and leaves (01, "How a record is carried out").
+use mathlib.Core.Bool.{false}
 use mathlib.Core.List.{List, []}
 use mathlib.Core.Path.{_≡_}
 use Prim.Native.Nat.{ℕ, _<_}
@@ -7,9 +7,8 @@ use Rattle.terms.specs.Terms.{Place}
 use Rattle.rules.specs.Limits.{fullBox}
 use Rattle.rules.specs.Grid.{Box, sameBox, boxOf}
 use Rattle.rules.specs.Store.{Store}
-use Rattle.rules.specs.Sweep.{tick}
 use Rattle.rules.specs.Records.{Request}
-use Rattle.rules.specs.Carry.{waitingIn, flushDue, afterReport, allowedIf, allowedIn, carriedOut}
+use Rattle.rules.specs.Carry.{waitingIn, carriedOut}
 use Rattle.desk.specs.declared.Desk.{Desk}
 use Rattle.desk.specs.Layout.{waitingOf, onOf}
 use Rattle.desk.specs.Laid.{LaidDesk}
@@ -24,12 +23,6 @@ pub record BeforeFlushDesk (desk : Desk) (p : Place) (bytes : List ℕ) : Type 0
   pub others-few : (n : Box) → sameBox n (boxOf (before .store .cuts) p) ≡ false → waitingIn (before .store .cuts) (before .store .waiting) n < fullBox
   pub on-is : desk .on ≡ onOf (before .store .on)
   pub tally-is : desk .tally ≡ before .store .tally
-
--- flushed where due, and tallied
-pub record AfterFlushAndTally (s : Store) (p : Place) (desk : Desk) (bytes : List ℕ) : Type 0 where
-  pub pick : ℕ
-  pub permitted : allowedIf pick (flushDue s p) s ≡ true
-  pub laid : LaidDesk (tick (afterReport pick p s)) desk bytes
 
 -- the whole desk before the tally
 pub record BeforeTallyDesk (desk : Desk) (bytes : List ℕ) : Type 0 where
@@ -51,8 +44,6 @@ pub record BeforeSignOff (desk : Desk) (r : ℕ) (bytes : List ℕ) : Type 0 whe
   pub sound : Sound desk bytes
   pub signs : SignsOff (sound .store) r
 
--- the request is carried out, with a neighbour that 01 allows
-pub record AfterRequest (s : Store) (q : Request) (desk : Desk) (bytes : List ℕ) : Type 0 where
-  pub pick : ℕ
-  pub permitted : allowedIn pick q s ≡ true
-  pub laid : LaidDesk (carriedOut pick q s [] .store) desk bytes
+-- the request is carried out
+abbrev pub AfterRequest : Store → Request → Desk → List ℕ → Type 0
+AfterRequest s q desk bytes = LaidDesk (carriedOut q s [] .store) desk bytes

@@ -1,9 +1,10 @@
 // A sign-on, a report and a sign-off on a sound store: its own effect, and what follows. The desk comes in its parts, with the memo's array and the pages lent.
 ghost use Rattle.rules.specs.Sweep.{tick};
 ghost use Rattle.rules.specs.Records.{signOn, report, signOff};
+ghost use Rattle.rules.specs.Carry.{afterReport};
 ghost use Rattle.desk.specs.Views.{deskWith};
 ghost use Rattle.desk.specs.Laid.{LaidDesk};
-ghost use Rattle.effects.specs.Effects.{BeforeFlushDesk, AfterFlushAndTally, BeforeTallyDesk, BeforeSignOn, BeforeReport, BeforeSignOff, AfterRequest};
+ghost use Rattle.effects.specs.Effects.{BeforeFlushDesk, BeforeTallyDesk, BeforeSignOn, BeforeReport, BeforeSignOff, AfterRequest};
 use desk::Desk;
 use desk::Parts;
 
@@ -35,7 +36,7 @@ fn followed(
 ) -> Parts
     requires { ⌜ BeforeFlushDesk (deskWith parts (now words)) (record { east = east; north = north }) (now pages) ⌝ }
     ensures { λ r. ⌜ ((x : BeforeFlushDesk (deskWith parts (now (words .entry))) (record { east = east; north = north }) (now (pages .entry)))
-        → AfterFlushAndTally (x .before .store) (record { east = east; north = north }) (deskWith r (now (words .exit))) (now (pages .exit))) ⌝ }
+        → LaidDesk (tick (afterReport (record { east = east; north = north }) (x .before .store))) (deskWith r (now (words .exit))) (now (pages .exit))) ⌝ }
 {
     let grid = parts.grid;
     let waiting = parts.waiting;

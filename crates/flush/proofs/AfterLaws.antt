@@ -13,12 +13,14 @@ use Rattle.lists.specs.Rows.{Rows}
 use Rattle.rules.specs.Limits.{maxCuts, fullBox, fullMemory, sweepEvery}
 use Rattle.rules.specs.Grid.{Cuts, Box, sameBox, boxOf}
 use Rattle.rules.specs.Store.{Report}
+use Rattle.rules.specs.Flush.{flush}
 use Rattle.rules.specs.Carry.{boxToFlush, waitingIn, flushDue, afterReport}
 use Rattle.rules.specs.Midway.{MidCallRoomy}
 use Rattle.rules.proofs.StepLaws.{after-tally, report-done}
 use Rattle.desk.specs.declared.Grid.{Grid}
 use Rattle.desk.specs.declared.Waiting.{Waiting}
 use Rattle.desk.specs.declared.Memo.{Memo}
+use Rattle.desk.specs.Laid.{LaidWaiting}
 use Rattle.desk.specs.Views.{cutsBy}
 use Rattle.boxes.specs.declared.BoxAt.{BoxAt}
 use Rattle.box_due.specs.declared.BoxDue.{BoxDue}
@@ -31,7 +33,7 @@ use Rattle.waiting.proofs.WaitingLaws.{reports-laid}
 use Rattle.boxes.proofs.BoxLaws.{Boxed}
 use Rattle.directory.proofs.DirectoryLaws.{boxed-due, boxed-counts}
 use Rattle.tally.specs.Tally.{BeforeTally}
-use Rattle.flush.specs.Flush.{BoxOf, BeforeFlush, AfterFlush, AfterDueFlush, quiet}
+use Rattle.flush.specs.Flush.{BoxOf, BeforeFlush, quiet}
 use Rattle.flush.proofs.FlushLaws.{laid-easts, laid-norths, laid-cuts, few-easts, few-norths, few-wait}
 
 -- ---- whether nothing follows
@@ -65,15 +67,13 @@ module _ {grid : Grid} {waiting : Waiting} {memo : Memo} {b : List ℕ} (x : Bef
   -- none is
   pub after-none : (p : Place)
       → boxToFlush (cutsBy (grid .easts) (grid .norths)) (waitingIn (cutsBy (grid .easts) (grid .norths)) (reportsOf waiting)) (length (reportsOf waiting)) p ≡ none
-      → AfterDueFlush (x .store) p grid waiting memo b
+      → LaidWaiting (afterReport p (x .store)) grid waiting memo b
   unfolding afterReport
-  after-none p e =
-      let z : flushDue (x .store) p ≡ none = sym (due-told p) ∙ e in
-      record { pick = 0; permitted = rw z refl; laid = rw z (x .laid) }
+  after-none p e = rw (sym (due-told p) ∙ e) (x .laid)
 
   module _ (p : Place) {o : BoxDue}
       (told : dueOf o ≡ boxToFlush (cutsBy (grid .easts) (grid .norths)) (waitingIn (cutsBy (grid .easts) (grid .norths)) (reportsOf waiting)) (length (reportsOf waiting)) p) where
-    pub after-nothing : o ≡ Nothing → AfterDueFlush (x .store) p grid waiting memo b
+    pub after-nothing : o ≡ Nothing → LaidWaiting (afterReport p (x .store)) grid waiting memo b
     after-nothing e = after-none p (means-nothing told e)
 
     -- m is: `flush` may be called, and what it leaves
@@ -89,25 +89,23 @@ module _ {grid : Grid} {waiting : Waiting} {memo : Memo} {b : List ℕ} (x : Bef
       flush-asks = let k = boxed-counts (laid-easts (x .laid .in-memo)) (laid-norths (x .laid .in-memo)) due-boxed in (x, (k .0, k .1))
 
       pub after-flush : {g : Grid} {w : Waiting} {lines : Memo} {b′ : List ℕ}
-          → ((y : BeforeFlush grid waiting memo b) → AfterFlush (y .store) (boxIn m) g w lines b′) → AfterDueFlush (x .store) p g w lines b′
+          → ((y : BeforeFlush grid waiting memo b) → LaidWaiting (flush (boxIn m) (y .store)) g w lines b′) → LaidWaiting (afterReport p (x .store)) g w lines b′
       unfolding afterReport
-      after-flush {g = g} {w = w} {lines = lines} {b′ = b′} f =
-          let k = f x in
-          record { pick = k .pick; permitted = rw due-is (k .permitted); laid = rw due-is (k .laid) }
+      after-flush f = rw due-is (f x)
 
 -- ---- on to the tally
 
 -- what `tick` asks, where no memory cell but that of p was full
 abbrev pub after-tallied : {grid : Grid} {waiting : Waiting} {memo : Memo} {b : List ℕ} (x : BeforeFlush grid waiting memo b) (p : Place) (tally : ℕ) {g : Grid} {w : Waiting} {lines : Memo} {b′ : List ℕ}
     → ((n : Box) → sameBox n (boxOf (x .store .cuts) p) ≡ false → waitingIn (x .store .cuts) (x .store .waiting) n < fullBox)
-    → AfterDueFlush (x .store) p g w lines b′ → tally ≡ x .store .tally → BeforeTally g lines tally b′
+    → LaidWaiting (afterReport p (x .store)) g w lines b′ → tally ≡ x .store .tally → BeforeTally g lines tally b′
 after-tallied x p tally others-few a e =
     let s = x .store in
-    let same = after-tally (a .pick) p s in
+    let same = after-tally p s in
     record {
-      store = afterReport (a .pick) p s;
+      store = afterReport p s;
       early = omega (arith, same, x .early);
-      roomy = subst (λ (c : ℕ). MidCallRoomy (afterReport (a .pick) p s) (c + 1)) (sym same) (report-done (a .pick) p s (s .tally + 1) (x .mid .core) (x .mid .bounded) (omega (arith, x .early)) (x .few) others-few);
-      laid = a .laid .in-memo;
+      roomy = subst (λ (c : ℕ). MidCallRoomy (afterReport p s) (c + 1)) (sym same) (report-done p s (s .tally + 1) (x .mid .core) (x .mid .bounded) (omega (arith, x .early)) (x .few) others-few);
+      laid = a .in-memo;
       tally-is = e ∙ sym same;
     }

@@ -17,7 +17,7 @@ use Rattle.rules.specs.Limits.{maxCells, maxCuts, fullMemory}
 use Rattle.rules.specs.Grid.{eastward, northward, inside, Cuts, Box, cornerOf}
 use Rattle.rules.specs.Store.{Report, Cell, Store, cellAt}
 use Rattle.rules.specs.Sweep.{sweptMemo, swept}
-use Rattle.rules.specs.Flush.{Flushed, flushedInto, inBox, cellOfBox, flush, allowedFlush}
+use Rattle.rules.specs.Flush.{Flushed, flushedInto, inBox, reshaped, cellOfBox, flush}
 use Rattle.rules.specs.Midway.{MidFlush}
 use Rattle.rules.proofs.CutLaws.{reshaped-waiting}
 use Rattle.rules.proofs.FlushLaws.{ready, waiting-flushed}
@@ -27,7 +27,7 @@ use Rattle.desk.specs.declared.Waiting.{Waiting}
 use Rattle.desk.specs.declared.Memo.{Memo}
 use Rattle.desk.specs.Layout.{cutListOf, gridOf, waitingOf}
 use Rattle.desk.specs.Views.{cutsBy, slotsIn}
-use Rattle.desk.specs.Laid.{LaidGrid, LaidMemo}
+use Rattle.desk.specs.Laid.{LaidGrid, LaidMemo, LaidWaiting}
 use Rattle.boxes.specs.declared.BoxAt.{BoxAt}
 use Rattle.boxes.specs.Boxes.{boxIn}
 use Rattle.waiting.specs.Waiting.{reportsOf, WholeWaiting}
@@ -44,12 +44,11 @@ use Rattle.memo.specs.Memo.{memoIn}
 use Rattle.enter.specs.Enter.{Held, heldIn, Enterable, Entered}
 use Rattle.enter.proofs.RoomLaws.{enter-asks, enter-gives}
 use Rattle.cell_last.specs.Settling.{HandFits, BeforeReshape}
-use Rattle.reshape.specs.Reshape.{AfterReshape}
 use Rattle.cell_last.proofs.MovedLaws.{grid-same}
 use Rattle.tally.specs.declared.Hand.{Hand}
 use Rattle.tally.specs.Tally.{BeforeSweepAt, InHand}
 use Rattle.tally.proofs.HandLaws.{laid-cells, among-place}
-use Rattle.flush.specs.Flush.{FewCuts, BoxOf, BeforeFlush, BeforeEnter, AfterFlush}
+use Rattle.flush.specs.Flush.{FewCuts, BoxOf, BeforeFlush, BeforeEnter}
 
 -- ---- the cell of m
 
@@ -215,7 +214,7 @@ module _ {grid : Grid} {at : ℕ} {waiting : Waiting} {memo : Memo} (m : BoxAt) 
 
     -- what it leaves
     reshape-gives : {g : Grid} {lines : Memo} {b′ : List ℕ}
-        → ((y : BeforeReshape grid at (pagesOf (hand .chain)) (rowsOf (hand .table)) (memoIn (hand .lines) ws) b) → AfterReshape (y .flushed) g lines b′) → AfterReshape into g lines b′
+        → ((y : BeforeReshape grid at (pagesOf (hand .chain)) (rowsOf (hand .table)) (memoIn (hand .lines) ws) b) → LaidMemo (reshaped (y .flushed)) g lines b′) → LaidMemo (reshaped into) g lines b′
     unfolding midway
     reshape-gives f = f midway
 
@@ -224,20 +223,16 @@ module _ {grid : Grid} {at : ℕ} {waiting : Waiting} {memo : Memo} (m : BoxAt) 
   waiting-left =
       rw (reports-laid (x .before .laid .waiting-is)) (ap (λ (c : Cuts). waitingOf (filter (λ v. not (inBox c (boxIn m) v)) (store .waiting))) (laid-cuts (x .before .laid .in-memo)))
 
-  flush-gives : {g : Grid} {w : Waiting} {lines : Memo} {b′ : List ℕ} → AfterReshape into g lines b′
-      → w ≡ waitingOf (filter (λ v. not (inBox (cutsBy (grid .easts) (grid .norths)) (boxIn m) v)) (reportsOf waiting)) → AfterFlush store (boxIn m) g w lines b′
-  unfolding flush allowedFlush
-  flush-gives {g = g} {w = w} {lines = lines} {b′ = b′} z e = record {
-    pick = z .pick;
-    permitted = rw (x .home) (z .permitted);
-    laid = rw (x .home) (record { in-memo = z .laid; waiting-is = e ∙ waiting-left ∙ ap waitingOf (sym (reshaped-waiting (z .pick) into)) });
-  }
+  flush-gives : {g : Grid} {w : Waiting} {lines : Memo} {b′ : List ℕ} → LaidMemo (reshaped into) g lines b′
+      → w ≡ waitingOf (filter (λ v. not (inBox (cutsBy (grid .easts) (grid .norths)) (boxIn m) v)) (reportsOf waiting)) → LaidWaiting (flush (boxIn m) store) g w lines b′
+  unfolding flush
+  flush-gives z e = rw (x .home) (record { in-memo = z; waiting-is = e ∙ waiting-left ∙ ap waitingOf (sym (reshaped-waiting into)) })
 
 -- the whole, in the words of the calls
 pub flush-returns : {grid : Grid} {waiting : Waiting} {memo : Memo} {b : List ℕ} (x : BeforeFlush grid waiting memo b) (m : BoxAt) {o : FoundCell} {at : ℕ}
     → foundAt o ≡ slotAt (slotsIn (grid .cells)) (cornerOf (cutsBy (grid .easts) (grid .norths)) (boxIn m)) → o ≡ At at
     → (hand : Hand) (ws : List ℕ) → ((y : BeforeEnter grid at waiting memo (boxIn m) b) → InHand (flushedInto (boxIn m) (y .before .store) (y .cell) .cell) (flushedInto (boxIn m) (y .before .store) (y .cell) .store .memo) hand ws)
-    → {g : Grid} {w : Waiting} {lines : Memo} {b′ : List ℕ} → ((y : BeforeReshape grid at (pagesOf (hand .chain)) (rowsOf (hand .table)) (memoIn (hand .lines) ws) b) → AfterReshape (y .flushed) g lines b′)
-    → w ≡ waitingOf (filter (λ v. not (inBox (cutsBy (grid .easts) (grid .norths)) (boxIn m) v)) (reportsOf waiting)) → AfterFlush (x .store) (boxIn m) g w lines b′
+    → {g : Grid} {w : Waiting} {lines : Memo} {b′ : List ℕ} → ((y : BeforeReshape grid at (pagesOf (hand .chain)) (rowsOf (hand .table)) (memoIn (hand .lines) ws) b) → LaidMemo (reshaped (y .flushed)) g lines b′)
+    → w ≡ waitingOf (filter (λ v. not (inBox (cutsBy (grid .easts) (grid .norths)) (boxIn m) v)) (reportsOf waiting)) → LaidWaiting (flush (boxIn m) (x .store)) g w lines b′
 unfolding homed
 flush-returns x m told e hand ws given f w = let y = homed x m told e in flush-gives m y (reshape-gives m y hand ws given f) w

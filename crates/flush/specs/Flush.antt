@@ -1,17 +1,15 @@
--- What a flush finds and leaves of the desk's parts and the pages, and whether anything follows a report (01, "Flush", "How a record is carried out").
-use mathlib.Core.Bool.{Bool, true, false}
+-- What a flush finds of the desk's parts and the pages, and whether anything follows a report (01, "Flush", "How a record is carried out").
+use mathlib.Core.Bool.{Bool, false}
 use mathlib.Core.List.{List}
 use mathlib.Core.Option.{Option, none, some}
 use mathlib.Core.Path.{_≡_}
 use Prim.Native.Nat.{ℕ, _+_, _≤_, _<_}
 use lib.Dec.{ltb}
 use lib.ListN.{length}
-use Rattle.terms.specs.Terms.{Place}
 use Rattle.rules.specs.Limits.{maxCuts, fullMemory, sweepEvery}
 use Rattle.rules.specs.Grid.{Box}
 use Rattle.rules.specs.Store.{Cell, Store}
-use Rattle.rules.specs.Flush.{cellOfBox, flush, allowedFlush}
-use Rattle.rules.specs.Carry.{flushDue, afterReport, allowedIf}
+use Rattle.rules.specs.Flush.{cellOfBox}
 use Rattle.rules.specs.Midway.{MidCall}
 use Rattle.desk.specs.declared.CutList.{CutList}
 use Rattle.desk.specs.declared.Grid.{Grid}
@@ -48,19 +46,7 @@ pub record BeforeEnter (grid : Grid) (at : ℕ) (waiting : Waiting) (memo : Memo
   pub home : cellOfBox (before .store) m ≡ some cell
   pub stands : Stands (grid .cells) (before .store .cells) cell at
 
--- m is flushed, with a neighbour that 01 allows where d is joined
-pub record AfterFlush (s : Store) (m : Box) (grid : Grid) (waiting : Waiting) (memo : Memo) (bytes : List ℕ) : Type 0 where
-  pub pick : ℕ
-  pub permitted : allowedFlush pick m s ≡ true
-  pub laid : LaidWaiting (flush pick m s) grid waiting memo bytes
-
 -- ---- "After sign-on or report"
-
--- the memory cell that is due is flushed
-pub record AfterDueFlush (s : Store) (p : Place) (grid : Grid) (waiting : Waiting) (memo : Memo) (bytes : List ℕ) : Type 0 where
-  pub pick : ℕ
-  pub permitted : allowedIf pick (flushDue s p) s ≡ true
-  pub laid : LaidWaiting (afterReport pick p s) grid waiting memo bytes
 
 -- nothing follows but that the record is counted: no memory cell is due, and c does not come to 16
 unfoldable pub quiet : Option Box → ℕ → Bool

@@ -4,15 +4,16 @@ ghost use Prim.Native.Nat.{_+_, _<_, _≤_};
 ghost use lib.ListN.{length};
 ghost use Rattle.rules.specs.Limits.{maxCells, fullMemory, sweepEvery};
 ghost use Rattle.rules.specs.Grid.{cornerOf};
-ghost use Rattle.rules.specs.Flush.{flushedInto};
-ghost use Rattle.rules.specs.Carry.{waitingIn, boxToFlush};
+ghost use Rattle.rules.specs.Flush.{flushedInto, flush};
+ghost use Rattle.rules.specs.Carry.{waitingIn, boxToFlush, afterReport};
+ghost use Rattle.desk.specs.Laid.{LaidWaiting};
 ghost use Rattle.desk.specs.Views.{cutsBy, slotsIn};
 ghost use Rattle.memo.specs.Memo.{memoIn};
 ghost use Rattle.boxes.specs.Boxes.{boxIn};
 ghost use Rattle.waiting.specs.Waiting.{reportsOf};
 ghost use Rattle.directory.specs.Directory.{slotAt, foundAt};
 ghost use Rattle.tally.specs.Tally.{InHand};
-ghost use Rattle.flush.specs.Flush.{FewCuts, BoxOf, BeforeFlush, BeforeEnter, AfterFlush, AfterDueFlush, quiet};
+ghost use Rattle.flush.specs.Flush.{FewCuts, BoxOf, BeforeFlush, BeforeEnter, quiet};
 use box_due::BoxDue;
 use boxes::BoxAt;
 use desk::CutList;
@@ -81,7 +82,7 @@ pub fn flush(
 ) -> Emptied
     requires { ⌜ BeforeFlush grid waiting (memoIn lines (now words)) (now buffer) × BoxOf (grid .easts) (grid .norths) m ⌝ }
     ensures { λ r. ⌜ ((x : BeforeFlush grid waiting (memoIn lines (now (words .entry))) (now (buffer .entry)))
-        → AfterFlush (x .store) (boxIn m) (r .grid) (r .waiting) (memoIn (r .lines) (now (words .exit))) (now (buffer .exit))) ⌝ }
+        → LaidWaiting (flush (boxIn m) (x .store)) (r .grid) (r .waiting) (memoIn (r .lines) (now (words .exit))) (now (buffer .exit))) ⌝ }
 {
     let FoundCell::At(at) = home_of(grid, m) else {
         // not reached: each memory cell of a store lies in a cell
@@ -118,7 +119,7 @@ pub fn after_report(
 ) -> Emptied
     requires { ⌜ BeforeFlush grid waiting (memoIn lines (now words)) (now buffer) ⌝ }
     ensures { λ r. ⌜ ((x : BeforeFlush grid waiting (memoIn lines (now (words .entry))) (now (buffer .entry)))
-        → AfterDueFlush (x .store) (record { east = east; north = north }) (r .grid) (r .waiting) (memoIn (r .lines) (now (words .exit)))
+        → LaidWaiting (afterReport (record { east = east; north = north }) (x .store)) (r .grid) (r .waiting) (memoIn (r .lines) (now (words .exit)))
         (now (buffer .exit))) ⌝ }
 {
     let easts = grid.easts;

@@ -5,7 +5,7 @@ use mathlib.Core.List.{List, [], _∷_}
 use mathlib.Core.Option.{Option, none, some}
 use Prim.Native.Nat.{ℕ}
 use native.Mathlib.Omega.{arith}
-use Rattle.lists.specs.Tests.{isSome, orElse}
+use Rattle.lists.specs.Tests.{isSome, orElse, firstSome}
 
 pub by-cases {ℓ} : {P : Type ℓ} (b : Bool) → (b ≡ true → P) → (b ≡ false → P) → P
 by-cases true f g = f refl
@@ -43,3 +43,8 @@ isSome-false (some a) e = false-true (sym e)
 pub orElse-cases {ℓ} : {A : Type 0} {P : Type ℓ} (o q : Option A) (a : A) → orElse o q ≡ some a → (o ≡ some a → P) → (q ≡ some a → P) → P
 orElse-cases none q a e f g = g e
 orElse-cases (some b) q a e f g = f e
+
+pub firstSome-cases {ℓ} : {A B : Type 0} {P : Type ℓ} (f : A → Option B) (l : List A) (b : B) → firstSome f l ≡ some b → ((x : A) → f x ≡ some b → P) → P
+unfolding firstSome
+firstSome-cases f [] b e k = none-some e
+firstSome-cases f (x ∷ xs) b e k = orElse-cases (f x) (firstSome f xs) b e (k x) (λ e. firstSome-cases f xs b e k)

@@ -45,7 +45,18 @@ module _ {A : Type 0} where
   firstAt p [] = none
   firstAt p (x ∷ xs) = cond (p x) (some zero) (later (firstAt p xs))
 
+  -- the first element that passes
+  unfoldable pub firstThat : (A → Bool) → List A → Option A
+  firstThat p [] = none
+  firstThat p (x ∷ xs) = cond (p x) (some x) (firstThat p xs)
+
   -- the best of x and what follows it; of equally good ones the first
   unfoldable pub best : (A → A → Bool) → A → List A → A
   best better x [] = x
   best better x (y ∷ ys) = best better (cond (better y x) y x) ys
+
+module _ {A B : Type 0} where
+  -- the first answer that there is
+  unfoldable pub firstSome : (A → Option B) → List A → Option B
+  firstSome f [] = none
+  firstSome f (x ∷ xs) = orElse (f x) (firstSome f xs)

@@ -1,8 +1,8 @@
 -- What the answer of `asked_by` says of the store whose radios on the desk holds: the outcome of the rules, and what the checks showed of an accepted request.
-use mathlib.Core.Bool.{true, false}
+use mathlib.Core.Bool.{false}
 use mathlib.Core.List.{List}
 use mathlib.Core.Path.{_≡_, sym, ap, _∙_, subst}
-use Prim.Native.Nat.{ℕ, _≤_, _<_}
+use Prim.Native.Nat.{ℕ, _≤_}
 use native.Mathlib.Omega.{arith}
 use lib.Dec.{eqb}
 use lib.ListN.{length}
@@ -14,7 +14,7 @@ use Rattle.lists.specs.Words.{Bytes}
 use Rattle.lists.proofs.Cases.{by-cases, none-some, some-injective}
 use Rattle.rules.specs.Records.{Request, signOn, report, signOff, range, requestOf, refusal}
 use Rattle.rules.specs.Store.{Store}
-use Rattle.rules.specs.Carry.{isOn, onCount, carriedOut, carry, allowedIn, allowed}
+use Rattle.rules.specs.Carry.{isOn, onCount, carriedOut, carry}
 use Rattle.rules.specs.WellFormed.{WellFormed}
 use Rattle.rules.proofs.RecordLaws.{Accepted, on-passed, report-passed, off-passed, range-passed, accepted}
 use Rattle.desk.specs.declared.On.{On}
@@ -74,30 +74,22 @@ showed s q (range-passed rect) o = o
 
 module _ (s : Store) (on : On) (b : List ℕ) {c : Checked} (laid : on ≡ onOf (s .on)) (told : c ≡ checked (refusal (onIn on) (length (radiosOf on)) b) (requestOf b)) where
   -- turned down
-  module _ {n : ℕ} (is : c ≡ fails n) (pick : ℕ) where
+  module _ {n : ℕ} (is : c ≡ fails n) where
     refused-number : (refusal (isOn s) (onCount s) b ≡ n) × (eqb (refusal (isOn s) (onCount s) b) 0 ≡ false)
     refused-number = rw (refusal-laid s on laid b) at (means-fails _ (requestOf b) told is)
 
-    pub refused-carry : (buffer : List ℕ) → carry pick s b buffer ≡ record { number = n; count = 0; buffer = buffer; store = s }
+    pub refused-carry : (buffer : List ℕ) → carry s b buffer ≡ record { number = n; count = 0; buffer = buffer; store = s }
     unfolding carry
     refused-carry buffer = let e = refused-number in rw (e .1, e .0)
-
-    pub refused-allowed : allowed pick s b ≡ true
-    unfolding allowed
-    refused-allowed = rw (refused-number .1)
 
   -- carried out
   module _ (q : Request) (is : c ≡ asks q) where
     taken : (refusal (isOn s) (onCount s) b ≡ 0) × (requestOf b ≡ q)
     taken = rw (refusal-laid s on laid b) at (means-asks _ (requestOf b) told q is)
 
-    pub taken-carry : (pick : ℕ) (buffer : List ℕ) → carry pick s b buffer ≡ carriedOut pick q s buffer
+    pub taken-carry : (buffer : List ℕ) → carry s b buffer ≡ carriedOut q s buffer
     unfolding carry
-    taken-carry pick buffer = let e = taken in rw (eq-eqb (refusal (isOn s) (onCount s) b) 0 (e .0), e .1)
-
-    pub taken-allowed : (pick : ℕ) → allowed pick s b ≡ allowedIn pick q s
-    unfolding allowed
-    taken-allowed pick = let e = taken in rw (eq-eqb (refusal (isOn s) (onCount s) b) 0 (e .0), e .1)
+    taken-carry buffer = let e = taken in rw (eq-eqb (refusal (isOn s) (onCount s) b) 0 (e .0), e .1)
 
     taken-showed : Bytes b → Showed s q
     taken-showed small =

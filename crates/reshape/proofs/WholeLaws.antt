@@ -1,6 +1,7 @@
 -- Which way d goes, in the words of the calls.
 use mathlib.Core.Bool.{true, false}
 use mathlib.Core.List.{List, _∷_, _++_, map}
+use mathlib.Core.Option.{some}
 use mathlib.Core.Path.{_≡_, sym, ap, ap₂, subst, _∙_}
 use Prim.Native.Nat.{ℕ, suc, _≤_, _<_}
 use native.Mathlib.Omega.{arith}
@@ -9,7 +10,6 @@ use lib.ListN.{length, take, drop, getD, length-take}
 use borrow.Author.Tests.{lt-ltb, le-ltb}
 use Rattle.terms.specs.Terms.{Fix, maxOn, pages, pageEntries}
 use Rattle.lists.specs.Rows.{Rows}
-use Rattle.lists.specs.Sums.{count, filter}
 use Rattle.lists.specs.Tests.{Each}
 use Rattle.lists.specs.Parts.{removeAt}
 use Rattle.lists.proofs.SumsLaws.{counted-below, length-middle}
@@ -19,15 +19,15 @@ use Rattle.rules.specs.Limits.{maxCells, maxCuts}
 use Rattle.rules.specs.Grid.{Rect, Cuts, eastward, northward}
 use Rattle.rules.specs.Store.{Cell, pagesFor}
 use Rattle.rules.specs.Cut.{chosenCut}
-use Rattle.rules.specs.Flush.{Flushed, grown, splitAt, joinable, neighbours, named, joinedWith}
-use Rattle.rules.proofs.TilingLaws.{round-others}
+use Rattle.rules.specs.Flush.{Flushed, grown, splitAt, neighbour, joinedWith, reshaped}
+use Rattle.rules.proofs.NeighbourLaws.{neighbour-near}
 use Rattle.desk.specs.declared.Directory.{Directory}
 use Rattle.desk.specs.declared.Grid.{Grid}
 use Rattle.desk.specs.declared.Memo.{Memo}
 use Rattle.desk.specs.Layout.{noSlot, cutListOf, slotOf, directoryOf, gridOf}
 use Rattle.desk.specs.Views.{cutsBy, slotsIn, directoryWith, edgesOf}
 use Rattle.desk.proofs.UniqueLaws.{cuts-laid}
-use Rattle.desk.specs.Laid.{LaidGrid}
+use Rattle.desk.specs.Laid.{LaidGrid, LaidMemo}
 use Rattle.cut.specs.Choice.{cutAt, choiceOf}
 use Rattle.cut.specs.declared.CutChoice.{CutChoice}
 use Rattle.cut.specs.declared.CutChoice.the-variants.{At, NoCut}
@@ -38,11 +38,10 @@ use Rattle.settle.proofs.SettleLaws.{CellAt, chainsOf}
 use Rattle.join.specs.declared.Neighbour.{Neighbour}
 use Rattle.join.specs.declared.Neighbour.the-variants.{At as Beside, Nobody}
 use Rattle.join.specs.Join.{neighbourOf, nearest}
-use Rattle.join.proofs.NeighbourLaws.{first-pages, neighbour-at, neighbour-named, neighbour-none}
+use Rattle.join.proofs.NeighbourLaws.{first-pages, neighbour-at, neighbour-none}
 use Rattle.cell_last.specs.Settling.{BeforeReshape, BeforeSettle, movedLast}
 use Rattle.cell_split.specs.Splitting.{BeforeSplit}
-use Rattle.cell_join.specs.Joining.{BeforeJoin, AfterJoin}
-use Rattle.reshape.specs.Reshape.{AfterReshape}
+use Rattle.cell_join.specs.Joining.{BeforeJoin}
 use Rattle.cell_last.proofs.MidwayLaws.{d-apart, midway-loose, midway-slot, grown-laid}
 use Rattle.cell_last.proofs.MovedLaws.{getD-middle, loose-in, loose-in-slots, loose-rest}
 use Rattle.reshape.proofs.ReshapeLaws.{full-grown, uncut-grown, cut-split, lone-grown, near-joined}
@@ -65,8 +64,9 @@ module _ {grid : Grid} {at : ℕ} {chain : List ℕ} {rows : Rows Fix} {memo : M
   unfolding gridOf
   count-cells = directory-count (f .store .cells) (ap (λ (g : Grid). g .cells) (x .laid .in-grid .grid-is))
 
-  grew : {g : Grid} {b′ : List ℕ} → ((y : BeforeSettle grid at chain rows b) → LaidGrid (movedLast (y .store) (y .before ++ y .after) (y .cell)) g b′) → LaidGrid (grown f) g b′
-  grew l = grown-laid x (l (midway-loose x))
+  grew : {g : Grid} {b′ : List ℕ} → reshaped f ≡ grown f → ((y : BeforeSettle grid at chain rows b) → LaidGrid (movedLast (y .store) (y .before ++ y .after) (y .cell)) g b′) → LaidMemo (reshaped f) g memo b′
+  unfolding grown
+  grew e l = rw e (record { in-grid = grown-laid x (l (midway-loose x)); memo-is = x .laid .memo-is })
 
   -- ---- more than a page of entries
 
@@ -94,24 +94,25 @@ module _ {grid : Grid} {at : ℕ} {chain : List ℕ} {rows : Rows Fix} {memo : M
     many : ltb pageEntries (length (f .cell .entries)) ≡ true
     many = lt-ltb pageEntries (length (f .cell .entries)) (omega (arith, more, ap length (x .entered)))
 
-    pub full-returns : {g : Grid} {b′ : List ℕ} → maxCells ≤ grid .cells .n → ((y : BeforeSettle grid at chain rows b) → LaidGrid (movedLast (y .store) (y .before ++ y .after) (y .cell)) g b′) → AfterReshape f g memo b′
-    full-returns h l = full-grown f many (le-ltb (length (f .store .cells)) maxCells (omega (arith, h, count-cells))) (grew l) (x .laid .memo-is)
+    pub full-returns : {g : Grid} {b′ : List ℕ} → maxCells ≤ grid .cells .n → ((y : BeforeSettle grid at chain rows b) → LaidGrid (movedLast (y .store) (y .before ++ y .after) (y .cell)) g b′) → LaidMemo (reshaped f) g memo b′
+    full-returns h = grew (full-grown f many (le-ltb (length (f .store .cells)) maxCells (omega (arith, h, count-cells))))
 
     module _ (few : grid .cells .n < maxCells) where
       less : ltb (length (f .store .cells)) maxCells ≡ true
       less = lt-ltb (length (f .store .cells)) maxCells (omega (arith, few, count-cells))
 
       pub uncut-returns : {g : Grid} {b′ : List ℕ} {o : CutChoice} → choiceOf o ≡ chosenCut (cutsBy (grid .easts) (grid .norths)) (edgesOf (getD (grid .cells .slots) at noSlot)) rows → o ≡ NoCut
-          → ((y : BeforeSettle grid at chain rows b) → LaidGrid (movedLast (y .store) (y .before ++ y .after) (y .cell)) g b′) → AfterReshape f g memo b′
-      uncut-returns {o = o} e n l = uncut-grown f many less (chosen o e ∙ ap choiceOf n) (grew l) (x .laid .memo-is)
+          → ((y : BeforeSettle grid at chain rows b) → LaidGrid (movedLast (y .store) (y .before ++ y .after) (y .cell)) g b′) → LaidMemo (reshaped f) g memo b′
+      uncut-returns {o = o} e n = grew (uncut-grown f many less (chosen o e ∙ ap choiceOf n))
 
       abbrev pub splits : (axis cut : ℕ) {o : CutChoice} → choiceOf o ≡ chosenCut (cutsBy (grid .easts) (grid .norths)) (edgesOf (getD (grid .cells .slots) at noSlot)) rows → o ≡ At axis cut
           → BeforeSplit grid at chain rows axis cut b
       splits axis cut {o = o} e n = record { memo = memo; midway = x; few = omega (arith, few, count-cells); chosen = chosen o e ∙ ap choiceOf n }
 
       pub split-returns : (axis cut : ℕ) {g : Grid} {b′ : List ℕ} {o : CutChoice} → choiceOf o ≡ chosenCut (cutsBy (grid .easts) (grid .norths)) (edgesOf (getD (grid .cells .slots) at noSlot)) rows → o ≡ At axis cut
-          → ((y : BeforeSplit grid at chain rows axis cut b) → LaidGrid (splitAt (cutAt axis cut) (y .midway .flushed)) g b′) → AfterReshape f g memo b′
-      split-returns axis cut {o = o} e n l = cut-split f many less (cutAt axis cut) (chosen o e ∙ ap choiceOf n) (l (splits axis cut e n)) (x .laid .memo-is)
+          → ((y : BeforeSplit grid at chain rows axis cut b) → LaidGrid (splitAt (cutAt axis cut) (y .midway .flushed)) g b′) → LaidMemo (reshaped f) g memo b′
+      unfolding splitAt
+      split-returns axis cut {o = o} e n l = rw (cut-split f many less (cutAt axis cut) (chosen o e ∙ ap choiceOf n)) (record { in-grid = l (splits axis cut e n); memo-is = x .laid .memo-is })
 
   -- ---- at most a page of entries
 
@@ -145,9 +146,6 @@ module _ {grid : Grid} {at : ℕ} {chain : List ℕ} {rows : Rows Fix} {memo : M
       first-pages (slotsIn rest) cells rest-slots cells-below cells-paged,
     )
 
-    numbers-once : (q : ℕ) → count q (map (λ c. c .number) cells) ≤ 1
-    numbers-once = round-others (x .before) (x .d) (x .after) (x .mid .tiled .round)
-
     module _ {n : ℕ} (is-n : n ≡ length rows) (few : length rows ≤ pageEntries) where
       small : ltb pageEntries (length (f .cell .entries)) ≡ false
       small = le-ltb pageEntries (length (f .cell .entries)) (omega (arith, few, ap length (x .entered)))
@@ -159,33 +157,23 @@ module _ {grid : Grid} {at : ℕ} {chain : List ℕ} {rows : Rows Fix} {memo : M
       count-d = is-n ∙ ap length (x .entered)
 
       pub lone-returns : {g : Grid} {b′ : List ℕ} {o : Neighbour} → neighbourOf o ≡ nearest b (slotsIn rest) (getD (grid .cells .slots) at noSlot) n → o ≡ Nobody
-          → ((y : BeforeSettle grid at chain rows b) → LaidGrid (movedLast (y .store) (y .before ++ y .after) (y .cell)) g b′) → AfterReshape f g memo b′
-      unfolding neighbours
-      lone-returns found e l =
-          lone-grown f small
-          (ap (filter (joinable (f .cell))) (x .mid .rest) ∙ neighbour-none b _ n (f .cell) edges count-d (slotsIn rest) cells rest-slots cells-laid cells-paged found e)
-          (grew l) (x .laid .memo-is)
+          → ((y : BeforeSettle grid at chain rows b) → LaidGrid (movedLast (y .store) (y .before ++ y .after) (y .cell)) g b′) → LaidMemo (reshaped f) g memo b′
+      lone-returns found e = grew (lone-grown f small (neighbour-none b _ n f edges count-d (slotsIn rest) cells (x .mid .rest) rest-slots cells-laid cells-paged found e))
 
       module _ {o : Neighbour} (found : neighbourOf o ≡ nearest b (slotsIn rest) (getD (grid .cells .slots) at noSlot) n) (k : ℕ) (at-k : o ≡ Beside k) where
-        pub near-at : (k < length cells) × (joinable (f .cell) (getD cells k (x .d)) ≡ true)
-        near-at = neighbour-at b _ n (f .cell) edges count-d (slotsIn rest) cells rest-slots cells-laid cells-paged found k (x .d) at-k
+        abbrev pub near : Cell
+        near = getD cells k (x .d)
 
-        abbrev pub neighbour : Cell
-        neighbour = getD cells k (x .d)
+        pub near-at : (k < length cells) × (neighbour f ≡ some near)
+        near-at = neighbour-at b _ n f edges count-d (slotsIn rest) cells (x .mid .rest) rest-slots cells-laid cells-paged found k (x .d) at-k
 
-        pub standing : Stands rest cells neighbour k
+        pub standing : Stands rest cells near k
         standing =
             let s = stands-index cells rest-held k (near-at .0) in
             subst (λ (c : Cell). Stands rest cells c k) (sym (stands-getD cells (s .0) (x .d) k (s .1 .inside) (s .1 .split))) (s .1)
 
         abbrev pub nears : BeforeJoin grid at rest k chain rows memo b
-        nears = record { midway = x; neighbour = neighbour; rest-is = rest-held; stands = standing; near = near-at .1 }
+        nears = record { midway = x; neighbour = near; rest-is = rest-held; stands = standing; small = neighbour-near f near (near-at .1) .small }
 
-        pub near-returns : {g : Grid} {lines : Memo} {b′ : List ℕ} → ((y : BeforeJoin grid at rest k chain rows memo b) → AfterJoin (y .midway .flushed) (y .neighbour) g lines b′) → AfterReshape f g lines b′
-        unfolding neighbours joinedWith
-        near-returns l =
-            let j = l nears in
-            near-joined f small neighbour
-            (ap (λ (c : List Cell). named (neighbour .number) (filter (joinable (f .cell)) c)) (x .mid .rest)
-            ∙ neighbour-named b _ n (f .cell) edges count-d (slotsIn rest) cells rest-slots cells-laid cells-paged found k (x .d) at-k numbers-once)
-            (j .laid .in-grid) (j .laid .memo-is)
+        pub near-returns : {g : Grid} {lines : Memo} {b′ : List ℕ} → ((y : BeforeJoin grid at rest k chain rows memo b) → LaidMemo (joinedWith (y .midway .flushed) (y .neighbour)) g lines b′) → LaidMemo (reshaped f) g lines b′
+        near-returns l = rw (near-joined f small near (near-at .1)) (l nears)

@@ -11,9 +11,11 @@ ghost use Rattle.desk.specs.Views.{axisOf, cutsBy, edgesOf};
 ghost use Rattle.cut.specs.Choice.{choiceOf, coordinates};
 ghost use Rattle.page.specs.Buffer.{pagesOf};
 ghost use lib.ListN.{length, take};
+ghost use Rattle.rules.specs.Flush.{reshaped};
+ghost use Rattle.desk.specs.Laid.{LaidMemo};
 ghost use Rattle.memo.specs.Memo.{memoIn};
 ghost use Rattle.cell_last.specs.Settling.{HandFits, BeforeReshape};
-ghost use Rattle.reshape.specs.Reshape.{BeforeSplitOrGrow, AfterReshape};
+ghost use Rattle.reshape.specs.Reshape.{BeforeSplitOrGrow};
 use cell_last::Reshaped;
 use cut::CutChoice;
 use desk::CutList;
@@ -68,7 +70,7 @@ fn split_or_grown(buffer: &mut [u8], grid: Grid, at: usize, chain: Chain, table:
     requires { ⌜ HandFits chain table × (pageEntries < length (rowsOf table))
         × BeforeSplitOrGrow grid at (pagesOf chain) (rowsOf table) (now buffer) ⌝ }
     ensures { λ r. ⌜ ((x : BeforeSplitOrGrow grid at (pagesOf chain) (rowsOf table) (now (buffer .entry)))
-        → AfterReshape (x .midway .flushed) r (x .memo) (now (buffer .exit))) ⌝ }
+        → LaidMemo (reshaped (x .midway .flushed)) r (x .memo) (now (buffer .exit))) ⌝ }
 {
     let cells = grid.cells;
     if Desk::MAX_CELLS <= cells.n as usize {
@@ -96,7 +98,7 @@ fn joined_or_grown(
     requires { ⌜ (chain .n ≤ pages) × (table .n ≡ length (rowsOf table)) × (length (rowsOf table) ≤ pageEntries)
         × BeforeReshape grid at (pagesOf chain) (rowsOf table) (memoIn lines (now words)) (now buffer) ⌝ }
     ensures { λ r. ⌜ ((x : BeforeReshape grid at (pagesOf chain) (rowsOf table) (memoIn lines (now (words .entry))) (now (buffer .entry)))
-        → AfterReshape (x .flushed) (r .grid) (memoIn (r .lines) (now (words .exit))) (now (buffer .exit))) ⌝ }
+        → LaidMemo (reshaped (x .flushed)) (r .grid) (memoIn (r .lines) (now (words .exit))) (now (buffer .exit))) ⌝ }
 {
     let cells = grid.cells;
     let d = cells.slots[at];
@@ -121,7 +123,7 @@ pub fn reshape(
     requires { ⌜ HandFits chain table × (table .n ≡ length (rowsOf table))
         × BeforeReshape grid at (pagesOf chain) (rowsOf table) (memoIn lines (now words)) (now buffer) ⌝ }
     ensures { λ r. ⌜ ((x : BeforeReshape grid at (pagesOf chain) (rowsOf table) (memoIn lines (now (words .entry))) (now (buffer .entry)))
-        → AfterReshape (x .flushed) (r .grid) (memoIn (r .lines) (now (words .exit))) (now (buffer .exit))) ⌝ }
+        → LaidMemo (reshaped (x .flushed)) (r .grid) (memoIn (r .lines) (now (words .exit))) (now (buffer .exit))) ⌝ }
 {
     if PAGE_ENTRIES < table.n {
         let shape = split_or_grown(buffer, grid, at, chain, table);

@@ -21,7 +21,7 @@ use Rattle.rules.specs.Grid.{samePlace, Rect, spanOf, inside}
 use Rattle.rules.specs.Store.{Report, Line, Cell, missedOf, withEntries}
 use Rattle.rules.specs.Sweep.{isAt, staleBy, stale, lowered, lowerEach, sweptEntries, sweptMemo, swept}
 use Rattle.rules.specs.Cut.{Cut, lowSide, through}
-use Rattle.rules.specs.Flush.{placed, raised, entered, Work, enter, enterEach, lowCell, highCell, beside, joinedEdges}
+use Rattle.rules.specs.Flush.{placed, raised, entered, Work, enter, enterEach, lowCell, highCell, Side, beside, joinedEdges}
 use Rattle.rules.specs.Carry.{wasNew}
 use Rattle.rules.specs.Plain.{putAt}
 use Rattle.rules.specs.WellFormed.{countIf, liveOf, staleIn, InSquare, InSquareIf}
@@ -775,7 +775,7 @@ module _ {memo : Rows Line} {new on : ℕ → Bool} (d n : Cell) (rest : List Ce
   pub count-joined : (t : Place → Bool) (r : ℕ) → countIf t (find (merge (n .entries) (d .entries)) r) ≡ countIf t (find (n .entries) r) + countIf t (find (d .entries) r)
   count-joined t r = ap (countIf t) (find-joined r) ∙ count-orElse t (find (n .entries) r) (find (d .entries) r) (one-held r)
 
-  module _ (k : ℕ) (chain : List ℕ) (adjoin : beside (d .edges) (n .edges) ≡ true) where
+  module _ (k : ℕ) (chain : List ℕ) (side : Side) (adjoin : beside side (d .edges) (n .edges) ≡ true) where
     rowed-joined : Rowed (joinedCell k chain d n)
     rowed-joined =
         let x = b .cells-rowed .0 in
@@ -793,7 +793,7 @@ module _ {memo : Rows Line} {new on : ℕ → Bool} (d n : Cell) (rest : List Ce
     pub books-join : Books (joinedCell k chain d n ∷ rest) memo new on
     unfolding sumBy
     books-join =
-        books-from (rowed-joined, b .cells-rowed .1 .1) (λ p. omega (arith, b .apart p, inside-joined-le (d .edges) (n .edges) p adjoin)) (b .memo-rises) (b .memo-radios) (b .lines)
+        books-from (rowed-joined, b .cells-rowed .1 .1) (λ p. omega (arith, b .apart p, inside-joined-le side (d .edges) (n .edges) p adjoin)) (b .memo-rises) (b .memo-radios) (b .lines)
         (λ r. record {
           counted = omega (arith, book-of b r .counted, count-joined (staleBy (find memo r)) r);
           present = omega (arith, book-of b r .present, count-joined (λ p. not (staleBy (find memo r) p)) r);

@@ -24,7 +24,7 @@ use Rattle.rules.specs.Limits.{maxCells, maxCuts, fullBox, fullMemory}
 use Rattle.rules.specs.Grid.{Axis, eastward, northward, along, across, Span, within, Rect, spanOf, inside, Cuts, cutsOf, stripe, Box, sameBox, boxOf, boxes}
 use Rattle.rules.specs.Store.{Report, Cell, Store}
 use Rattle.rules.specs.Cut.{Cut, through, cutsThrough, fits, difference, existingCut, median, validAt, medianCut, longerSide, chosenCut}
-use Rattle.rules.specs.Flush.{inBox, Flushed, flushedInto, grown, addCut, splitAt, neighbours, named, joinedWith, reshaped, cellOfBox, flush}
+use Rattle.rules.specs.Flush.{inBox, Flushed, flushedInto, grown, addCut, splitAt, neighbour, joinedWith, reshaped, cellOfBox, flush}
 use Rattle.rules.specs.Carry.{mostOf, boxToFlush, waitingIn}
 use Rattle.rules.proofs.TilingLaws.{stripe-most, box-eq, box-along, with-cuts, GoodCut, cutsWith}
 use Rattle.rules.proofs.PlaceLaws.{within-low, within-high, inside-along}
@@ -278,12 +278,12 @@ due-some cuts howMany inAll p m =
 
 -- ---- what a flush comes to: the three ways, and no other
 
-pub reshaped-cases : (P : Store → Type 0) (pick : ℕ) (f : Flushed) → P (grown f)
+pub reshaped-cases : (P : Store → Type 0) (f : Flushed) → P (grown f)
     → ((c : Cut) → pageEntries < length (f .cell .entries) → length (f .store .cells) < maxCells → chosenCut (f .store .cuts) (f .cell .edges) (f .cell .entries) ≡ some c → P (splitAt c f))
-    → ((n : Cell) → length (f .cell .entries) ≤ pageEntries → named pick (neighbours f) ≡ some n → P (joinedWith f n))
-    → P (reshaped pick f)
+    → ((n : Cell) → length (f .cell .entries) ≤ pageEntries → neighbour f ≡ some n → P (joinedWith f n))
+    → P (reshaped f)
 unfolding reshaped
-reshaped-cases P pick f g split join =
+reshaped-cases P f g split join =
     let e = length (f .cell .entries) in
     let k = length (f .store .cells) in
     by-cases (ltb pageEntries e)
@@ -292,31 +292,31 @@ reshaped-cases P pick f g split join =
     (λ n. rw (t, u, n) g)
     (λ c n. rw (t, u, n) (split c (ltb-true pageEntries e t) (ltb-true k maxCells u) n)))
     (λ u. rw (t, u) g))
-    (λ t. option-cases (named pick (neighbours f))
+    (λ t. option-cases (neighbour f)
     (λ n. rw (t, n) g)
     (λ c n. rw (t, n) (join c (ltb-false pageEntries e t) n)))
 
-pub flush-cases : (P : Store → Type 0) (pick : ℕ) (m : Box) (s : Store) → (cellOfBox s m ≡ none → P s)
-    → ((d : Cell) → cellOfBox s m ≡ some d → P (reshaped pick (flushedInto m s d))) → P (flush pick m s)
+pub flush-cases : (P : Store → Type 0) (m : Box) (s : Store) → (cellOfBox s m ≡ none → P s)
+    → ((d : Cell) → cellOfBox s m ≡ some d → P (reshaped (flushedInto m s d))) → P (flush m s)
 unfolding flush
-flush-cases P pick m s f g = option-cases (cellOfBox s m) (λ n. rw n (f n)) (λ d n. rw n (g d n))
+flush-cases P m s f g = option-cases (cellOfBox s m) (λ n. rw n (f n)) (λ d n. rw n (g d n))
 
 -- ---- what waits after a flush
 
-pub reshaped-waiting : (pick : ℕ) (f : Flushed) → reshaped pick f .waiting ≡ f .store .waiting
+pub reshaped-waiting : (f : Flushed) → reshaped f .waiting ≡ f .store .waiting
 unfolding grown splitAt joinedWith
-reshaped-waiting pick f = reshaped-cases (λ x. x .waiting ≡ f .store .waiting) pick f refl (λ c _ _ _. refl) (λ n _ _. refl)
+reshaped-waiting f = reshaped-cases (λ x. x .waiting ≡ f .store .waiting) f refl (λ c _ _ _. refl) (λ n _ _. refl)
 
-pub reshaped-tally : (pick : ℕ) (f : Flushed) → reshaped pick f .tally ≡ f .store .tally
+pub reshaped-tally : (f : Flushed) → reshaped f .tally ≡ f .store .tally
 unfolding grown splitAt joinedWith
-reshaped-tally pick f = reshaped-cases (λ x. x .tally ≡ f .store .tally) pick f refl (λ c _ _ _. refl) (λ n _ _. refl)
+reshaped-tally f = reshaped-cases (λ x. x .tally ≡ f .store .tally) f refl (λ c _ _ _. refl) (λ n _ _. refl)
 
 -- a bound on every memory cell holds after the flush too, if it held of what stays
-pub waiting-reshaped : (pick k : ℕ) (f : Flushed) → ((n : Box) → waitingIn (f .store .cuts) (f .store .waiting) n < k)
-    → (n : Box) → waitingIn (reshaped pick f .cuts) (reshaped pick f .waiting) n < k
+pub waiting-reshaped : (k : ℕ) (f : Flushed) → ((n : Box) → waitingIn (f .store .cuts) (f .store .waiting) n < k)
+    → (n : Box) → waitingIn (reshaped f .cuts) (reshaped f .waiting) n < k
 unfolding grown splitAt joinedWith
-waiting-reshaped pick k f h =
-    reshaped-cases (λ x. (n : Box) → waitingIn (x .cuts) (x .waiting) n < k) pick f h (λ c _ _ _. waiting-finer c (f .store .cuts) (f .store .waiting) k h) (λ n _ _. h)
+waiting-reshaped k f h =
+    reshaped-cases (λ x. (n : Box) → waitingIn (x .cuts) (x .waiting) n < k) f h (λ c _ _ _. waiting-finer c (f .store .cuts) (f .store .waiting) k h) (λ n _ _. h)
 
 -- of m's reports none stays, so m itself may be full before
 pub waiting-cleared : (cuts : Cuts) (ws : Rows Report) (m : Box) (k : ℕ) → 0 < k → ((n : Box) → sameBox n m ≡ false → waitingIn cuts ws n < k)

@@ -18,19 +18,20 @@ use Rattle.lists.proofs.AmongLaws.{each-among, among-tail}
 use Rattle.lists.proofs.RowsLaws.{find-filter, rising-filter, find-each, each-find, length-merge-le, find-filter-some}
 use Rattle.lists.proofs.SumsLaws.{sum-cons, length-filter-not, sum-middle, length-middle}
 use Rattle.lists.proofs.TestsLaws.{each-filter}
-use Rattle.rules.specs.Limits.{maxCells, fullMemory, sweepEvery, joinEntries}
+use Rattle.rules.specs.Limits.{maxCells, fullMemory, sweepEvery}
 use Rattle.rules.specs.Grid.{Rect, inside, Cuts, Box, cornerOf}
 use Rattle.rules.specs.Store.{Report, Line, Cell, Store, others, settled, freeAfter}
 use Rattle.rules.specs.Sweep.{stale, sweptEntries, sweptMemo, swept}
 use Rattle.rules.specs.Cut.{Cut, chosenCut}
-use Rattle.rules.specs.Flush.{joined, inBox, Flushed, flushedInto, grown, lowCell, highCell, unusedNumber, splitAt, splitOr, beside, neighbours, named, joinedEdges, joinedWith, joinOr, reshaped, lowEdges, highEdges}
+use Rattle.rules.specs.Flush.{joined, inBox, Flushed, flushedInto, grown, lowCell, highCell, unusedNumber, splitAt, splitOr, beside, neighbour, joinedEdges, joinedWith, joinOr, reshaped, lowEdges, highEdges}
 use Rattle.rules.specs.Carry.{wasNew}
 use Rattle.rules.specs.WellFormed.{staleIn}
 use Rattle.rules.specs.Parts.{Edged, Tiling, Rowed, Books, Clean, Paged, Bounded, Waits, Core, marks, onSet}
 use Rattle.rules.specs.Midway.{MidCall, size, mostEntries, MidFlush}
 use Rattle.rules.proofs.BooksLaws.{books-back, books-back2, books-same, books-swap, books-ext, books-sweep, clean-swept, stale-sweep, stale-sweep-sum, Enters, marksWithout, books-enterEach, clean-enterEach, stale-enterEach, books-split, books-join, clean-join, entries-total, books-among}
-use Rattle.rules.proofs.TilingLaws.{inside-home, tiling-among, others-among, others-split, tiling-move, GoodCut, cutsWith, tiling-split, tiling-join, named-neighbour, smaller-number, round-others}
+use Rattle.rules.proofs.TilingLaws.{inside-home, tiling-among, others-among, others-split, tiling-move, GoodCut, cutsWith, tiling-split, tiling-join, smaller-number, round-others}
 use Rattle.rules.proofs.CutLaws.{inBox-box, chosen-good, waiting-length, length-cleared}
+use Rattle.rules.proofs.NeighbourLaws.{Near, neighbour-near}
 use Rattle.rules.proofs.PagedLaws.{grown-paged, splitAt-paged, joinedWith-paged}
 use Rattle.rules.proofs.RoundLaws.{bounded-total, grown-bounded, splitAt-bounded, joinedWith-bounded}
 
@@ -258,7 +259,7 @@ module _ (f : Flushed) (d₀ : Cell) (before after : List Cell) (memo : Rows Lin
 
   -- ---- join
 
-  module _ (m : Cell) (a : Among (before ++ after) m) (adjoin : beside (f .cell .edges) (m .edges) ≡ true) (small : length (f .cell .entries) + length (m .entries) ≤ joinEntries) where
+  module _ (m : Cell) (a : Among (before ++ after) m) (near : Near f m) where
     abbrev left : List Cell
     left = a .before ++ a .after
 
@@ -284,9 +285,9 @@ module _ (f : Flushed) (d₀ : Cell) (before after : List Cell) (memo : Rows Lin
     clean-m : Clean memoThen sweptCell
     clean-m = clean-swept m (f .cell ∷ left) books-apart
 
-    beside-swept : beside (f .cell .edges) (sweptCell .edges) ≡ true
+    beside-swept : beside (near .side) (f .cell .edges) (sweptCell .edges) ≡ true
     unfolding swept
-    beside-swept = adjoin
+    beside-swept = near .adjoins
 
     -- the very cell that the join puts last
     abbrev whole : Cell
@@ -294,16 +295,16 @@ module _ (f : Flushed) (d₀ : Cell) (before after : List Cell) (memo : Rows Lin
 
     books-whole : Books (whole ∷ left) memoThen (marks (f .store .waiting)) (onSet (f .store .on))
     unfolding settled swept
-    books-whole = books-join (f .cell) sweptCell left books-swept-apart clean-d clean-m (whole .number) (whole .chain) beside-swept
+    books-whole = books-join (f .cell) sweptCell left books-swept-apart clean-d clean-m (whole .number) (whole .chain) (near .side) beside-swept
 
     clean-whole : Clean memoThen whole
     unfolding settled swept
-    clean-whole = clean-join (f .cell) sweptCell left books-swept-apart clean-d clean-m (whole .number) (whole .chain) beside-swept
+    clean-whole = clean-join (f .cell) sweptCell left books-swept-apart clean-d clean-m (whole .number) (whole .chain) (near .side) beside-swept
 
     tiling-whole : Tiling (f .store .cuts) (left ++ (whole ∷ []))
     unfolding settled
     tiling-whole =
-        tiling-join (f .store .cuts) before d₀ after m whole a (r .tiled) (subst (λ (e : Rect). beside e (m .edges) ≡ true) (r .edges) adjoin)
+        tiling-join (f .store .cuts) before d₀ after m whole a (near .side) (r .tiled) (subst (λ (e : Rect). beside (near .side) e (m .edges) ≡ true) (r .edges) (near .adjoins))
         (smaller-number (settled (f .store .free) (f .cell)) m ∙ ap (λ (k : ℕ). min k (m .number)) (r .number))
         (ap (λ (e : Rect). joinedEdges e (m .edges)) (r .edges))
 
@@ -330,7 +331,7 @@ module _ (f : Flushed) (d₀ : Cell) (before after : List Cell) (memo : Rows Lin
         tiling = subst (λ (l : List Cell). Tiling (f .store .cuts) (l ++ (whole ∷ []))) (sym others-left) tiling-whole;
         books =
             subst (λ (l : List Cell). Books (l ++ (whole ∷ [])) memoThen (marks (f .store .waiting)) (onSet (f .store .on))) (sym others-left) (books-back whole left books-whole);
-        paged = joinedWith-paged f before after d₀ (r .paged) (r .chain) m (a .before) (a .after) (a .split) others-left small few-whole;
+        paged = joinedWith-paged f before after d₀ (r .paged) (r .chain) m (a .before) (a .after) (a .split) others-left (near .small) few-whole;
         signed = r .signed;
         waits = r .waits;
       };
@@ -348,17 +349,15 @@ module _ (f : Flushed) (d₀ : Cell) (before after : List Cell) (memo : Rows Lin
   split-or none e few = grown-mid
   split-or (some cut) e few = split-mid cut (chosen-good (f .store .cuts) (f .cell .edges) (f .cell .entries) cut placed-flushed e) few
 
-  pub join-or : (pick : ℕ) (o : Option Cell) → named pick (neighbours f) ≡ o → MidCall (joinOr o f) c
-  join-or pick none e = grown-mid
-  join-or pick (some m) e =
-      let q = named-neighbour pick f m e in
-      join-mid m (subst (λ (l : List Cell). Among l m) (r .rest) (q .3)) (q .1) (q .2)
+  pub join-or : (o : Option Cell) → neighbour f ≡ o → MidCall (joinOr o f) c
+  join-or none e = grown-mid
+  join-or (some m) e = let q = neighbour-near f m e in join-mid m (subst (λ (l : List Cell). Among l m) (r .rest) (q .among)) q
 
-  pub reshaped-mid : (pick : ℕ) → MidCall (reshaped pick f) c
+  pub reshaped-mid : MidCall (reshaped f) c
   unfolding reshaped
-  reshaped-mid pick =
+  reshaped-mid =
       by-cases (ltb pageEntries (length (f .cell .entries)))
       (λ t. rw t (by-cases (ltb (length (f .store .cells)) maxCells)
       (λ u. rw u (split-or _ refl (ltb-true (length (f .store .cells)) maxCells u)))
       (λ u. rw u grown-mid)))
-      (λ t. rw t (join-or pick _ refl))
+      (λ t. rw t (join-or _ refl))

@@ -22,7 +22,7 @@ use Rattle.rules.specs.Grid.{Box, cornerOf, inside, sameBox, boxOf}
 use Rattle.rules.specs.Store.{Report, Line, Cell, Store, others, settled, freeAfter}
 use Rattle.rules.specs.Sweep.{swept, sweptMemo, sweepFront, tick}
 use Rattle.rules.specs.Cut.{Cut}
-use Rattle.rules.specs.Flush.{joined, raised, inBox, Flushed, flushedInto, grown, lowCell, highCell, unusedNumber, splitAt, beside, joinedWith, reshaped, cellOfBox, flush}
+use Rattle.rules.specs.Flush.{joined, raised, inBox, Flushed, flushedInto, grown, lowCell, highCell, unusedNumber, splitAt, joinedWith, reshaped, cellOfBox, flush}
 use Rattle.rules.specs.Carry.{isOn, wasNew, placeOf, storedIn, signedOff, flushDue, afterReport, onCount, waitingIn, signedOn, reported, found, carriedOut, carry, latest}
 use Rattle.rules.specs.WellFormed.{WellFormed}
 use Rattle.rules.specs.Records.{Request, signOn, report, signOff, range, requestOf, refusal}
@@ -32,7 +32,8 @@ use Rattle.lists.specs.Among.{Among}
 use Rattle.rules.proofs.WellLaws.{well-core}
 use Rattle.rules.proofs.LiveLaws.{liveBy, stored-none, stored-at, stored-same, live-one, live-order, live-back, live-swap, live-settled, live-sweep, live-off, live-off-other, live-split, live-join, live-flushed, live-flushed-other, sweptMemo-last}
 use Rattle.rules.proofs.BooksLaws.{books-swap, books-sweep, clean-swept, stale-sweep, books-among}
-use Rattle.rules.proofs.TilingLaws.{cellAt-split, home-some, others-among, round-others, named-neighbour}
+use Rattle.rules.proofs.NeighbourLaws.{neighbour-near}
+use Rattle.rules.proofs.TilingLaws.{cellAt-split, home-some, others-among, round-others}
 use Rattle.rules.proofs.CutLaws.{reshaped-cases}
 use Rattle.rules.proofs.FlushLaws.{rest-is, tiled, books-before, books-flushed, clean-flushed, report-found, report-enters}
 use Rattle.rules.proofs.RecordLaws.{Accepted, on-passed, report-passed, off-passed, range-passed, accepted}
@@ -77,7 +78,7 @@ module _ (f : Flushed) (b : Books (f .cell ∷ f .rest) (f .store .memo) (marks 
       }
 
   -- m stands among the others; it is swept, d being one of the others, and joined
-  module _ (m : Cell) (a : Among (f .rest) m) (adjoin : beside (f .cell .edges) (m .edges) ≡ true) (left-is : others (m .number) (f .rest) ≡ a .before ++ a .after) where
+  module _ (m : Cell) (a : Among (f .rest) m) (left-is : others (m .number) (f .rest) ≡ a .before ++ a .after) where
     abbrev left : List Cell
     left = a .before ++ a .after
 
@@ -107,10 +108,10 @@ module _ (f : Flushed) (b : Books (f .cell ∷ f .rest) (f .store .memo) (marks 
       on = refl;
     }
 
-  pub leaves-reshaped : (pick : ℕ) → ((n : ℕ) → count n (map (λ c. c .number) (f .rest)) ≤ 1) → Leaves f (reshaped pick f)
-  leaves-reshaped pick round =
-      reshaped-cases (Leaves f) pick f leaves-grown (λ c h i e. leaves-split c)
-      (λ n h e. let q = named-neighbour pick f n e in leaves-join n (q .3) (q .1) (others-among (f .rest) n (q .3) round))
+  pub leaves-reshaped : ((n : ℕ) → count n (map (λ c. c .number) (f .rest)) ≤ 1) → Leaves f (reshaped f)
+  leaves-reshaped round =
+      reshaped-cases (Leaves f) f leaves-grown (λ c h i e. leaves-split c)
+      (λ n h e. let a = neighbour-near f n e .among in leaves-join n a (others-among (f .rest) n a round))
 
 -- ---- a flush: the entries of each radio
 
@@ -152,22 +153,22 @@ books-here m s d c a home =
     (sym (rest-is m s d c a home)) (unfold flushedInto in books-flushed m s d c a home)
 
 -- a flush with the cell that it finds
-pub record Flushes (pick : ℕ) (m : Box) (s : Store) : Type 0 where
+pub record Flushes (m : Box) (s : Store) : Type 0 where
   pub cell : Cell
   pub among : Among (s .cells) cell
   pub home : inside (cell .edges) (cornerOf (s .cuts) m) ≡ true
-  pub leaves : Leaves (flushedInto m s cell) (flush pick m s)
+  pub leaves : Leaves (flushedInto m s cell) (flush m s)
 
-pub flushes : (pick : ℕ) (m : Box) (s : Store) → Core s → Flushes pick m s
+pub flushes : (m : Box) (s : Store) → Core s → Flushes m s
 unfolding flush cellOfBox
-flushes pick m s c =
+flushes m s c =
     let h = home-some (s .cuts) (s .cells) m (c .tiling) in
     let at = cellAt-split (s .cells) (cornerOf (s .cuts) m) (h .0) (h .1) in
     record {
       cell = h .0;
       among = at .0;
       home = at .1;
-      leaves = rw (h .1) (leaves-reshaped (flushedInto m s (h .0)) (books-here m s (h .0) c (at .0) (at .1)) (clean-flushed m s (h .0) c (at .0) (at .1)) pick
+      leaves = rw (h .1) (leaves-reshaped (flushedInto m s (h .0)) (books-here m s (h .0) c (at .0) (at .1)) (clean-flushed m s (h .0) c (at .0) (at .1))
           (subst (λ (l : List Cell). (n : ℕ) → count n (map (λ y. y .number) l) ≤ 1) (sym (rest-is m s (h .0) c (at .0) (at .1)))
           (round-others (at .0 .before) (h .0) (at .0 .after) (tiled m s (h .0) c (at .0) (at .1) .round))));
     }
@@ -191,19 +192,19 @@ gone-report m s a q w n =
     gone none = λ e. none-some e
     gone (some v) = by-cases (inBox (s .cuts) m (record { key = q; val = v })) (λ t. rw t (λ e. refl)) (λ t. rw t (λ e. none-some e))
 
-flushed-waiting : (pick : ℕ) (m : Box) (s : Store) → Flushes pick m s → flush pick m s .waiting ≡ filter (λ w. not (inBox (s .cuts) m w)) (s .waiting)
-flushed-waiting pick m s f = f .leaves .waiting ∙ unfold flushedInto in refl
+flushed-waiting : (m : Box) (s : Store) → Flushes m s → flush m s .waiting ≡ filter (λ w. not (inBox (s .cuts) m w)) (s .waiting)
+flushed-waiting m s f = f .leaves .waiting ∙ unfold flushedInto in refl
 
-pub latest-flush : (pick : ℕ) (m : Box) (s : Store) → Core s → (q : ℕ) → latest (flush pick m s) q ≡ latest s q
+pub latest-flush : (m : Box) (s : Store) → Core s → (q : ℕ) → latest (flush m s) q ≡ latest s q
 unfolding latest
-latest-flush pick m s c q =
-    let f = flushes pick m s c in
+latest-flush m s c q =
+    let f = flushes m s c in
     let a = c .waits .waiting-rises in
-    let w = flushed-waiting pick m s f in
+    let w = flushed-waiting m s f in
     option-cases (find (filter (inBox (s .cuts) m) (s .waiting)) q)
-    (λ n. ap₂ orElse (ap (λ (l : Rows Report). placeOf (find l q)) w ∙ ap placeOf (kept-report m s a q n)) (stored-out m s (f .cell) c (f .among) (f .home) (flush pick m s) (f .leaves) q n))
+    (λ n. ap₂ orElse (ap (λ (l : Rows Report). placeOf (find l q)) w ∙ ap placeOf (kept-report m s a q n)) (stored-out m s (f .cell) c (f .among) (f .home) (flush m s) (f .leaves) q n))
     (λ v n.
-    ap₂ orElse (ap (λ (l : Rows Report). placeOf (find l q)) w ∙ ap placeOf (gone-report m s a q v n)) (stored-in m s (f .cell) c (f .among) (f .home) (flush pick m s) (f .leaves) q v n)
+    ap₂ orElse (ap (λ (l : Rows Report). placeOf (find l q)) w ∙ ap placeOf (gone-report m s a q v n)) (stored-in m s (f .cell) c (f .among) (f .home) (flush m s) (f .leaves) q v n)
     ∙ sym (ap (λ (o : Option Report). orElse (placeOf o) (storedIn (s .memo) q (s .cells))) (report-found m s (f .cell) c (f .among) (f .home) q v n .0)))
 
 -- ---- the tally
@@ -271,9 +272,9 @@ latest-off s c r h q =
 
 -- ---- any call
 
-latest-after : (pick : ℕ) (p : Place) (s : Store) → Core s → (q : ℕ) → latest (afterReport pick p s) q ≡ latest s q
+latest-after : (p : Place) (s : Store) → Core s → (q : ℕ) → latest (afterReport p s) q ≡ latest s q
 unfolding afterReport
-latest-after pick p s c q = option-cases (flushDue s p) (λ e. rw e) (λ m e. rw e (latest-flush pick m s c q))
+latest-after p s c q = option-cases (flushDue s p) (λ e. rw e) (λ m e. rw e (latest-flush m s c q))
 
 -- what an accepted record makes of the latest places
 unfoldable pub latestBy : Request → (ℕ → Option Place) → ℕ → Option Place
@@ -282,32 +283,32 @@ latestBy (report r p) before q = cond (eqb q r) (some p) (before q)
 latestBy (signOff r) before q = cond (eqb q r) none (before q)
 latestBy (range rect) before q = before q
 
-settled-latest : (pick : ℕ) (p : Place) (s : Store) → Core s → Bounded (s .memo) (s .cells) (length (s .waiting)) (s .tally + 1) → s .tally < sweepEvery → length (s .waiting) ≤ fullMemory
-    → ((n : Box) → sameBox n (boxOf (s .cuts) p) ≡ false → waitingIn (s .cuts) (s .waiting) n < fullBox) → (q : ℕ) → latest (tick (afterReport pick p s)) q ≡ latest s q
-settled-latest pick p s c b t few boxes q =
-    latest-tick (afterReport pick p s) (report-done pick p s (s .tally + 1) c b (omega arith) few boxes .mid .core .books) q ∙ latest-after pick p s c q
+settled-latest : (p : Place) (s : Store) → Core s → Bounded (s .memo) (s .cells) (length (s .waiting)) (s .tally + 1) → s .tally < sweepEvery → length (s .waiting) ≤ fullMemory
+    → ((n : Box) → sameBox n (boxOf (s .cuts) p) ≡ false → waitingIn (s .cuts) (s .waiting) n < fullBox) → (q : ℕ) → latest (tick (afterReport p s)) q ≡ latest s q
+settled-latest p s c b t few boxes q =
+    latest-tick (afterReport p s) (report-done p s (s .tally + 1) c b (omega arith) few boxes .mid .core .books) q ∙ latest-after p s c q
 
-done-latest : (pick : ℕ) (k : Request) (s : Store) (buffer : List ℕ) → WellFormed s → Accepted (isOn s) (onCount s) k → (q : ℕ) → latest (carriedOut pick k s buffer .store) q ≡ latestBy k (latest s) q
+done-latest : (k : Request) (s : Store) (buffer : List ℕ) → WellFormed s → Accepted (isOn s) (onCount s) k → (q : ℕ) → latest (carriedOut k s buffer .store) q ≡ latestBy k (latest s) q
 unfolding carriedOut latestBy signedOn reported
-done-latest pick k s buffer w (on-passed r p h i g off room) q =
+done-latest k s buffer w (on-passed r p h i g off room) q =
     let f : Option Report → Option Report = λ _. some (record { place = p; new = true }) in
-    settled-latest pick p (signedOn r p s) (on-core s w r p h i g off room) (put-bounded s w r h f p true refl) (w .tallied) (put-few s w r h f p true refl)
+    settled-latest p (signedOn r p s) (on-core s w r p h i g off room) (put-bounded s w r h f p true refl) (w .tallied) (put-few s w r h f p true refl)
     (put-boxes s w r h f p true refl) q
     ∙ latest-on s (w .waiting-rises) r p h q
-done-latest pick k s buffer w (report-passed r p h i g on) q =
+done-latest k s buffer w (report-passed r p h i g on) q =
     let f : Option Report → Option Report = λ o. some (record { place = p; new = wasNew o }) in
     let b = wasNew (find (s .waiting) r) in
-    settled-latest pick p (reported r p s) (report-core s w r p h i g on) (put-bounded s w r h f p b refl) (w .tallied) (put-few s w r h f p b refl)
+    settled-latest p (reported r p s) (report-core s w r p h i g on) (put-bounded s w r h f p b refl) (w .tallied) (put-few s w r h f p b refl)
     (put-boxes s w r h f p b refl) q
     ∙ latest-report s (w .waiting-rises) r p h q
-done-latest pick k s buffer w (off-passed r h i on) q = latest-tick (signedOff r s) (off-core s w r h i on .books) q ∙ latest-off s (well-core s w) r h q
-done-latest pick k s buffer w (range-passed rect) q = ap (λ (t : Store). latest t q) (answered-store (found s rect) s buffer)
+done-latest k s buffer w (off-passed r h i on) q = latest-tick (signedOff r s) (off-core s w r h i on .books) q ∙ latest-off s (well-core s w) r h q
+done-latest k s buffer w (range-passed rect) q = ap (λ (t : Store). latest t q) (answered-store (found s rect) s buffer)
 
 -- an accepted record gives its own radio its place, or takes it, whatever is flushed, split, joined or swept on the way; one turned down changes nothing
-pub step-latest : (pick : ℕ) (s : Store) (bytes buffer : List ℕ) → Bytes bytes → WellFormed s → (q : ℕ)
-    → latest (carry pick s bytes buffer .store) q ≡ cond (eqb (refusal (isOn s) (onCount s) bytes) 0) (latestBy (requestOf bytes) (latest s) q) (latest s q)
+pub step-latest : (s : Store) (bytes buffer : List ℕ) → Bytes bytes → WellFormed s → (q : ℕ)
+    → latest (carry s bytes buffer .store) q ≡ cond (eqb (refusal (isOn s) (onCount s) bytes) 0) (latestBy (requestOf bytes) (latest s) q) (latest s q)
 unfolding carry
-step-latest pick s bytes buffer small w q =
+step-latest s bytes buffer small w q =
     by-cases (eqb (refusal (isOn s) (onCount s) bytes) 0)
-    (λ t. rw t (done-latest pick (requestOf bytes) s buffer w (accepted (isOn s) (onCount s) bytes small (eqb-true (refusal (isOn s) (onCount s) bytes) 0 t)) q))
+    (λ t. rw t (done-latest (requestOf bytes) s buffer w (accepted (isOn s) (onCount s) bytes small (eqb-true (refusal (isOn s) (onCount s) bytes) 0 t)) q))
     (λ t. rw t)

@@ -4,6 +4,7 @@ pub mod FlushLaws
 pub mod LatestLaws
 pub mod LinkLaws
 pub mod LiveLaws
+pub mod NeighbourLaws
 pub mod PagedLaws
 pub mod PlaceLaws
 pub mod PlainLaws

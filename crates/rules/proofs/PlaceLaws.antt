@@ -1,5 +1,5 @@
 -- Places, spans and rectangles: what the tests of them say, and a rectangle in two parts, cut or joined.
-use mathlib.Core.Path.{_≡_, refl, sym, ap, _∙_}
+use mathlib.Core.Path.{_≡_, refl, sym, ap, ap₂, _∙_, subst}
 use mathlib.Core.Bool.{true, false}
 use Prim.Native.Nat.{ℕ, _+_, _-_, _≤_, _<_, min, max}
 use native.Mathlib.Omega.{arith}
@@ -8,10 +8,10 @@ use borrow.Author.Tests.{le-leb, lt-leb, ltb-true, ltb-false, leb-true, leb-fals
 use Rattle.terms.specs.Terms.{Place}
 use Rattle.lists.specs.Tests.{one-if, both}
 use Rattle.lists.proofs.Cases.{by-cases}
-use Rattle.lists.proofs.TestsLaws.{both-left, both-right, both-intro, either-cases, both-comm, one-if-parts}
+use Rattle.lists.proofs.TestsLaws.{both-left, both-right, both-intro, both-comm, one-if-parts}
 use Rattle.rules.specs.Grid.{Axis, eastward, northward, along, across, Span, within, sameSpan, Rect, spanOf, withSpan, inside, samePlace}
 use Rattle.rules.specs.Cut.{Cut, through}
-use Rattle.rules.specs.Flush.{lowEdges, highEdges, touch, beside, hull, joinedEdges}
+use Rattle.rules.specs.Flush.{lowEdges, highEdges, below, Side, lower, upper, beside, hull, joinedEdges}
 
 -- ---- places
 
@@ -141,7 +141,7 @@ inside-high c r p t h =
 
 -- ---- two rectangles joined
 
-pub span-eq : (s t : Span) → sameSpan s t ≡ true → s ≡ t
+span-eq : (s t : Span) → sameSpan s t ≡ true → s ≡ t
 span-eq s t e =
     let low = eqb-true (s .low) (t .low) (both-left (eqb (s .low) (t .low)) (eqb (s .high) (t .high)) e) in
     let high = eqb-true (s .high) (t .high) (both-right (eqb (s .low) (t .low)) (eqb (s .high) (t .high)) e) in
@@ -159,37 +159,39 @@ hull-same s t e =
     let high : max (s .high) (t .high) ≡ s .high = omega (arith, ap (λ (u : Span). u .high) e) in
     λ i. record { low = low i; high = high i }
 
-pub hull-touch : (s t : Span) (x : ℕ) → s .low ≤ s .high → t .low ≤ t .high → touch s t ≡ true → one-if (within (hull s t) x) ≡ one-if (within s x) + one-if (within t x)
-hull-touch s t x h k e =
-    either-cases (eqb (s .high + 1) (t .low)) (eqb (t .high + 1) (s .low)) e
-    (λ u. let m = eqb-true (s .high + 1) (t .low) u in span-parts (hull s t) s t x (omega arith) m (omega arith) h k)
-    (λ u. let m = eqb-true (t .high + 1) (s .low) u in omega (arith, span-parts (hull s t) t s x (omega arith) m (omega arith) k h))
+hull-comm : (s t : Span) → hull s t ≡ hull t s
+hull-comm s t =
+    let low : min (s .low) (t .low) ≡ min (t .low) (s .low) = omega arith in
+    let high : max (s .high) (t .high) ≡ max (t .high) (s .high) = omega arith in
+    λ i. record { low = low i; high = high i }
+
+-- either rectangle may be named first
+pub joined-comm : (r s : Rect) → joinedEdges r s ≡ joinedEdges s r
+joined-comm r s = ap₂ (λ (e n : Span). record { easts = e; norths = n }) (hull-comm (r .easts) (s .easts)) (hull-comm (r .norths) (s .norths))
+
+pub hull-touch : (s t : Span) (x : ℕ) → s .low ≤ s .high → t .low ≤ t .high → s .high + 1 ≡ t .low → one-if (within (hull s t) x) ≡ one-if (within s x) + one-if (within t x)
+hull-touch s t x h k m = span-parts (hull s t) s t x (omega arith) m (omega arith) h k
 
 -- the direction in which two rectangles touch, and the other, in which they are alike
-pub beside-cases : {P : Type 0} (r s : Rect) → beside r s ≡ true
-    → ((axis : Axis) → touch (spanOf axis r) (spanOf axis s) ≡ true → sameSpan (spanOf (across axis) r) (spanOf (across axis) s) ≡ true → P) → P
-unfolding beside
-beside-cases r s e k =
-    either-cases (both (touch (r .easts) (s .easts)) (sameSpan (r .norths) (s .norths))) (both (touch (r .norths) (s .norths)) (sameSpan (r .easts) (s .easts))) e
-    (λ b. k eastward (both-left (touch (r .easts) (s .easts)) (sameSpan (r .norths) (s .norths)) b) (both-right (touch (r .easts) (s .easts)) (sameSpan (r .norths) (s .norths)) b))
-    (λ b. k northward (both-left (touch (r .norths) (s .norths)) (sameSpan (r .easts) (s .easts)) b) (both-right (touch (r .norths) (s .norths)) (sameSpan (r .easts) (s .easts)) b))
+pub below-spans : (axis : Axis) (r s : Rect) → below axis r s ≡ true → (spanOf axis r .high + 1 ≡ spanOf axis s .low) × (spanOf (across axis) r ≡ spanOf (across axis) s)
+unfolding below
+below-spans axis r s e =
+    let t = eqb (spanOf axis r .high + 1) (spanOf axis s .low) in
+    let u = sameSpan (spanOf (across axis) r) (spanOf (across axis) s) in
+    (eqb-true (spanOf axis r .high + 1) (spanOf axis s .low) (both-left t u e), span-eq (spanOf (across axis) r) (spanOf (across axis) s) (both-right t u e))
 
 pub joined-span : (axis : Axis) (r s : Rect) → spanOf axis (joinedEdges r s) ≡ hull (spanOf axis r) (spanOf axis s)
 joined-span eastward r s = refl
 joined-span northward r s = refl
 
 -- spans without a gap hold what lies from end to end
-pub hull-cases : {P : Type 0} (s t : Span) (x : ℕ) → touch s t ≡ true → within (hull s t) x ≡ true → (within s x ≡ true → P) → (within t x ≡ true → P) → P
-hull-cases s t x h i f g =
+hull-cases : {P : Type 0} (s t : Span) (x : ℕ) → s .high + 1 ≡ t .low → within (hull s t) x ≡ true → (within s x ≡ true → P) → (within t x ≡ true → P) → P
+hull-cases s t x z i f g =
     let l = within-low (hull s t) x i in
     let u = within-high (hull s t) x i in
-    either-cases (eqb (s .high + 1) (t .low)) (eqb (t .high + 1) (s .low)) h
-    (λ e. let z = eqb-true (s .high + 1) (t .low) e in by-cases (leb x (s .high))
+    by-cases (leb x (s .high))
     (λ v. let y = leb-true x (s .high) v in f (within-true s x (omega arith) (omega arith)))
-    (λ v. let y = leb-false x (s .high) v in g (within-true t x (omega arith) (omega arith))))
-    (λ e. let z = eqb-true (t .high + 1) (s .low) e in by-cases (leb x (t .high))
-    (λ v. let y = leb-true x (t .high) v in g (within-true t x (omega arith) (omega arith)))
-    (λ v. let y = leb-false x (t .high) v in f (within-true s x (omega arith) (omega arith))))
+    (λ v. let y = leb-false x (s .high) v in g (within-true t x (omega arith) (omega arith)))
 
 pub inside-joined-left : (r s : Rect) (p : Place) → inside r p ≡ true → inside (joinedEdges r s) p ≡ true
 inside-joined-left r s p h =
@@ -200,19 +202,22 @@ inside-joined-right r s p h =
     both-intro (hull-right (r .easts) (s .easts) (p .east) (inside-along eastward s p h)) (hull-right (r .norths) (s .norths) (p .north) (inside-along northward s p h))
 
 -- a place of the two together lies in one of them
-pub inside-joined-cases : {P : Type 0} (r s : Rect) (p : Place) → beside r s ≡ true → inside (joinedEdges r s) p ≡ true → (inside r p ≡ true → P) → (inside s p ≡ true → P) → P
-inside-joined-cases r s p b i f g =
-    beside-cases r s b (λ axis e k.
-    let same = span-eq (spanOf (across axis) r) (spanOf (across axis) s) k in
+inside-below-cases : {P : Type 0} (axis : Axis) (r s : Rect) (p : Place) → below axis r s ≡ true → inside (joinedEdges r s) p ≡ true → (inside r p ≡ true → P) → (inside s p ≡ true → P) → P
+inside-below-cases axis r s p b i f g =
+    let q = below-spans axis r s b in
     let here = ap (λ (t : Span). within t (along axis p)) (sym (joined-span axis r s)) ∙ inside-along axis (joinedEdges r s) p i in
-    let whole = joined-span (across axis) r s ∙ hull-same (spanOf (across axis) r) (spanOf (across axis) s) same in
+    let whole = joined-span (across axis) r s ∙ hull-same (spanOf (across axis) r) (spanOf (across axis) s) (q .1) in
     let there = ap (λ (t : Span). within t (along (across axis) p)) (sym whole) ∙ inside-along (across axis) (joinedEdges r s) p i in
-    hull-cases (spanOf axis r) (spanOf axis s) (along axis p) e here
+    hull-cases (spanOf axis r) (spanOf axis s) (along axis p) (q .0) here
     (λ w. f (inside-axis axis r p ∙ both-intro w there))
-    (λ w. g (inside-axis axis s p ∙ both-intro w (ap (λ (t : Span). within t (along (across axis) p)) (sym same) ∙ there))))
+    (λ w. g (inside-axis axis s p ∙ both-intro w (ap (λ (t : Span). within t (along (across axis) p)) (sym (q .1)) ∙ there)))
 
-pub inside-joined-le : (r s : Rect) (p : Place) → beside r s ≡ true → one-if (inside (joinedEdges r s) p) ≤ one-if (inside r p) + one-if (inside s p)
-inside-joined-le r s p b =
+pub inside-joined-cases : {P : Type 0} (side : Side) (r s : Rect) (p : Place) → beside side r s ≡ true → inside (joinedEdges r s) p ≡ true → (inside r p ≡ true → P) → (inside s p ≡ true → P) → P
+inside-joined-cases (lower axis) r s p b i f g = inside-below-cases axis s r p b (subst (λ (t : Rect). inside t p ≡ true) (joined-comm r s) i) g f
+inside-joined-cases (upper axis) r s p b i f g = inside-below-cases axis r s p b i f g
+
+pub inside-joined-le : (side : Side) (r s : Rect) (p : Place) → beside side r s ≡ true → one-if (inside (joinedEdges r s) p) ≤ one-if (inside r p) + one-if (inside s p)
+inside-joined-le side r s p b =
     by-cases (inside (joinedEdges r s) p)
-    (λ t. inside-joined-cases r s p b t (λ w. omega (arith, ap one-if t, ap one-if w)) (λ w. omega (arith, ap one-if t, ap one-if w)))
+    (λ t. inside-joined-cases side r s p b t (λ w. omega (arith, ap one-if t, ap one-if w)) (λ w. omega (arith, ap one-if t, ap one-if w)))
     (λ t. omega (arith, ap one-if t))

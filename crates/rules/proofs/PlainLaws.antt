@@ -210,45 +210,45 @@ module _ (s : Store) (x : Plain) (k : Link s x) (m : Box) (d : Cell) (c : Core s
       flushed-waiting : flushedHere .store .waiting ≡ filter (λ w. not (inBox (s .cuts) m w)) (s .waiting)
       flushed-waiting = unfold flushedInto in refl
 
-pub link-flush : (pick : ℕ) (m : Box) (s : Store) (x : Plain) → Link s x → Core s → Link (flush pick m s) (plainFlush (s .cuts) (some m) x)
-link-flush pick m s x k c =
-    let f = flushes pick m s c in
-    link-leaves s x k m (f .cell) c (f .among) (f .home) (flush pick m s) (f .leaves)
+pub link-flush : (m : Box) (s : Store) (x : Plain) → Link s x → Core s → Link (flush m s) (plainFlush (s .cuts) (some m) x)
+link-flush m s x k c =
+    let f = flushes m s c in
+    link-leaves s x k m (f .cell) c (f .among) (f .home) (flush m s) (f .leaves)
 
 -- ---- any call
 
-pub link-after : (pick : ℕ) (p : Place) (s : Store) (x : Plain) → Link s x → Core s → Link (afterReport pick p s) (plainAfter (s .cuts) p x)
+pub link-after : (p : Place) (s : Store) (x : Plain) → Link s x → Core s → Link (afterReport p s) (plainAfter (s .cuts) p x)
 unfolding afterReport plainAfter
-link-after pick p s x k c =
+link-after p s x k c =
     rw (← due-same s x k (c .waits) p) (option-cases (flushDue s p)
     (λ e. rw e k)
-    (λ m e. rw e (link-flush pick m s x k c)))
+    (λ m e. rw e (link-flush m s x k c)))
 
-report-link : (pick : ℕ) (p : Place) (s : Store) (x : Plain) → Link s x → Core s → Bounded (s .memo) (s .cells) (length (s .waiting)) (s .tally + 1) → s .tally < sweepEvery
+report-link : (p : Place) (s : Store) (x : Plain) → Link s x → Core s → Bounded (s .memo) (s .cells) (length (s .waiting)) (s .tally + 1) → s .tally < sweepEvery
     → length (s .waiting) ≤ fullMemory → ((n : Box) → sameBox n (boxOf (s .cuts) p) ≡ false → waitingIn (s .cuts) (s .waiting) n < fullBox)
-    → Link (tick (afterReport pick p s)) (plainAfter (s .cuts) p x)
-report-link pick p s x l k b t few boxes =
-    link-tick (afterReport pick p s) (plainAfter (s .cuts) p x) (link-after pick p s x l k) (report-done pick p s (s .tally + 1) k b (omega arith) few boxes .mid .core .books)
+    → Link (tick (afterReport p s)) (plainAfter (s .cuts) p x)
+report-link p s x l k b t few boxes =
+    link-tick (afterReport p s) (plainAfter (s .cuts) p x) (link-after p s x l k) (report-done p s (s .tally + 1) k b (omega arith) few boxes .mid .core .books)
 
-done-link : (pick : ℕ) (q : Request) (s : Store) (x : Plain) (buffer : List ℕ) → WellFormed s → Link s x → Accepted (isOn s) (onCount s) q
-    → Link (carriedOut pick q s buffer .store) (plainDone (s .cuts) q x)
+done-link : (q : Request) (s : Store) (x : Plain) (buffer : List ℕ) → WellFormed s → Link s x → Accepted (isOn s) (onCount s) q
+    → Link (carriedOut q s buffer .store) (plainDone (s .cuts) q x)
 unfolding carriedOut plainDone signedOn reported
-done-link pick q s x buffer w l (on-passed r p h k i off room) =
+done-link q s x buffer w l (on-passed r p h k i off room) =
     let f : Option Report → Option Report = λ _. some (record { place = p; new = true }) in
-    report-link pick p (signedOn r p s) (plainPlace r p x) (link-on s x l r p h (well-core s w .signed) (well-core s w .waits) off)
+    report-link p (signedOn r p s) (plainPlace r p x) (link-on s x l r p h (well-core s w .signed) (well-core s w .waits) off)
     (on-core s w r p h k i off room) (put-bounded s w r h f p true refl) (w .tallied) (put-few s w r h f p true refl) (put-boxes s w r h f p true refl)
-done-link pick q s x buffer w l (report-passed r p h k i on) =
+done-link q s x buffer w l (report-passed r p h k i on) =
     let f : Option Report → Option Report = λ o. some (record { place = p; new = wasNew o }) in
     let b = wasNew (find (s .waiting) r) in
-    report-link pick p (reported r p s) (plainPlace r p x) (link-report s x l r p h (well-core s w .waits) on)
+    report-link p (reported r p s) (plainPlace r p x) (link-report s x l r p h (well-core s w .waits) on)
     (report-core s w r p h k i on) (put-bounded s w r h f p b refl) (w .tallied) (put-few s w r h f p b refl) (put-boxes s w r h f p b refl)
-done-link pick q s x buffer w l (off-passed r h k on) = link-tick (signedOff r s) (plainOff r x) (link-off s x l r h w) (off-core s w r h k on .books)
-done-link pick q s x buffer w l (range-passed rect) = subst (λ (t : Store). Link t x) (sym (answered-store (found s rect) s buffer)) l
+done-link q s x buffer w l (off-passed r h k on) = link-tick (signedOff r s) (plainOff r x) (link-off s x l r h w) (off-core s w r h k on .books)
+done-link q s x buffer w l (range-passed rect) = subst (λ (t : Store). Link t x) (sym (answered-store (found s rect) s buffer)) l
 
-pub step-link : (pick : ℕ) (s : Store) (x : Plain) (bytes buffer : List ℕ) → Bytes bytes → WellFormed s → Link s x
-    → Link (carry pick s bytes buffer .store) (plainStep (s .cuts) bytes x)
+pub step-link : (s : Store) (x : Plain) (bytes buffer : List ℕ) → Bytes bytes → WellFormed s → Link s x
+    → Link (carry s bytes buffer .store) (plainStep (s .cuts) bytes x)
 unfolding carry plainStep
-step-link pick s x bytes buffer small w l =
+step-link s x bytes buffer small w l =
     rw (← refusal-same s x l (well-core s w .signed) bytes) (by-cases (eqb (refusal (isOn s) (onCount s) bytes) 0)
-    (λ t. rw t (done-link pick (requestOf bytes) s x buffer w l (accepted (isOn s) (onCount s) bytes small (eqb-true (refusal (isOn s) (onCount s) bytes) 0 t))))
+    (λ t. rw t (done-link (requestOf bytes) s x buffer w l (accepted (isOn s) (onCount s) bytes small (eqb-true (refusal (isOn s) (onCount s) bytes) 0 t))))
     (λ t. rw t l))

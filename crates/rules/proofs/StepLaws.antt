@@ -37,7 +37,7 @@ use Rattle.rules.proofs.FlushLaws.{ready, reshaped-mid}
 -- ---- a flush
 
 -- the reports of m wait no longer; no other memory cell was full
-module _ (pick : ℕ) (m : Box) (s : Store) (c : ℕ) (k : Core s) (b : Bounded (s .memo) (s .cells) (length (s .waiting)) c) (late : c ≤ sweepEvery)
+module _ (m : Box) (s : Store) (c : ℕ) (k : Core s) (b : Bounded (s .memo) (s .cells) (length (s .waiting)) c) (late : c ≤ sweepEvery)
     (few : length (s .waiting) ≤ fullMemory) (some-wait : 1 ≤ waitingIn (s .cuts) (s .waiting) m)
     (others-few : (n : Box) → sameBox n m ≡ false → waitingIn (s .cuts) (s .waiting) n < fullBox) where
   flushed-few : (d : Cell) → length (flushedInto m s d .store .waiting) < fullMemory
@@ -48,19 +48,19 @@ module _ (pick : ℕ) (m : Box) (s : Store) (c : ℕ) (k : Core s) (b : Bounded 
   unfolding flushedInto
   flushed-boxes d n = waiting-cleared (s .cuts) (s .waiting) m fullBox (omega arith) others-few n
 
-  flushed-done : (d : Cell) → cellOfBox s m ≡ some d → MidCallRoomy (reshaped pick (flushedInto m s d)) c
+  flushed-done : (d : Cell) → cellOfBox s m ≡ some d → MidCallRoomy (reshaped (flushedInto m s d)) c
   unfolding cellOfBox
   flushed-done d e =
       let at = cellAt-split (s .cells) (cornerOf (s .cuts) m) d e in
       record {
-        mid = reshaped-mid (flushedInto m s d) d (at .0 .before) (at .0 .after) (s .memo) _ c (ready m s d k (at .0) (at .1) c b late (omega (arith, flushed-few d))) pick;
+        mid = reshaped-mid (flushedInto m s d) d (at .0 .before) (at .0 .after) (s .memo) _ c (ready m s d k (at .0) (at .1) c b late (omega (arith, flushed-few d)));
         roomy = record {
-          few = rw (reshaped-waiting pick (flushedInto m s d)) (flushed-few d);
-          boxes = waiting-reshaped pick fullBox (flushedInto m s d) (flushed-boxes d);
+          few = rw (reshaped-waiting (flushedInto m s d)) (flushed-few d);
+          boxes = waiting-reshaped fullBox (flushedInto m s d) (flushed-boxes d);
         };
       }
 
-  pub flush-done : MidCallRoomy (flush pick m s) c
+  pub flush-done : MidCallRoomy (flush m s) c
   unfolding flush cellOfBox
   flush-done =
       let h = home-some (s .cuts) (s .cells) m (k .tiling) in
@@ -68,7 +68,7 @@ module _ (pick : ℕ) (m : Box) (s : Store) (c : ℕ) (k : Core s) (b : Bounded 
 
 -- ---- after a sign-on or report at p
 
-module _ (pick : ℕ) (p : Place) (s : Store) (c : ℕ) (k : Core s) (b : Bounded (s .memo) (s .cells) (length (s .waiting)) c) (late : c ≤ sweepEvery)
+module _ (p : Place) (s : Store) (c : ℕ) (k : Core s) (b : Bounded (s .memo) (s .cells) (length (s .waiting)) c) (late : c ≤ sweepEvery)
     (few : length (s .waiting) ≤ fullMemory) (others-few : (n : Box) → sameBox n (boxOf (s .cuts) p) ≡ false → waitingIn (s .cuts) (s .waiting) n < fullBox) where
   none-due : flushDue s p ≡ none → Roomy s
   unfolding flushDue
@@ -82,17 +82,17 @@ module _ (pick : ℕ) (p : Place) (s : Store) (c : ℕ) (k : Core s) (b : Bounde
   all-few : waitingIn (s .cuts) (s .waiting) (boxOf (s .cuts) p) < fullBox → (n : Box) → waitingIn (s .cuts) (s .waiting) n < fullBox
   all-few h n = by-cases (sameBox n (boxOf (s .cuts) p)) (λ t. rw (box-same n (boxOf (s .cuts) p) t) h) (others-few n)
 
-  some-due : (m : Box) → flushDue s p ≡ some m → MidCallRoomy (flush pick m s) c
+  some-due : (m : Box) → flushDue s p ≡ some m → MidCallRoomy (flush m s) c
   unfolding flushDue
   some-due m e =
       due-some (s .cuts) (waitingIn (s .cuts) (s .waiting)) (length (s .waiting)) p m e
-      (λ z h. flush-done pick m s c k b late few (omega (arith, h)) (λ n t. others-few n (rw z t)))
+      (λ z h. flush-done m s c k b late few (omega (arith, h)) (λ n t. others-few n (rw z t)))
       (λ h i g.
       let q = most-some (s .cuts) (s .waiting) (omega (arith, i)) in
       let z : q .0 ≡ m = cc (q .1) in
-      flush-done pick m s c k b late few (rw (← z) (q .2)) (λ n t. all-few h n))
+      flush-done m s c k b late few (rw (← z) (q .2)) (λ n t. all-few h n))
 
-  pub report-done : MidCallRoomy (afterReport pick p s) c
+  pub report-done : MidCallRoomy (afterReport p s) c
   unfolding afterReport
   report-done =
       option-cases (flushDue s p)
@@ -229,35 +229,35 @@ off-core s w r h k on =
 -- ---- sign-on, report, sign-off
 
 -- a flush leaves the tally
-pub after-tally : (pick : ℕ) (p : Place) (s : Store) → afterReport pick p s .tally ≡ s .tally
+pub after-tally : (p : Place) (s : Store) → afterReport p s .tally ≡ s .tally
 unfolding afterReport
-after-tally pick p s =
+after-tally p s =
     option-cases (flushDue s p)
     (λ e. rw e)
-    (λ m e. rw e (flush-cases (λ t. t .tally ≡ s .tally) pick m s (λ n. refl) (λ d n. reshaped-tally pick (flushedInto m s d) ∙ flushed-tally m d)))
+    (λ m e. rw e (flush-cases (λ t. t .tally ≡ s .tally) m s (λ n. refl) (λ d n. reshaped-tally (flushedInto m s d) ∙ flushed-tally m d)))
   where
     flushed-tally : (m : Box) (d : Cell) → flushedInto m s d .store .tally ≡ s .tally
     flushed-tally m d = unfold flushedInto in refl
 
-report-well : (pick : ℕ) (p : Place) (s : Store) → Core s → Bounded (s .memo) (s .cells) (length (s .waiting)) (s .tally + 1) → s .tally < sweepEvery → length (s .waiting) ≤ fullMemory
-    → ((n : Box) → sameBox n (boxOf (s .cuts) p) ≡ false → waitingIn (s .cuts) (s .waiting) n < fullBox) → WellFormed (tick (afterReport pick p s))
-report-well pick p s k b t few boxes =
-    tick-well (afterReport pick p s) (subst (λ (c : ℕ). c < sweepEvery) (sym (after-tally pick p s)) t)
-    (subst (λ (c : ℕ). MidCallRoomy (afterReport pick p s) (c + 1)) (sym (after-tally pick p s)) (report-done pick p s (s .tally + 1) k b (omega arith) few boxes))
+report-well : (p : Place) (s : Store) → Core s → Bounded (s .memo) (s .cells) (length (s .waiting)) (s .tally + 1) → s .tally < sweepEvery → length (s .waiting) ≤ fullMemory
+    → ((n : Box) → sameBox n (boxOf (s .cuts) p) ≡ false → waitingIn (s .cuts) (s .waiting) n < fullBox) → WellFormed (tick (afterReport p s))
+report-well p s k b t few boxes =
+    tick-well (afterReport p s) (subst (λ (c : ℕ). c < sweepEvery) (sym (after-tally p s)) t)
+    (subst (λ (c : ℕ). MidCallRoomy (afterReport p s) (c + 1)) (sym (after-tally p s)) (report-done p s (s .tally + 1) k b (omega arith) few boxes))
 
-on-well : (pick : ℕ) (s : Store) (w : WellFormed s) (r : ℕ) (p : Place) → 1 ≤ r → r ≤ maxRadio → InSquare p → isOn s r ≡ false → onCount s < maxOn
-    → WellFormed (tick (afterReport pick p (signedOn r p s)))
+on-well : (s : Store) (w : WellFormed s) (r : ℕ) (p : Place) → 1 ≤ r → r ≤ maxRadio → InSquare p → isOn s r ≡ false → onCount s < maxOn
+    → WellFormed (tick (afterReport p (signedOn r p s)))
 unfolding signedOn
-on-well pick s w r p h k q off room =
+on-well s w r p h k q off room =
     let f : Option Report → Option Report = λ _. some (record { place = p; new = true }) in
-    report-well pick p (signedOn r p s) (on-core s w r p h k q off room) (put-bounded s w r h f p true refl) (w .tallied) (put-few s w r h f p true refl) (put-boxes s w r h f p true refl)
+    report-well p (signedOn r p s) (on-core s w r p h k q off room) (put-bounded s w r h f p true refl) (w .tallied) (put-few s w r h f p true refl) (put-boxes s w r h f p true refl)
 
-report-on-well : (pick : ℕ) (s : Store) (w : WellFormed s) (r : ℕ) (p : Place) → 1 ≤ r → r ≤ maxRadio → InSquare p → isOn s r ≡ true → WellFormed (tick (afterReport pick p (reported r p s)))
+report-on-well : (s : Store) (w : WellFormed s) (r : ℕ) (p : Place) → 1 ≤ r → r ≤ maxRadio → InSquare p → isOn s r ≡ true → WellFormed (tick (afterReport p (reported r p s)))
 unfolding reported
-report-on-well pick s w r p h k q on =
+report-on-well s w r p h k q on =
     let f : Option Report → Option Report = λ o. some (record { place = p; new = wasNew o }) in
     let b = wasNew (find (s .waiting) r) in
-    report-well pick p (reported r p s) (report-core s w r p h k q on) (put-bounded s w r h f p b refl) (w .tallied) (put-few s w r h f p b refl) (put-boxes s w r h f p b refl)
+    report-well p (reported r p s) (report-core s w r p h k q on) (put-bounded s w r h f p b refl) (w .tallied) (put-few s w r h f p b refl) (put-boxes s w r h f p b refl)
 
 -- before the tally
 pub off-done : (s : Store) (w : WellFormed s) (r : ℕ) → 1 ≤ r → r ≤ maxRadio → isOn s r ≡ true → MidCallRoomy (signedOff r s) (signedOff r s .tally + 1)
@@ -289,16 +289,16 @@ pub answered-store : (l : Rows Fix) (s : Store) (buffer : List ℕ) → answered
 unfolding answered
 answered-store l s buffer = by-cases (ltb (length buffer) (listBytes * length l)) (λ t. rw t) (λ t. rw t)
 
-done-well : (pick : ℕ) (q : Request) (s : Store) (buffer : List ℕ) → WellFormed s → Accepted (isOn s) (onCount s) q → WellFormed (carriedOut pick q s buffer .store)
+done-well : (q : Request) (s : Store) (buffer : List ℕ) → WellFormed s → Accepted (isOn s) (onCount s) q → WellFormed (carriedOut q s buffer .store)
 unfolding carriedOut
-done-well pick q s buffer w (on-passed r p h k i off room) = on-well pick s w r p h k i off room
-done-well pick q s buffer w (report-passed r p h k i on) = report-on-well pick s w r p h k i on
-done-well pick q s buffer w (off-passed r h k on) = off-well s w r h k on
-done-well pick q s buffer w (range-passed rect) = subst WellFormed (sym (answered-store (found s rect) s buffer)) w
+done-well q s buffer w (on-passed r p h k i off room) = on-well s w r p h k i off room
+done-well q s buffer w (report-passed r p h k i on) = report-on-well s w r p h k i on
+done-well q s buffer w (off-passed r h k on) = off-well s w r h k on
+done-well q s buffer w (range-passed rect) = subst WellFormed (sym (answered-store (found s rect) s buffer)) w
 
-pub step-well : (pick : ℕ) (s : Store) (bytes buffer : List ℕ) → Bytes bytes → WellFormed s → WellFormed (carry pick s bytes buffer .store)
+pub step-well : (s : Store) (bytes buffer : List ℕ) → Bytes bytes → WellFormed s → WellFormed (carry s bytes buffer .store)
 unfolding carry
-step-well pick s bytes buffer small w =
+step-well s bytes buffer small w =
     by-cases (eqb (refusal (isOn s) (onCount s) bytes) 0)
-    (λ t. rw t (done-well pick (requestOf bytes) s buffer w (accepted (isOn s) (onCount s) bytes small (eqb-true (refusal (isOn s) (onCount s) bytes) 0 t))))
+    (λ t. rw t (done-well (requestOf bytes) s buffer w (accepted (isOn s) (onCount s) bytes small (eqb-true (refusal (isOn s) (onCount s) bytes) 0 t))))
     (λ t. rw t w)

@@ -1,6 +1,6 @@
 -- The cells tile the square and are whole memory cells: where a place and its memory cell lie, and that a flush, a split and a join keep the tiling.
 use mathlib.Core.Path.{_≡_, refl, sym, ap, ap₂, _∙_, subst}
-use mathlib.Core.Bool.{Bool, true, false}
+use mathlib.Core.Bool.{true, false}
 use mathlib.Core.List.{List, [], _∷_, _++_, map}
 use mathlib.Core.Option.{none, some}
 use Prim.Native.Nat.{ℕ, zero, suc, _+_, _≤_, _<_, min}
@@ -18,16 +18,16 @@ use Rattle.lists.proofs.Cases.{by-cases, option-cases, none-some, false-true, l
 use Rattle.lists.proofs.AmongLaws.{among-head, among-tail, sum-among}
 use Rattle.lists.proofs.SortLaws.{sum-sortIn, each-sortIn}
 use Rattle.lists.proofs.SumsLaws.{sum-const, sum-each, count-head, sum-middle, sum-one, sum-last, sum-last-two, length-sum, sum-map, sum-add-le, each-count, count-cons, sum-nil, firstAt-unused}
-use Rattle.lists.proofs.TestsLaws.{both-left, both-right, both-intro, either-cases, each-map, each-append, each-middle, each-getD-or, bool-ext, one-if-le}
-use Rattle.rules.specs.Limits.{lastMetre, maxCells, maxCuts, joinEntries}
+use Rattle.lists.proofs.TestsLaws.{both-intro, either-cases, each-map, each-append, each-middle, each-getD-or, bool-ext, one-if-le}
+use Rattle.rules.specs.Limits.{lastMetre, maxCells, maxCuts}
 use Rattle.rules.specs.Grid.{Axis, eastward, northward, along, across, Span, within, Rect, spanOf, withSpan, inside, square}
 use Rattle.rules.specs.Grid.{Cuts, cutsOf, withCutsOf, stripe, stripeLow, Box, boxOf, cornerOf}
 use Rattle.rules.specs.Store.{Cell, fresh, cellAt, others}
 use Rattle.rules.specs.Cut.{Cut, through}
-use Rattle.rules.specs.Flush.{Flushed, addCut, unusedNumber, beside, joinable, neighbours, named, hull, joinedEdges, smaller, lowEdges, highEdges}
+use Rattle.rules.specs.Flush.{addCut, unusedNumber, below, Side, lower, upper, beside, hull, joinedEdges, smaller, lowEdges, highEdges}
 use Rattle.rules.specs.WellFormed.{RisingCuts, OnCuts, InSquare}
 use Rattle.rules.specs.Parts.{Edged, Tiling}
-use Rattle.rules.proofs.PlaceLaws.{within-true, within-low, within-high, inside-along, rect-parts, through-low, through-high, lowSpan, highSpan, inside-cut, span-eq, hull-same, hull-touch, beside-cases, joined-span}
+use Rattle.rules.proofs.PlaceLaws.{within-true, within-low, within-high, inside-along, rect-parts, through-low, through-high, lowSpan, highSpan, inside-cut, hull-same, hull-touch, below-spans, joined-span, joined-comm}
 
 -- ---- one coordinate: stripes
 
@@ -258,17 +258,6 @@ others-among cells d a h =
 -- what is left names each number once, too
 pub round-others : (us : List Cell) (d : Cell) (vs : List Cell) → ((n : ℕ) → count n (map (λ c. c .number) (us ++ (d ∷ vs))) ≤ 1) → (n : ℕ) → count n (map (λ c. c .number) (us ++ vs)) ≤ 1
 round-others us d vs h n = omega (arith, h n, count-numbers n (us ++ (d ∷ vs)), count-numbers n (us ++ vs), sum-middle (numberIs n) us d vs)
-
--- named among those that pass a test
-pub named-filter : (t : Cell → Bool) (pick : ℕ) (l : List Cell) (n : Cell) → named pick (filter t l) ≡ some n → (n .number ≡ pick) × (t n ≡ true) × Among l n
-unfolding named filter
-named-filter t pick [] n = none-some
-named-filter t pick (c ∷ cs) n =
-    by-cases (t c)
-    (λ g. by-cases (eqb pick (c .number))
-    (λ h. rw (g, h) (λ e. let z : c ≡ n = cc in rw (← z) (sym (eqb-true pick (c .number) h), g, among-head c cs)))
-    (λ h. rw (g, h) (λ e. let r = named-filter t pick cs n e in (r .0, r .1, among-tail c (r .2)))))
-    (λ g. rw g (λ e. let r = named-filter t pick cs n e in (r .0, r .1, among-tail c (r .2))))
 
 -- ---- the same cells, a cell with other entries, in another order
 
@@ -528,18 +517,22 @@ module _ (cuts : Cuts) (us : List Cell) (d : Cell) (vs : List Cell) (c : Cut) (t
 -- ---- join
 
 -- each place of the joined rectangle lies in one of the two
-pub inside-joined : (cuts : Cuts) (d n : Cell) (p : Place) → Edged cuts d → Edged cuts n → beside (d .edges) (n .edges) ≡ true
+inside-below : (cuts : Cuts) (axis : Axis) (d n : Cell) (p : Place) → Edged cuts d → Edged cuts n → below axis (d .edges) (n .edges) ≡ true
     → one-if (inside (joinedEdges (d .edges) (n .edges)) p) ≡ one-if (inside (d .edges) p) + one-if (inside (n .edges) p)
-inside-joined cuts d n p g f b =
+inside-below cuts axis d n p g f b =
     let r = d .edges in
     let s = n .edges in
-    beside-cases r s b (λ axis e k.
-    let same = span-eq (spanOf (across axis) r) (spanOf (across axis) s) k in
-    let whole = joined-span (across axis) r s ∙ hull-same (spanOf (across axis) r) (spanOf (across axis) s) same in
+    let q = below-spans axis r s b in
+    let whole = joined-span (across axis) r s ∙ hull-same (spanOf (across axis) r) (spanOf (across axis) s) (q .1) in
     rect-parts axis (joinedEdges r s) r s p
-    (rw (joined-span axis r s) (hull-touch (spanOf axis r) (spanOf axis s) (along axis p) (g .edged axis .order) (f .edged axis .order) e))
+    (rw (joined-span axis r s) (hull-touch (spanOf axis r) (spanOf axis s) (along axis p) (g .edged axis .order) (f .edged axis .order) (q .0)))
     (sym whole)
-    (sym same ∙ sym whole))
+    (sym (q .1) ∙ sym whole)
+
+pub inside-joined : (cuts : Cuts) (side : Side) (d n : Cell) (p : Place) → Edged cuts d → Edged cuts n → beside side (d .edges) (n .edges) ≡ true
+    → one-if (inside (joinedEdges (d .edges) (n .edges)) p) ≡ one-if (inside (d .edges) p) + one-if (inside (n .edges) p)
+inside-joined cuts (lower axis) d n p g f b = omega (arith, inside-below cuts axis n d p f g b, ap (λ (r : Rect). one-if (inside r p)) (joined-comm (d .edges) (n .edges)))
+inside-joined cuts (upper axis) d n p g f b = inside-below cuts axis d n p g f b
 
 onCuts-hull : (cuts : List ℕ) (s t : Span) → OnCuts cuts s → OnCuts cuts t → OnCuts cuts (hull s t)
 onCuts-hull cuts s t o q = record {
@@ -575,9 +568,9 @@ smaller-counted q d n j e =
     (λ t. let h = leb-false d n t in let z : j ≡ n = omega arith in omega (arith, ap (λ (k : ℕ). one-if (eqb q k)) z))
 
 -- d and n, which stands among the others, go, and the joined cell goes to the end
-pub tiling-join : (cuts : Cuts) (us : List Cell) (d : Cell) (vs : List Cell) (n j : Cell) (a : Among (us ++ vs) n) → Tiling cuts (us ++ (d ∷ vs)) → beside (d .edges) (n .edges) ≡ true
+pub tiling-join : (cuts : Cuts) (us : List Cell) (d : Cell) (vs : List Cell) (n j : Cell) (a : Among (us ++ vs) n) (side : Side) → Tiling cuts (us ++ (d ∷ vs)) → beside side (d .edges) (n .edges) ≡ true
     → j .number ≡ min (d .number) (n .number) → j .edges ≡ joinedEdges (d .edges) (n .edges) → Tiling cuts ((a .before ++ a .after) ++ (j ∷ []))
-tiling-join cuts us d vs n j a t b k e =
+tiling-join cuts us d vs n j a side t b k e =
     let old = us ++ (d ∷ vs) in
     let rest = a .before ++ a .after in
     let new = rest ++ (j ∷ []) in
@@ -587,19 +580,9 @@ tiling-join cuts us d vs n j a t b k e =
     let after : (w : Cell → ℕ) → sumBy w new ≡ sumBy w rest + w j = λ w. sum-last w rest j in
     tiling-keeps cuts old new t
     (omega (arith, length-sum old, length-sum new, before (λ _. 1), after (λ _. 1)))
-    (λ p. omega (arith, before (holdsAt p), after (holdsAt p), inside-joined cuts d n p (g .0) (f .0) b, ap (λ (r : Rect). one-if (inside r p)) e))
+    (λ p. omega (arith, before (holdsAt p), after (holdsAt p), inside-joined cuts side d n p (g .0) (f .0) b, ap (λ (r : Rect). one-if (inside r p)) e))
     (λ q. omega (arith, before (numberIs q), after (numberIs q), smaller-counted q (d .number) (n .number) (j .number) k))
     (each-append (Edged cuts) rest (j ∷ []) (f .1) (edged-joined cuts d n j (g .0) (f .0) k e, tt))
-
--- the cell named among d's neighbours, which stands among the others
-pub named-neighbour : (pick : ℕ) (f : Flushed) (n : Cell) → named pick (neighbours f) ≡ some n
-    → (n .number ≡ pick) × (beside (f .cell .edges) (n .edges) ≡ true) × (length (f .cell .entries) + length (n .entries) ≤ joinEntries) × Among (f .rest) n
-unfolding neighbours joinable
-named-neighbour pick f n e =
-    let r = named-filter (joinable (f .cell)) pick (f .rest) n e in
-    let b = beside (f .cell .edges) (n .edges) in
-    let s = length (f .cell .entries) + length (n .entries) in
-    (r .0, both-left b (leb s joinEntries) (r .1), leb-true s joinEntries (both-right b (leb s joinEntries) (r .1)), r .2)
 
 -- ---- a fresh store
 

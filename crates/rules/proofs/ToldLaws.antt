@@ -28,22 +28,22 @@ unfolding answered toldList
 told-list s x buffer rect e =
     rw e (by-cases (ltb (length buffer) (listBytes * length (plainFound x rect))) (λ t. rw t (refl, refl, refl)) (λ t. rw t (refl, refl, refl)))
 
-told-done : (pick : ℕ) (q : Request) (s : Store) (x : Plain) (buffer : List ℕ) → Signed (s .on) → Link s x
-    → (carriedOut pick q s buffer .number ≡ toldDone q x buffer .number) × (carriedOut pick q s buffer .count ≡ toldDone q x buffer .count)
-    × (carriedOut pick q s buffer .buffer ≡ toldDone q x buffer .buffer)
+told-done : (q : Request) (s : Store) (x : Plain) (buffer : List ℕ) → Signed (s .on) → Link s x
+    → (carriedOut q s buffer .number ≡ toldDone q x buffer .number) × (carriedOut q s buffer .count ≡ toldDone q x buffer .count)
+    × (carriedOut q s buffer .buffer ≡ toldDone q x buffer .buffer)
 unfolding carriedOut toldDone
-told-done pick (signOn r p) s x buffer g k = (refl, refl, refl)
-told-done pick (report r p) s x buffer g k = (refl, refl, refl)
-told-done pick (signOff r) s x buffer g k = (refl, refl, refl)
-told-done pick (range rect) s x buffer g k = told-list s x buffer rect (found-same s x k g rect)
+told-done (signOn r p) s x buffer g k = (refl, refl, refl)
+told-done (report r p) s x buffer g k = (refl, refl, refl)
+told-done (signOff r) s x buffer g k = (refl, refl, refl)
+told-done (range rect) s x buffer g k = told-list s x buffer rect (found-same s x k g rect)
 
-pub told-same : (pick : ℕ) (s : Store) (x : Plain) (bytes buffer : List ℕ) → Signed (s .on) → Link s x
-    → (carry pick s bytes buffer .number ≡ told x bytes buffer .number) × (carry pick s bytes buffer .count ≡ told x bytes buffer .count)
-    × (carry pick s bytes buffer .buffer ≡ told x bytes buffer .buffer)
+pub told-same : (s : Store) (x : Plain) (bytes buffer : List ℕ) → Signed (s .on) → Link s x
+    → (carry s bytes buffer .number ≡ told x bytes buffer .number) × (carry s bytes buffer .count ≡ told x bytes buffer .count)
+    × (carry s bytes buffer .buffer ≡ told x bytes buffer .buffer)
 unfolding carry told
-told-same pick s x bytes buffer g k =
+told-same s x bytes buffer g k =
     rw (refusal-same s x k g bytes) (by-cases (eqb (plainRefusal x bytes) 0)
-    (λ t. rw t (told-done pick (requestOf bytes) s x buffer g k))
+    (λ t. rw t (told-done (requestOf bytes) s x buffer g k))
     (λ t. rw t (refl, refl, refl)))
 
 -- ---- numbers that the plain rule tells

@@ -15,7 +15,7 @@ use Rattle.rules.specs.Limits.{fullBox, fullMemory}
 use Rattle.rules.specs.Grid.{Rect, covers, Cuts, Box, boxOf, boxes}
 use Rattle.rules.specs.Store.{Report, Line, Cell, Store, withWaiting, withMemo, withOn}
 use Rattle.rules.specs.Sweep.{stale, tick}
-use Rattle.rules.specs.Flush.{raised, inBox, flush, allowedFlush}
+use Rattle.rules.specs.Flush.{raised, inBox, flush}
 use Rattle.rules.specs.Records.{Request, signOn, report, signOff, range, requestOf, refusal}
 
 -- ---- who is on
@@ -73,12 +73,12 @@ waitingIn cuts waiting m = sumBy (λ w. one-if (inBox cuts m w)) waiting
 unfoldable pub flushDue : Store → Place → Option Box
 flushDue s p = boxToFlush (s .cuts) (waitingIn (s .cuts) (s .waiting)) (length (s .waiting)) p
 
-abbrev flushIf : ℕ → Option Box → Store → Store
-flushIf pick none s = s
-flushIf pick (some m) s = flush pick m s
+abbrev flushIf : Option Box → Store → Store
+flushIf none s = s
+flushIf (some m) s = flush m s
 
-unfoldable pub afterReport : ℕ → Place → Store → Store
-afterReport pick p s = flushIf pick (flushDue s p) s
+unfoldable pub afterReport : Place → Store → Store
+afterReport p s = flushIf (flushDue s p) s
 
 -- ---- range
 
@@ -142,32 +142,15 @@ answered l s buffer =
 abbrev accepted : Store → List ℕ → Outcome
 accepted s buffer = record { number = 0; count = 0; buffer = buffer; store = s }
 
-unfoldable pub carriedOut : ℕ → Request → Store → List ℕ → Outcome
-carriedOut pick (signOn r p) s buffer = accepted (tick (afterReport pick p (signedOn r p s))) buffer
-carriedOut pick (report r p) s buffer = accepted (tick (afterReport pick p (reported r p s))) buffer
-carriedOut pick (signOff r) s buffer = accepted (tick (signedOff r s)) buffer
-carriedOut pick (range rect) s buffer = answered (found s rect) s buffer
+unfoldable pub carriedOut : Request → Store → List ℕ → Outcome
+carriedOut (signOn r p) s buffer = accepted (tick (afterReport p (signedOn r p s))) buffer
+carriedOut (report r p) s buffer = accepted (tick (afterReport p (reported r p s))) buffer
+carriedOut (signOff r) s buffer = accepted (tick (signedOff r s)) buffer
+carriedOut (range rect) s buffer = answered (found s rect) s buffer
 
--- from the named neighbour, a sound store, a record's bytes and an answer buffer
-unfoldable pub carry : ℕ → Store → List ℕ → List ℕ → Outcome
-carry pick s bytes buffer =
+-- from a sound store, a record's bytes and an answer buffer
+unfoldable pub carry : Store → List ℕ → List ℕ → Outcome
+carry s bytes buffer =
     cond (eqb (refusal (isOn s) (onCount s) bytes) 0)
-    (carriedOut pick (requestOf bytes) s buffer)
+    (carriedOut (requestOf bytes) s buffer)
     (record { number = refusal (isOn s) (onCount s) bytes; count = 0; buffer = buffer; store = s })
-
--- ---- what is allowed of the neighbour's name
-
--- if a memory cell is flushed
-abbrev pub allowedIf : ℕ → Option Box → Store → Bool
-allowedIf pick none s = true
-allowedIf pick (some m) s = allowedFlush pick m s
-
-unfoldable pub allowedIn : ℕ → Request → Store → Bool
-allowedIn pick (signOn r p) s = allowedIf pick (flushDue (signedOn r p s) p) (signedOn r p s)
-allowedIn pick (report r p) s = allowedIf pick (flushDue (reported r p s) p) (reported r p s)
-allowedIn pick (signOff r) s = true
-allowedIn pick (range rect) s = true
-
--- "the joined neighbour: a cell beside d, a rectangle with it, at most 24 entries together, counted as Join says"
-unfoldable pub allowed : ℕ → Store → List ℕ → Bool
-allowed pick s bytes = cond (eqb (refusal (isOn s) (onCount s) bytes) 0) (allowedIn pick (requestOf bytes) s) true

@@ -1,4 +1,4 @@
--- Flush, with the split or the join that follows it (01, "How a record is carried out").
+-- Flush, with the split or the join that follows it (01, "How a record is carried out"; 02, Job 7).
 use mathlib.Core.Bool.{Bool, true, false, not, cond}
 use mathlib.Core.List.{List, [], _∷_, _++_, map}
 use mathlib.Core.Option.{Option, none, some}
@@ -11,9 +11,10 @@ use Rattle.lists.specs.Parts.{tab}
 use Rattle.lists.specs.Rows.{Row, Rows, find, alter, insert, merge}
 use Rattle.lists.specs.Sort.{sortIn}
 use Rattle.lists.specs.Sums.{filter, count}
-use Rattle.lists.specs.Tests.{both, either, isSome, firstAt}
+use Rattle.lists.specs.Tests.{both, isSome, firstAt, firstThat, firstSome}
 use Rattle.rules.specs.Limits.{maxCells, joinEntries}
-use Rattle.rules.specs.Grid.{Span, sameSpan, Rect, spanOf, withSpan, Cuts, cutsOf, withCutsOf, Box, sameBox, boxOf, cornerOf}
+use Rattle.rules.specs.Grid.{Axis, eastward, northward, across, Span, sameSpan, Rect, spanOf, withSpan}
+use Rattle.rules.specs.Grid.{Cuts, cutsOf, withCutsOf, Box, sameBox, boxOf, cornerOf}
 use Rattle.rules.specs.Store.{Report, Line, Cell, Store, withEdges, withEntries, withCuts, withCells, withFree, withWaiting, withMemo}
 use Rattle.rules.specs.Store.{cellAt, others, settled, freeAfter}
 use Rattle.rules.specs.Sweep.{sweptEntries, sweptMemo}
@@ -131,28 +132,43 @@ splitOr (some c) f = splitAt c f
 
 -- ---- join
 
--- side by side in one direction, without a gap
-abbrev pub touch : Span → Span → Bool
-touch s t = either (eqb (s .high + 1) (t .low)) (eqb (t .high + 1) (s .low))
+-- one rectangle ends right before the other begins in a direction, and they are alike in the other: the two make a rectangle
+unfoldable pub below : Axis → Rect → Rect → Bool
+below axis r s = both (eqb (spanOf axis r .high + 1) (spanOf axis s .low)) (sameSpan (spanOf (across axis) r) (spanOf (across axis) s))
 
--- "some cell beside d makes a rectangle with it"
-unfoldable pub beside : Rect → Rect → Bool
-beside d n =
-    either (both (touch (d .easts) (n .easts)) (sameSpan (d .norths) (n .norths)))
-    (both (touch (d .norths) (n .norths)) (sameSpan (d .easts) (n .easts)))
+-- a side of a cell: the low one or the high one in a direction
+pub data Side : Type 0 where
+  lower : Axis → Side
+  upper : Axis → Side
+
+abbrev pub west : Side
+west = lower eastward
+
+abbrev pub east : Side
+east = upper eastward
+
+abbrev pub south : Side
+south = lower northward
+
+abbrev pub north : Side
+north = upper northward
+
+-- "some cell beside d makes a rectangle with it": n does, on this side
+abbrev pub beside : Side → Rect → Rect → Bool
+beside (lower axis) d n = below axis n d
+beside (upper axis) d n = below axis d n
 
 -- "and the two have at most 24 entries together, counted before this sweep"
-unfoldable pub joinable : Cell → Cell → Bool
-joinable d n = both (beside (d .edges) (n .edges)) (leb (length (d .entries) + length (n .entries)) joinEntries)
+unfoldable pub joinable : Side → Cell → Cell → Bool
+joinable side d n = both (beside side (d .edges) (n .edges)) (leb (length (d .entries) + length (n .entries)) joinEntries)
 
--- the cells that may be joined
-unfoldable pub neighbours : Flushed → List Cell
-neighbours f = filter (joinable (f .cell)) (f .rest)
+-- "west, east, south, north"
+abbrev pub sides : List Side
+sides = west ∷ east ∷ south ∷ north ∷ []
 
--- the one of them with this number
-unfoldable pub named : ℕ → List Cell → Option Cell
-named n [] = none
-named n (c ∷ cs) = cond (eqb n (c .number)) (some c) (named n cs)
+-- "Where several neighbours qualify for a join, take the first"
+unfoldable pub neighbour : Flushed → Option Cell
+neighbour f = firstSome (λ side. firstThat (joinable side (f .cell)) (f .rest)) sides
 
 abbrev pub hull : Span → Span → Span
 hull s t = record { low = min (s .low) (t .low); high = max (s .high) (t .high) }
@@ -184,7 +200,7 @@ joinedWith f n =
     (withFree (settledFree 0 (larger (settled (f .store .free) (f .cell)) n .chain) (freeAfter (f .store .free) (f .cell)))
     (withMemo (sweptMemo (f .store .memo) (n .entries)) (f .store)))
 
--- "Any such neighbour may be taken": the one named
+-- without such a neighbour d keeps to itself
 abbrev pub joinOr : Option Cell → Flushed → Store
 joinOr none f = grown f
 joinOr (some n) f = joinedWith f n
@@ -192,33 +208,20 @@ joinOr (some n) f = joinedWith f n
 -- ---- the whole
 
 -- "Split, at most once a flush, when d has more than 32 entries and there are fewer than 64 cells."; "Join, after a flush that left d at most 32 entries"
-unfoldable pub reshaped : ℕ → Flushed → Store
-reshaped pick f =
+unfoldable pub reshaped : Flushed → Store
+reshaped f =
     cond (ltb pageEntries (length (f .cell .entries)))
     (cond (ltb (length (f .store .cells)) maxCells) (splitOr (chosenCut (f .store .cuts) (f .cell .edges) (f .cell .entries)) f) (grown f))
-    (joinOr (named pick (neighbours f)) f)
-
--- what is allowed of the neighbour's name: where cells may be joined, it is one of theirs
-unfoldable pub allowedAt : ℕ → Flushed → Bool
-allowedAt pick f =
-    either (ltb pageEntries (length (f .cell .entries)))
-    (either (eqb (length (neighbours f)) 0) (isSome (named pick (neighbours f))))
+    (joinOr (neighbour f) f)
 
 -- the cell in which a memory cell lies
 unfoldable pub cellOfBox : Store → Box → Option Cell
 cellOfBox s m = cellAt (s .cells) (cornerOf (s .cuts) m)
 
-abbrev flushOr : ℕ → Box → Store → Option Cell → Store
-flushOr pick m s none = s
-flushOr pick m s (some d) = reshaped pick (flushedInto m s d)
+abbrev flushOr : Box → Store → Option Cell → Store
+flushOr m s none = s
+flushOr m s (some d) = reshaped (flushedInto m s d)
 
 -- "Flush memory cell m with cell d"
-unfoldable pub flush : ℕ → Box → Store → Store
-flush pick m s = flushOr pick m s (cellOfBox s m)
-
-abbrev allowedOr : ℕ → Box → Store → Option Cell → Bool
-allowedOr pick m s none = true
-allowedOr pick m s (some d) = allowedAt pick (flushedInto m s d)
-
-unfoldable pub allowedFlush : ℕ → Box → Store → Bool
-allowedFlush pick m s = allowedOr pick m s (cellOfBox s m)
+unfoldable pub flush : Box → Store → Store
+flush m s = flushOr m s (cellOfBox s m)

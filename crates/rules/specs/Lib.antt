@@ -4,6 +4,7 @@ pub mod Flush
 pub mod Grid
 pub mod Limits
 pub mod Midway
+pub mod Neighbour
 pub mod Parts
 pub mod Plain
 pub mod Records

@@ -26,10 +26,10 @@ rangeBytes west east south north = fieldsOf (12 ∷ 4 ∷ west ∷ east ∷ sout
 
 -- ---- runs
 
--- the store after these records; no neighbour qualifies in these runs, so its name does not matter
+-- the store after these records
 unfoldable pub after : List (List ℕ) → Store → Store
 after [] s = s
-after (b ∷ bs) s = after bs (carry 0 s b [] .store)
+after (b ∷ bs) s = after bs (carry s b [] .store)
 
 -- radios from r on sign on, each at its place
 abbrev signOns : ℕ → ℕ → (ℕ → Place) → List (List ℕ)
@@ -134,7 +134,7 @@ abbrev pub points : List Point
 points = shortPoints ++ longPoints
 
 abbrev outcome : Point → Outcome
-outcome x = carry 0 (after (x .before) fresh) (x .bytes) (replicate (x .room) 0)
+outcome x = carry (after (x .before) fresh) (x .bytes) (replicate (x .room) 0)
 
 -- every point sees what it should
 abbrev pub Sees : List Point → Type 0
