@@ -1,106 +1,81 @@
 -- Lines marked: entries rise by radio, so that a line is marked by its radio's entry only, and what a sweep makes of the memo is each marked line lowered once.
-use mathlib.Core.Path.{_≡_, refl, sym, ap, _∙_, subst, fun-ext}
-use mathlib.Core.Bool.{Bool, false, not, cond}
+use mathlib.Core.Path.{_≡_, refl, sym, ap, _∙_, subst}
+use mathlib.Core.Bool.{Bool, false, cond}
 use mathlib.Core.List.{List, [], _∷_}
-use mathlib.Core.Option.{Option, none, some, Option·map}
+use mathlib.Core.Option.{Option, none, some}
 use Prim.Native.Nat.{ℕ, _≤_, _<_}
 use native.Mathlib.Omega.{arith}
 use lib.Dec.{eqb, ltb}
 use lib.ListN.{length, getD, set, replicate, length-set, length-replicate, getD-replicate}
 use lib.Seq.{getD-set-same, getD-set-other}
-use borrow.Author.Tests.{eqb-true, eqb-false, ltb-true, ltb-false, lt-ltb, le-ltb}
-use Rattle.terms.specs.Terms.{Place, Fix, maxOn}
-use Rattle.lists.specs.Rows.{Row, Rows, Rising, find, rank, putRow, passed}
+use borrow.Author.Tests.{eqb-true, eqb-false, ltb-true, ltb-false}
+use Rattle.terms.specs.Terms.{Place, Fix}
+use Rattle.lists.specs.Rows.{Row, Rows, Rising, find, rank, alter, putRow, passed}
 use Rattle.lists.specs.Sums.{filter}
-use Rattle.lists.specs.Tests.{one-if, isSome, orElse}
-use Rattle.lists.proofs.Cases.{by-cases, option-cases, none-some}
-use Rattle.lists.proofs.RowsLaws.{rising-less, find-below, rising-map, find-map, ext-find}
-use Rattle.lists.proofs.SumsLaws.{sum-le}
-use Rattle.lists.proofs.SearchLaws.{rank-cons, rank-le}
+use Rattle.lists.specs.Tests.{isSome, orElse}
+use Rattle.lists.proofs.Cases.{by-cases, option-cases}
+use Rattle.lists.proofs.RowsLaws.{rising-less, rising-alter, rising-filter, find-below, ext-find}
+use Rattle.lists.proofs.SearchLaws.{rank-le}
 use Rattle.entries.specs.declared.Entries.{Entries}
 use Rattle.entries.specs.Entries.{rowsOf}
 use Rattle.rules.specs.Store.{Line as StoreLine}
-use Rattle.rules.specs.Sweep.{staleBy, stale, sweptEntries, sweptMemo}
+use Rattle.rules.specs.Sweep.{stale, lowered, lowerEach, sweptEntries, sweptMemo}
 use Rattle.rules.proofs.BooksLaws.{loweredIf, find-sweptMemo}
 use Rattle.desk.specs.declared.Memo.{Memo}
 use Rattle.desk.specs.Layout.{lineSlots, memoOf}
 use Rattle.memo.specs.Memo.{linesOf, Whole}
 use Rattle.memo_sweep.specs.Lowering.{lowerIf, lowerWhere, markOf}
 use Rattle.memo_sweep.proofs.LowerLaws.{isSome-kept, in-slots}
-use Rattle.sweep.specs.Sweep.{linePlaces, lastsOf, elsewhere, isStale, stay, marked, SweepsAll}
-use Rattle.sweep.proofs.TableLaws.{rank-map}
-use Rattle.sweep.proofs.SweepLaws.{rising-sweptMemo}
-
--- ---- ranks
-
-below-le : (q r k : ℕ) → q ≤ r → one-if (ltb k q) ≤ one-if (ltb k r)
-below-le q r k h = by-cases (ltb k q) (λ t. rw (t, lt-ltb k r (omega (arith, ltb-true k q t))) (omega arith)) (λ t. rw t (omega arith))
-
-module _ {Val : Type 0} where
-  rank-rises : (q r : ℕ) (l : Rows Val) → q ≤ r → rank q l ≤ rank r l
-  unfolding rank
-  rank-rises q r l h = sum-le _ _ l (λ x. below-le q r (x .key) h)
-
-  -- past a key that is there
-  rank-past : (q r : ℕ) (l : Rows Val) (v : Val) → q < r → find l q ≡ some v → rank q l < rank r l
-  unfolding find
-  rank-past q r [] v h = none-some
-  rank-past q r (x ∷ l) v h =
-      by-cases (eqb q (x .key))
-      (λ t. rw t (λ e.
-      let z = eqb-true q (x .key) t in
-      rw (rank-cons q x l, rank-cons r x l, le-ltb (x .key) q (omega arith), lt-ltb (x .key) r (omega arith)) (omega (arith, rank-rises q r l (omega arith)))))
-      (λ t. rw t (λ e. omega (arith, rank-past q r l v h e, rank-cons q x l, rank-cons r x l, below-le q r (x .key) (omega arith))))
-
-  -- two keys that are there have two ranks
-  rank-apart : (q r : ℕ) (l : Rows Val) (v w : Val) → find l q ≡ some v → find l r ≡ some w → rank q l ≡ rank r l → q ≡ r
-  rank-apart q r l v w f g e =
-      by-cases (ltb q r)
-      (λ t. absurd (omega (arith, rank-past q r l v (ltb-true q r t) f)))
-      (λ t. by-cases (ltb r q)
-      (λ u. absurd (omega (arith, rank-past r q l w (ltb-true r q u) g)))
-      (λ u. omega (arith, ltb-false q r t, ltb-false r q u)))
+use Rattle.sweep.specs.Sweep.{linePlaces, rowsIn, State, begun, judged, walked}
+use Rattle.sweep.proofs.LinesLaws.{rank-past}
+use Rattle.sweep.proofs.TableLaws.{length-rowsIn}
 
 -- ---- marks
 
-module _ (lasts : Rows (Option Place)) where
-  abbrev next : List Bool → Row Fix → List Bool
-  next marks e = set marks (rank (e .key) lasts) (isStale lasts e)
+-- two keys that are there have two ranks
+rank-apart : {Val : Type 0} (q r : ℕ) (l : Rows Val) (v w : Val) → find l q ≡ some v → find l r ≡ some w → rank q l ≡ rank r l → q ≡ r
+rank-apart q r l v w f g e =
+    by-cases (ltb q r)
+    (λ t. absurd (omega (arith, rank-past q r l v (ltb-true q r t) f)))
+    (λ t. by-cases (ltb r q)
+    (λ u. absurd (omega (arith, rank-past r q l w (ltb-true r q u) g)))
+    (λ u. omega (arith, ltb-false q r t, ltb-false r q u)))
 
+module _ (l : Rows StoreLine) where
   -- later entries leave the mark of a line before them
-  mark-stays : (q : ℕ) (o : Option Place) (marks : List Bool) (es : Rows Fix) → find lasts q ≡ some o → Rising q es → getD (marked lasts marks es) (rank q lasts) false ≡ getD marks (rank q lasts) false
-  unfolding marked
-  mark-stays q o marks [] f a = refl
-  mark-stays q o marks (e ∷ es) f a =
-      mark-stays q o (next marks e) es f (rising-less q (e .key) es (omega arith) (a .1))
-      ∙ getD-set-other marks (rank (e .key) lasts) (rank q lasts) (isStale lasts e) false (λ z. absurd (omega (arith, rank-past q (e .key) lasts o (a .0) f)))
+  mark-stays : (q : ℕ) (v : StoreLine) (s : State) (es : Rows Fix) → find l q ≡ some v → Rising q es → getD (walked l s es .marks) (rank q l) false ≡ getD (s .marks) (rank q l) false
+  unfolding walked
+  mark-stays q v s [] f a = refl
+  mark-stays q v s (e ∷ es) f a =
+      mark-stays q v (judged l s e) es f (rising-less q (e .key) es (omega arith) (a .1))
+      ∙ getD-set-other (s .marks) (rank (e .key) l) (rank q l) (stale l e) false (λ z. absurd (omega (arith, rank-past q (e .key) l v (a .0) f)))
 
   -- an entry of another radio leaves a line without a mark
-  mark-other : (q : ℕ) (o : Option Place) (marks : List Bool) (e : Row Fix) → find lasts q ≡ some o → (q ≡ e .key → ⊥) → rank q lasts < length marks → getD marks (rank q lasts) false ≡ false
-      → getD (next marks e) (rank q lasts) false ≡ false
-  mark-other q o marks e f n h z =
-      by-cases (eqb (rank q lasts) (rank (e .key) lasts))
-      (λ t. let r = eqb-true (rank q lasts) (rank (e .key) lasts) t in
-      ap (λ (k : ℕ). getD (next marks e) k false) r ∙ getD-set-same marks (rank (e .key) lasts) (isStale lasts e) false (omega arith)
-      ∙ option-cases (find lasts (e .key)) (λ g. rw g) (λ w g. absurd (n (rank-apart q (e .key) lasts o w f g r))))
-      (λ t. getD-set-other marks (rank (e .key) lasts) (rank q lasts) (isStale lasts e) false (eqb-false (rank q lasts) (rank (e .key) lasts) t) ∙ z)
+  mark-other : (q : ℕ) (v : StoreLine) (marks : List Bool) (e : Row Fix) → find l q ≡ some v → (q ≡ e .key → ⊥) → rank q l < length marks → getD marks (rank q l) false ≡ false
+      → getD (set marks (rank (e .key) l) (stale l e)) (rank q l) false ≡ false
+  mark-other q v marks e f n h z =
+      by-cases (eqb (rank q l) (rank (e .key) l))
+      (λ t. let r = eqb-true (rank q l) (rank (e .key) l) t in
+      ap (λ (k : ℕ). getD (set marks (rank (e .key) l) (stale l e)) k false) r ∙ getD-set-same marks (rank (e .key) l) (stale l e) false (omega arith)
+      ∙ option-cases (find l (e .key)) (λ g. rw g) (λ w g. absurd (n (rank-apart q (e .key) l v w f g r))))
+      (λ t. getD-set-other marks (rank (e .key) l) (rank q l) (stale l e) false (eqb-false (rank q l) (rank (e .key) l) t) ∙ z)
 
   -- a line is marked by its radio's entry
-  mark-found : (b q : ℕ) (o : Option Place) (marks : List Bool) (es : Rows Fix) → find lasts q ≡ some o → Rising b es → rank q lasts < length marks → getD marks (rank q lasts) false ≡ false
-      → getD (marked lasts marks es) (rank q lasts) false ≡ isSome (passed (isStale lasts) q (find es q))
-  unfolding marked find
-  mark-found b q o marks [] f a h z = z
-  mark-found b q o marks (e ∷ es) f a h z =
+  mark-found : (b q : ℕ) (v : StoreLine) (s : State) (es : Rows Fix) → find l q ≡ some v → Rising b es → rank q l < length (s .marks) → getD (s .marks) (rank q l) false ≡ false
+      → getD (walked l s es .marks) (rank q l) false ≡ isSome (passed (stale l) q (find es q))
+  unfolding walked find
+  mark-found b q v s [] f a h z = z
+  mark-found b q v s (e ∷ es) f a h z =
       by-cases (eqb q (e .key))
       (λ t. let k = eqb-true q (e .key) t in
       rw t
-      (mark-stays q o (next marks e) es f (rising-less q (e .key) es (omega arith) (a .1))
-      ∙ ap (λ (j : ℕ). getD (next marks e) (rank j lasts) false) k
-      ∙ getD-set-same marks (rank (e .key) lasts) (isStale lasts e) false (subst (λ (j : ℕ). rank j lasts < length marks) k h)
-      ∙ ap (λ (j : ℕ). isStale lasts (record { key = j; val = e .val })) (sym k)
-      ∙ sym (isSome-kept (isStale lasts (record { key = q; val = e .val })) (e .val))))
+      (mark-stays q v (judged l s e) es f (rising-less q (e .key) es (omega arith) (a .1))
+      ∙ ap (λ (j : ℕ). getD (judged l s e .marks) (rank j l) false) k
+      ∙ getD-set-same (s .marks) (rank (e .key) l) (stale l e) false (subst (λ (j : ℕ). rank j l < length (s .marks)) k h)
+      ∙ ap (λ (j : ℕ). stale l (record { key = j; val = e .val })) (sym k)
+      ∙ sym (isSome-kept (stale l (record { key = q; val = e .val })) (e .val))))
       (λ t. rw t
-      (mark-found (e .key) q o (next marks e) es f (a .1) (rw (length-set marks (rank (e .key) lasts) (isStale lasts e)) h) (mark-other q o marks e f (eqb-false q (e .key) t) h z)))
+      (mark-found (e .key) q v (judged l s e) es f (a .1) (rw (length-set (s .marks) (rank (e .key) l) (stale l e)) h) (mark-other q v (s .marks) e f (eqb-false q (e .key) t) h z)))
 
 -- ---- lines
 
@@ -144,16 +119,10 @@ module _ (mark : Row StoreLine → Bool) where
 
 -- ---- the memo swept
 
-stale-last : (o : Option StoreLine) (p : Place) → elsewhere (Option·map (λ v. v .last) o) p ≡ staleBy o p
-stale-last none p = refl
-stale-last (some v) p = refl
-
-stale-lasts : (l : Rows StoreLine) (e : Row Fix) → isStale (lastsOf l) e ≡ stale l e
-stale-lasts l e = ap (λ o. elsewhere o (e .val)) (find-map (λ v. v .last) (e .key) l) ∙ stale-last (find l (e .key)) (e .val)
-
-pub stay-swept : (l : Rows StoreLine) (es : Rows Fix) → stay (lastsOf l) es ≡ sweptEntries l es
-unfolding stay sweptEntries
-stay-swept l es = ap (λ (p : Row Fix → Bool). filter (λ e. not (p e)) es) (fun-ext (stale-lasts l))
+rising-lower : (b : ℕ) (es : Rows Fix) (l : Rows StoreLine) → Rising b es → Rising 0 l → Rising 0 (lowerEach es l)
+unfolding lowerEach
+rising-lower b [] l a r = r
+rising-lower b (e ∷ es) l a r = rising-lower (e .key) es (alter lowered (e .key) l) (a .1) (rising-alter lowered 0 (e .key) l (omega arith) r)
 
 lowered-none : (o : Option Place) → loweredIf o none ≡ none
 lowered-none none = refl
@@ -165,17 +134,17 @@ lowered-some (some p) v = refl
 
 module _ (l : Rows StoreLine) (es : Rows Fix) (rising : Rising 0 es) (lines : Rising 0 l) where
   abbrev marks : List Bool
-  marks = marked (lastsOf l) (replicate linePlaces false) es
+  marks = walked l (begun (replicate linePlaces false)) es .marks
+
+  rising-sweptMemo : Rising 0 (sweptMemo l es)
+  unfolding sweptMemo
+  rising-sweptMemo = rising-lower 0 (filter (stale l) es) l (rising-filter (stale l) 0 es rising) lines
 
   module _ (few : length l ≤ lineSlots) where
     line-marked : (r : ℕ) (v : StoreLine) → find l r ≡ some v → getD marks (rank r l) false ≡ isSome (passed (stale l) r (find es r))
     line-marked r v f =
-        let g : find (lastsOf l) r ≡ some (v .last) = find-map (λ v. v .last) r l ∙ ap (Option·map (λ v. v .last)) f in
-        let k = rank-map (λ (v : StoreLine). v .last) r l in
-        let h : rank r (lastsOf l) < linePlaces = omega (arith, k, rank-le r l) in
-        ap (λ (i : ℕ). getD marks i false) (sym k)
-        ∙ mark-found (lastsOf l) 0 r (v .last) (replicate linePlaces false) es g rising (rw (length-replicate linePlaces false) h) (getD-replicate linePlaces (rank r (lastsOf l)) false false h)
-        ∙ ap (λ (p : Row Fix → Bool). isSome (passed p r (find es r))) (fun-ext (stale-lasts l))
+        let h : rank r l < linePlaces = omega (arith, rank-le r l) in
+        mark-found l 0 r v (begun (replicate linePlaces false)) es f rising (rw (length-replicate linePlaces false) h) (getD-replicate linePlaces (rank r l) false false h)
 
     lower-found : (r : ℕ) → lowerFound (markOf marks l) r (find l r) ≡ loweredIf (passed (stale l) r (find es r)) (find l r)
     lower-found r =
@@ -185,27 +154,17 @@ module _ (l : Rows StoreLine) (es : Rows Fix) (rising : Rising 0 es) (lines : Ri
 
     lower-swept : lowerWhere (markOf marks l) l ≡ sweptMemo l es
     lower-swept =
-        ext-find 0 (lowerWhere (markOf marks l) l) (sweptMemo l es) (rising-lowerWhere (markOf marks l) 0 l lines) (rising-sweptMemo l es rising lines)
+        ext-find 0 (lowerWhere (markOf marks l) l) (sweptMemo l es) (rising-lowerWhere (markOf marks l) 0 l lines) rising-sweptMemo
         (λ r. find-lowerWhere (markOf marks l) 0 r l lines ∙ lower-found r ∙ sym (find-sweptMemo l es lines rising r))
 
 -- ---- the call
 
-pub chain-rising : (m : Memo) {lasts : Rows (Option Place)} → Rising 0 (linesOf m) → lasts ≡ lastsOf (linesOf m) → Rising 0 lasts
-chain-rising m lines read = rw read (rising-map (λ v. v .last) 0 (linesOf m) lines)
-
-module _ (m : Memo) (es : Rows Fix) {lasts : Rows (Option Place)} (read : lasts ≡ lastsOf (linesOf m)) where
-  same-stay : stay lasts es ≡ sweptEntries (linesOf m) es
-  same-stay = ap (λ (l : Rows (Option Place)). stay l es) read ∙ stay-swept (linesOf m) es
-
-  pub chain-room : length (sweptEntries (linesOf m) es) ≤ maxOn → length (stay lasts es) ≤ maxOn
-  chain-room h = rw same-stay h
-
-  pub chain-swept : {table : Entries} {after : List Bool} {r : Memo} → Whole m → m .n ≤ lineSlots → Rising 0 (linesOf m) → Rising 0 es → SweepsAll lasts (replicate linePlaces false) es table after
-      → r ≡ memoOf (lowerWhere (markOf after (linesOf m)) (linesOf m))
-      → (rowsOf table ≡ sweptEntries (linesOf m) es) × (table .n ≡ length (sweptEntries (linesOf m) es)) × (r ≡ memoOf (sweptMemo (linesOf m) es))
-  chain-swept {table} {after} {r} whole few lines a s q = (
-    s .rows ∙ same-stay,
-    s .count ∙ ap length same-stay,
-    q ∙ ap (λ (b : List Bool). memoOf (lowerWhere (markOf b (linesOf m)) (linesOf m))) (s .marks ∙ ap (λ (l : Rows (Option Place)). marked l (replicate linePlaces false) es) read)
-        ∙ ap memoOf (lower-swept (linesOf m) es a lines (omega (arith, in-slots m whole .count))),
-  )
+pub chain-swept : (m : Memo) (es : Rows Fix) (table : Entries) (k : ℕ) (radios easts norths : List ℕ) {after : List Bool} {r : Memo} → Whole m → m .n ≤ lineSlots → Rising 0 (linesOf m) → Rising 0 es
+    → rowsIn k radios easts norths ≡ sweptEntries (linesOf m) es → after ≡ walked (linesOf m) (begun (replicate linePlaces false)) es .marks
+    → (rowsOf table ≡ rowsIn k radios easts norths) × (table .n ≡ k) → r ≡ memoOf (lowerWhere (markOf after (linesOf m)) (linesOf m))
+    → (rowsOf table ≡ sweptEntries (linesOf m) es) × (table .n ≡ length (sweptEntries (linesOf m) es)) × (r ≡ memoOf (sweptMemo (linesOf m) es))
+chain-swept m es table k radios easts norths {after} {r} whole few lines a stay marked read low = (
+  read .0 ∙ stay,
+  read .1 ∙ sym (length-rowsIn k radios easts norths) ∙ ap length stay,
+  low ∙ ap (λ (b : List Bool). memoOf (lowerWhere (markOf b (linesOf m)) (linesOf m))) marked ∙ ap memoOf (lower-swept (linesOf m) es a lines (omega (arith, in-slots m whole .count))),
+)

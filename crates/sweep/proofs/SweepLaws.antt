@@ -1,35 +1,32 @@
--- A run of entries, page after page: each is judged by the same last places, so that one run after another is one run of both.
+-- A run of entries, page after page: what one run reaches is where the next begins, so that one run after another is one run of both.
 use mathlib.Core.Path.{_≡_, refl, sym, ap, _∙_, subst}
-use mathlib.Core.Bool.{Bool, true, false, not, cond}
+use mathlib.Core.Bool.{Bool, true, false, not}
 use mathlib.Core.List.{List, [], _∷_, _++_, append-assoc, append-nil, map, map-append}
-use mathlib.Core.Option.{Option}
 use Prim.Native.Nat.{ℕ, zero, suc, _+_, _-_, _≤_, _<_}
 use native.Mathlib.Omega.{arith}
 use native.Mathlib.Nat.{add-zero}
 use native.Mathlib.Numerals.{add-one}
 use lib.ListN.{length, length-append, getD, set, take, drop, take-append-drop}
-use lib.Seq.{getD-take, length-take-le, take-suc, take-take, set-getD}
-use borrow.Author.Tests.{lt-ltb, le-ltb}
-use Rattle.terms.specs.Terms.{Place, Fix, maxOn, pages}
+use lib.Seq.{getD-take, length-take-le, take-suc, take-take}
+use Rattle.terms.specs.Terms.{Fix, maxOn, pages}
 use Rattle.lists.specs.Parts.{tab}
-use Rattle.lists.specs.Rows.{Row, Rows, Rising, rank, alter}
+use Rattle.lists.specs.Rows.{Row, Rows, Rising, rank}
 use Rattle.lists.specs.Sums.{filter, concat}
 use Rattle.lists.specs.Tests.{Each, one-if}
 use Rattle.lists.proofs.Cases.{by-cases}
 use Rattle.lists.proofs.PartsLaws.{tab-suc}
-use Rattle.lists.proofs.RowsLaws.{rising-alter, rising-filter}
+use Rattle.lists.proofs.RowsLaws.{rising-less, rising-above}
 use Rattle.lists.proofs.SumsLaws.{filter-append}
-use Rattle.lists.proofs.TestsLaws.{each-getD}
+use Rattle.lists.proofs.TestsLaws.{each-map, each-split, each-getD, each-every}
 use Rattle.entries.specs.declared.Entry.{Entry}
-use Rattle.entries.specs.declared.Entries.{Entries}
-use Rattle.entries.specs.Entries.{rowOf, rowsOf}
-use Rattle.entries.proofs.TableLaws.{rows-push}
+use Rattle.entries.specs.Entries.{rowOf}
 use Rattle.page.specs.Page.{count, entryAt, entries}
 use Rattle.page.specs.Buffer.{pageAt, there, entriesOn}
 use Rattle.rules.specs.Store.{Line}
-use Rattle.rules.specs.Sweep.{stale, lowered, lowerEach, sweptMemo}
-use Rattle.sweep.specs.Sweep.{radiosIn, lastsIn, isStale, stay, marked, slotAfter, Ready, Sweeps, SweepsAll}
-use Rattle.sweep.proofs.TableLaws.{rank-radios}
+use Rattle.rules.specs.Sweep.{stale, sweptEntries}
+use Rattle.sweep.specs.Sweep.{rowsIn, Roomy, State, stateOf, begun, judged, walked, Ready}
+use Rattle.sweep.proofs.LinesLaws.{rank-rises}
+use Rattle.sweep.proofs.TableLaws.{length-rowsIn, rows-skip, rows-more, rows-none}
 
 -- ---- lists
 
@@ -49,137 +46,138 @@ module _ {A : Type 0} where
       ap (λ (j : ℕ). tab j f) e ∙ tab-suc (n + k) f ∙ ap (λ (l : List A). l ++ (f (n + k) ∷ [])) (tab-front n k f) ∙ append-assoc (tab n f) (tab k g) (f (n + k) ∷ [])
       ∙ ap (λ (l : List A). tab n f ++ l) (sym (tab-suc k g)) ∙ ap (λ (j : ℕ). tab n f ++ tab j g) (sym u)
 
+module _ {Val : Type 0} where
+  rising-front : (b : ℕ) (es later : Rows Val) → Rising b (es ++ later) → Rising b es
+  rising-front b [] later a = tt
+  rising-front b (e ∷ es) later a = (a .0, rising-front (e .key) es later (a .1))
+
+  rising-rest : (b : ℕ) (es later : Rows Val) → Rising b (es ++ later) → Rising 0 later
+  rising-rest b [] later a = rising-less 0 b later (omega arith) a
+  rising-rest b (e ∷ es) later a = rising-rest (e .key) es later (a .1)
+
 -- ---- one run of entries after another
 
-module _ (l : Rows (Option Place)) where
-  stay-append : (a b : Rows Fix) → stay l (a ++ b) ≡ stay l a ++ stay l b
-  unfolding stay
-  stay-append a b = filter-append (λ e. not (isStale l e)) a b
+module _ (l : Rows Line) where
+  swept-append : (a b : Rows Fix) → sweptEntries l (a ++ b) ≡ sweptEntries l a ++ sweptEntries l b
+  unfolding sweptEntries
+  swept-append a b = filter-append (λ e. not (stale l e)) a b
 
-  marked-append : (marks : List Bool) (a b : Rows Fix) → marked l marks (a ++ b) ≡ marked l (marked l marks a) b
-  unfolding marked
-  marked-append marks [] b = refl
-  marked-append marks (e ∷ a) b = marked-append (set marks (rank (e .key) l) (isStale l e)) a b
+  walked-append : (s : State) (a b : Rows Fix) → walked l s (a ++ b) ≡ walked l (walked l s a) b
+  unfolding walked
+  walked-append s [] b = refl
+  walked-append s (e ∷ a) b = walked-append (judged l s e) a b
 
-  sweeps-none : (t : Entries) (marks : List Bool) → Sweeps l t marks [] t marks
-  unfolding stay filter marked
-  sweeps-none t marks = record { table = sym (append-nil (rowsOf t)); count = omega arith; marks = refl }
+  walked-one : (s : State) (e : Row Fix) → walked l s (e ∷ []) ≡ judged l s e
+  unfolding walked
+  walked-one s e = refl
 
-module _ {l : Rows (Option Place)} (es later : Rows Fix) {s : Entries} (ready : Ready l s (es ++ later)) where
-  parts : length (stay l (es ++ later)) ≡ length (stay l es) + length (stay l later)
-  parts = ap length (stay-append l es later) ∙ length-append (stay l es) (stay l later)
+  walked-none : (s : State) → s ≡ walked l s []
+  unfolding walked
+  walked-none s = refl
+
+  walked-stay : (s : State) (es : Rows Fix) → walked l s es .stay ≡ s .stay ++ sweptEntries l es
+  unfolding walked
+  walked-stay s [] = unfold sweptEntries filter in sym (append-nil (s .stay))
+  walked-stay s (e ∷ es) =
+      walked-stay (judged l s e) es
+      ∙ append-assoc (s .stay) (sweptEntries l (e ∷ [])) (sweptEntries l es)
+      ∙ ap (λ (x : Rows Fix). s .stay ++ x) (sym (swept-append (e ∷ []) es))
+
+  -- no entry that follows needs a line that was passed
+  walked-ahead : (b : ℕ) (s : State) (es later : Rows Fix) → Rising b (es ++ later) → Each (λ e. s .passed ≤ rank (e .key) l) later → Each (λ e. walked l s es .passed ≤ rank (e .key) l) later
+  unfolding walked
+  walked-ahead b s [] later a h = h
+  walked-ahead b s (e ∷ es) later a h =
+      walked-ahead (e .key) (judged l s e) es later (a .1)
+      (each-map _ _ later (λ x k. rank-rises (e .key) (x .key) l (omega arith)) (each-split _ es later (rising-above (e .key) (es ++ later) (a .1)) .1))
+
+module _ {l : Rows Line} {s : State} (es later : Rows Fix) (ready : Ready l s (es ++ later)) where
+  parts : length (sweptEntries l (es ++ later)) ≡ length (sweptEntries l es) + length (sweptEntries l later)
+  parts = ap length (swept-append l es later) ∙ length-append (sweptEntries l es) (sweptEntries l later)
 
   ready-front : Ready l s es
-  ready-front = record { rising = ready .rising; room = omega (arith, ready .room, parts) }
+  ready-front = record { rising = rising-front 0 es later (ready .rising); ahead = each-split _ es later (ready .ahead) .0; room = omega (arith, ready .room, parts) }
 
-  module _ {m : List Bool} {t : Entries} {n : List Bool} (done : Sweeps l s m es t n) where
-    ready-then : Ready l t later
-    ready-then = record { rising = ready .rising; room = omega (arith, ready .room, done .count, parts) }
-
-    sweeps-then : {r : Entries} {k : List Bool} → Sweeps l t n later r k → Sweeps l s m (es ++ later) r k
-    sweeps-then {r} {k} then = record {
-      table = then .table ∙ ap (λ (x : Rows Fix). x ++ stay l later) (done .table) ∙ append-assoc (rowsOf s) (stay l es) (stay l later) ∙ ap (λ (x : Rows Fix). rowsOf s ++ x) (sym (stay-append l es later));
-      count = omega (arith, then .count, done .count, parts);
-      marks = then .marks ∙ ap (λ (x : List Bool). marked l x later) (done .marks) ∙ sym (marked-append l m es later);
-    }
+  ready-then : Ready l (walked l s es) later
+  ready-then = record {
+    rising = rising-rest 0 es later (ready .rising);
+    ahead = walked-ahead l 0 s es later (ready .rising) (each-split _ es later (ready .ahead) .1);
+    room = omega (arith, ready .room, parts, ap length (walked-stay l s es), length-append (s .stay) (sweptEntries l es));
+  }
 
 -- ---- one entry
 
-abbrev noEntry : Entry
-noEntry = record { radio = 0; east = 0; north = 0 }
-
-module _ (l : Rows (Option Place)) (x : Row Fix) where
-  one-goes : isStale l x ≡ true → stay l (x ∷ []) ≡ []
-  unfolding stay filter
+module _ (l : Rows Line) (x : Row Fix) where
+  one-goes : stale l x ≡ true → sweptEntries l (x ∷ []) ≡ []
+  unfolding sweptEntries filter
   one-goes t = rw t
 
-  one-stays : isStale l x ≡ false → stay l (x ∷ []) ≡ x ∷ []
-  unfolding stay filter
+  one-stays : stale l x ≡ false → sweptEntries l (x ∷ []) ≡ x ∷ []
+  unfolding sweptEntries filter
   one-stays t = rw t
 
-  one-marks : (marks : List Bool) → marked l marks (x ∷ []) ≡ set marks (rank (x .key) l) (isStale l x)
-  unfolding marked
-  one-marks marks = refl
+module _ (l : Rows Line) (e : Entry) (k : ℕ) (radios easts norths : List ℕ) (roomy : Roomy radios easts norths) (room : length (rowsIn k radios easts norths) + length (sweptEntries l (rowOf e ∷ [])) ≤ maxOn) where
+  abbrev rows : ℕ → Rows Fix
+  rows n = rowsIn n (set radios k (e .radio)) (set easts k (e .east)) (set norths k (e .north))
 
-module _ {l : Rows (Option Place)} (e : Entry) {k : ℕ} {all : List Entry} (size : length all ≡ maxOn) (ready : Ready l (record { n = k; all = all }) (rowOf e ∷ [])) where
-  abbrev then : Bool → Entries
-  then b = record { n = k + one-if (not b); all = set all (slotAfter k) (cond b (getD all (slotAfter k) noEntry) e) }
-
-  entry-goes : (marks : List Bool) → isStale l (rowOf e) ≡ true → Sweeps l (record { n = k; all = all }) marks (rowOf e ∷ []) (then true) (set marks (rank (e .radio) l) (isStale l (rowOf e)))
-  entry-goes marks t =
-      let o = one-goes l (rowOf e) t in
-      record {
-        table = ap (λ (y : List Entry). rowsOf (record { n = k + 0; all = y })) (set-getD all (slotAfter k) noEntry) ∙ ap (λ (j : ℕ). rowsOf (record { n = j; all = all })) (add-zero k)
-            ∙ sym (append-nil (rowsOf (record { n = k; all = all }))) ∙ ap (λ (y : Rows Fix). rowsOf (record { n = k; all = all }) ++ y) (sym o);
-        count = omega (arith, ap length o);
-        marks = sym (one-marks l (rowOf e) marks);
-      }
-
-  entry-stays : (marks : List Bool) → isStale l (rowOf e) ≡ false → Sweeps l (record { n = k; all = all }) marks (rowOf e ∷ []) (then false) (set marks (rank (e .radio) l) (isStale l (rowOf e)))
-  unfolding slotAfter
-  entry-stays marks t =
-      let o = one-stays l (rowOf e) t in
-      let room : k < maxOn = omega (arith, ready .room, ap length o) in
-      record {
-        table = rw (lt-ltb k maxOn room) (rows-push (record { n = k; all = all }) e (omega arith)) ∙ ap (λ (y : Rows Fix). rowsOf (record { n = k; all = all }) ++ y) (sym o);
-        count = omega (arith, ap length o);
-        marks = sym (one-marks l (rowOf e) marks);
-      }
-
-  entry-swept : (marks : List Bool) → Sweeps l (record { n = k; all = all }) marks (rowOf e ∷ []) (then (isStale l (rowOf e))) (set marks (rank (e .radio) l) (isStale l (rowOf e)))
-  entry-swept marks =
-      by-cases (isStale l (rowOf e))
-      (λ t. subst (λ (b : Bool). Sweeps l (record { n = k; all = all }) marks (rowOf e ∷ []) (then b) (set marks (rank (e .radio) l) (isStale l (rowOf e)))) (sym t) (entry-goes marks t))
-      (λ t. subst (λ (b : Bool). Sweeps l (record { n = k; all = all }) marks (rowOf e ∷ []) (then b) (set marks (rank (e .radio) l) (isStale l (rowOf e)))) (sym t) (entry-stays marks t))
-
-pub slot-room : (n : ℕ) → n < maxOn → n ≡ slotAfter n
-unfolding slotAfter
-slot-room n h = rw (lt-ltb n maxOn h)
-
-pub slot-full : (n : ℕ) → maxOn ≤ n → maxOn - 1 ≡ slotAfter n
-unfolding slotAfter
-slot-full n h = rw (le-ltb n maxOn h)
+  rows-judged : rows (k + one-if (not (stale l (rowOf e)))) ≡ rowsIn k radios easts norths ++ sweptEntries l (rowOf e ∷ [])
+  rows-judged =
+      by-cases (stale l (rowOf e))
+      (λ t. let o = one-goes l (rowOf e) t in
+      ap (λ (b : Bool). rows (k + one-if (not b))) t ∙ ap rows (add-zero k) ∙ rows-skip e k radios easts norths
+      ∙ sym (append-nil (rowsIn k radios easts norths)) ∙ ap (λ (y : Rows Fix). rowsIn k radios easts norths ++ y) (sym o))
+      (λ t. let o = one-stays l (rowOf e) t in
+      ap (λ (b : Bool). rows (k + one-if (not b))) t
+      ∙ rows-more e k radios easts norths roomy (omega (arith, ap length o, length-rowsIn k radios easts norths))
+      ∙ ap (λ (y : Rows Fix). rowsIn k radios easts norths ++ y) (sym o))
 
 -- ---- the entries of a page
 
-pub page-few : {l : Rows (Option Place)} {t : Entries} {es : Rows Fix} → Ready l t es → t .n ≤ maxOn + 0
-page-few r = omega (arith, r .room)
+pub page-few : {l : Rows Line} (k at : ℕ) (radios easts norths : List ℕ) {marks : List Bool} {es : Rows Fix} → Ready l (stateOf (record { at = at; kept = k }) radios easts norths marks) es → k ≤ maxOn + 0
+page-few k at radios easts norths r = omega (arith, r .room, length-rowsIn k radios easts norths)
 
-pub page-start : (l : Rows (Option Place)) (t : Entries) (marks : List Bool) (v : List ℕ) → Sweeps l t marks (tab 0 (entryAt v)) t marks
+pub page-start : (l : Rows Line) (s : State) (v : List ℕ) → s ≡ walked l s (tab 0 (entryAt v))
 unfolding tab
-page-start l t marks v = sweeps-none l t marks
+page-start l s v = walked-none l s
 
-module _ {l : Rows (Option Place)} {s t : Entries} {m marks : List Bool} (b v : List ℕ) (p : ℕ) {n i : ℕ} (ready : Ready l s (entries (pageAt b p))) (here : v ≡ pageAt b p) (many : n ≡ count v)
-    (done : Sweeps l s m (tab i (entryAt v)) t marks) where
-  pub page-end : i ≤ n → n ≤ i → Sweeps l s m (entries (pageAt b p)) t marks
+module _ {l : Rows Line} {s t : State} (b v : List ℕ) (p : ℕ) {n i : ℕ} (ready : Ready l s (entries (pageAt b p))) (here : v ≡ pageAt b p) (many : n ≡ count v)
+    (done : t ≡ walked l s (tab i (entryAt v))) where
+  pub page-end : i ≤ n → n ≤ i → t ≡ walked l s (entries (pageAt b p))
   unfolding entries
-  page-end h k = let z : i ≡ count v = omega arith in subst (λ (w : List ℕ). Sweeps l s m (entries w) t marks) here (subst (λ (j : ℕ). Sweeps l s m (tab j (entryAt v)) t marks) z done)
+  page-end h k =
+      let z : i ≡ count v = omega arith in
+      done ∙ ap (λ (j : ℕ). walked l s (tab j (entryAt v))) z ∙ ap (λ (w : List ℕ). walked l s (entries w)) here
 
   module _ (more : i < n) {e : Entry} (read : rowOf e ≡ entryAt v i) where
-    next : Ready l s (tab i (entryAt v) ++ (rowOf e ∷ []))
+    front : Ready l s (tab i (entryAt v) ++ (rowOf e ∷ []))
     unfolding entries
-    next =
+    front =
         let f : ℕ → Row Fix = entryAt v in
         let k : ℕ = n - (i + 1) in
         let z : count v ≡ i + 1 + k = omega arith in
         let whole : Ready l s (tab (i + 1 + k) f) = subst (λ (j : ℕ). Ready l s (tab j f)) z (subst (λ (w : List ℕ). Ready l s (entries w)) (sym here) ready) in
-        let front : Ready l s (tab (i + 1) f) = ready-front (tab (i + 1) f) (tab k (λ j. f (i + 1 + j))) (subst (λ (x : Rows Fix). Ready l s x) (tab-front (i + 1) k f) whole) in
-        subst (λ (x : Row Fix). Ready l s (tab i f ++ (x ∷ []))) (sym read) (subst (λ (x : Rows Fix). Ready l s x) (tab-suc i f) front)
+        let part : Ready l s (tab (i + 1) f) = ready-front (tab (i + 1) f) (tab k (λ j. f (i + 1 + j))) (subst (λ (x : Rows Fix). Ready l s x) (tab-front (i + 1) k f) whole) in
+        subst (λ (x : Row Fix). Ready l s (tab i f ++ (x ∷ []))) (sym read) (subst (λ (x : Rows Fix). Ready l s x) (tab-suc i f) part)
 
-    page-then : {r : Entries} {k : List Bool} → Sweeps l t marks (rowOf e ∷ []) r k → Sweeps l s m (tab (i + 1) (entryAt v)) r k
-    page-then g = rw (tab-suc i (entryAt v), ← read) (sweeps-then (tab i (entryAt v)) (rowOf e ∷ []) next done g)
+    next : Ready l t (rowOf e ∷ [])
+    next = subst (λ (x : State). Ready l x (rowOf e ∷ [])) (sym done) (ready-then (tab i (entryAt v)) (rowOf e ∷ []) front)
 
-pub page-turn : (n : ℕ) (radios placed easts norths : List ℕ) {s : Entries} {m marks : List Bool} (b v : List ℕ) (p : ℕ) {c i k : ℕ} {all : List Entry}
-    → length all ≡ maxOn → Ready (lastsIn n radios placed easts norths) s (entries (pageAt b p)) → v ≡ pageAt b p → c ≡ count v
-    → Sweeps (lastsIn n radios placed easts norths) s m (tab i (entryAt v)) (record { n = k; all = all }) marks → i < c
-    → {e f : Entry} {at slot d : ℕ} {g : Bool} → rowOf e ≡ entryAt v i → at ≡ rank (e .radio) (radiosIn n radios) → g ≡ isStale (lastsIn n radios placed easts norths) (rowOf e)
-    → slot ≡ slotAfter k → f ≡ cond g (getD all slot noEntry) e → d ≡ one-if (not g)
-    → Sweeps (lastsIn n radios placed easts norths) s m (tab (i + 1) (entryAt v)) (record { n = k + d; all = set all slot f }) (set marks at g)
-page-turn n radios placed easts norths {s} {m} {marks} b v p {c} {i} {k} {all} size ready here many done more {e} {f} {at} {slot} {d} {g} read q stale z y w =
-    let l : Rows (Option Place) = lastsIn n radios placed easts norths in
-    let a : at ≡ rank (e .radio) l = q ∙ rank-radios n radios placed easts norths (e .radio) in
-    page-then b v p ready here many done more read
-    (rw (y, w, a, z, stale) (entry-swept e size (ready-then (tab i (entryAt v)) (rowOf e ∷ []) (next b v p ready here many done more read) done) marks))
+    pub page-ahead : t .passed ≤ rank (e .radio) l
+    page-ahead = next .ahead .0
+
+    page-then : judged l t (rowOf e) ≡ walked l s (tab (i + 1) (entryAt v))
+    page-then =
+        ap (λ (x : State). judged l x (rowOf e)) done ∙ sym (walked-one l (walked l s (tab i (entryAt v))) (rowOf e)) ∙ sym (walked-append l s (tab i (entryAt v)) (rowOf e ∷ []))
+        ∙ ap (walked l s) (ap (λ (x : Row Fix). tab i (entryAt v) ++ (x ∷ [])) read ∙ sym (tab-suc i (entryAt v)))
+
+pub page-turn : {l : Rows Line} {s : State} {at : ℕ} (k : ℕ) (radios easts norths : List ℕ) {marks : List Bool} (b v : List ℕ) (p : ℕ) {n i : ℕ}
+    → Ready l s (entries (pageAt b p)) → v ≡ pageAt b p → n ≡ count v → stateOf (record { at = at; kept = k }) radios easts norths marks ≡ walked l s (tab i (entryAt v)) → i < n
+    → {e : Entry} {next d : ℕ} {g : Bool} {radios′ easts′ norths′ : List ℕ} → rowOf e ≡ entryAt v i → Roomy radios easts norths → next ≡ rank (e .radio) l → g ≡ stale l (rowOf e)
+    → (radios′ ≡ set radios k (e .radio)) × (easts′ ≡ set easts k (e .east)) × (norths′ ≡ set norths k (e .north)) × Roomy radios′ easts′ norths′ → d ≡ one-if (not g)
+    → stateOf (record { at = next; kept = k + d }) radios′ easts′ norths′ (set marks next g) ≡ walked l s (tab (i + 1) (entryAt v))
+page-turn {l} {s} {at} k radios easts norths {marks} b v p {n} {i} ready here many done more {e} read roomy q t put w =
+    let r = rows-judged l e k radios easts norths roomy (next b v p ready here many done more read .room) in
+    rw (put .0, put .1, put .2, w, q, t, r) (page-then b v p ready here many done more read)
 
 -- ---- the pages of a chain
 
@@ -191,12 +189,12 @@ entriesOn-one : (b : List ℕ) (p : ℕ) → entriesOn b (p ∷ []) ≡ entries 
 unfolding entriesOn concat
 entriesOn-one b p = append-nil (entries (pageAt b p))
 
-pub chain-begins : (l : Rows (Option Place)) (t : Entries) {es : Rows Fix} → Rising 0 l → t .n ≡ 0 → length (stay l es) ≤ maxOn → Ready l t es
-chain-begins l t a z r = record { rising = a; room = omega arith }
+pub chain-begins : {l : Rows Line} (radios easts norths : List ℕ) {marks : List Bool} (es : Rows Fix) → Rising 0 es → length (sweptEntries l es) ≤ maxOn → Ready l (stateOf (record { at = 0; kept = 0 }) radios easts norths marks) es
+chain-begins {l} radios easts norths es a r = record { rising = a; ahead = each-every _ es (λ e. omega arith); room = omega (arith, length-rowsIn 0 radios easts norths) }
 
-pub chain-start : (l : Rows (Option Place)) (t : Entries) (marks : List Bool) (b ps : List ℕ) → Sweeps l t marks (entriesOn b (take 0 ps)) t marks
+pub chain-start : (l : Rows Line) (s : State) (b ps : List ℕ) → s ≡ walked l s (entriesOn b (take 0 ps))
 unfolding entriesOn concat
-chain-start l t marks b ps = sweeps-none l t marks
+chain-start l s b ps = walked-none l s
 
 module _ (b ps : List ℕ) (n : ℕ) {i : ℕ} (size : length ps ≡ pages) (fits : n ≤ pages) (more : i < n) where
   abbrev here : ℕ
@@ -217,33 +215,31 @@ module _ (b ps : List ℕ) (n : ℕ) {i : ℕ} (size : length ps ≡ pages) (fit
       ∙ entriesOn-append b (take (i + 1) (take n ps)) (drop (i + 1) (take n ps))
       ∙ ap (λ (l : List ℕ). entriesOn b l ++ entriesOn b (drop (i + 1) (take n ps))) (take-take (i + 1) n ps (omega arith))
 
-  module _ {l : Rows (Option Place)} {s t : Entries} {m marks : List Bool} (ready : Ready l s (entriesOn b (take n ps))) (done : Sweeps l s m (entriesOn b (take i ps)) t marks) where
+  module _ {l : Rows Line} {s t : State} (ready : Ready l s (entriesOn b (take n ps))) (done : t ≡ walked l s (entriesOn b (take i ps))) where
     next-page : Ready l s (entriesOn b (take i ps) ++ entries (pageAt b here))
     next-page =
         subst (λ (x : Rows Fix). Ready l s x) one-more
         (ready-front (entriesOn b (take (i + 1) ps)) (entriesOn b (drop (i + 1) (take n ps))) (subst (λ (x : Rows Fix). Ready l s x) rest ready))
 
     pub chain-ready : Ready l t (entries (pageAt b here))
-    chain-ready = ready-then (entriesOn b (take i ps)) (entries (pageAt b here)) next-page done
+    chain-ready = subst (λ (x : State). Ready l x (entries (pageAt b here))) (sym done) (ready-then (entriesOn b (take i ps)) (entries (pageAt b here)) next-page)
 
-    pub chain-turn : {r : Entries} {k : List Bool} → Sweeps l t marks (entries (pageAt b here)) r k → Sweeps l s m (entriesOn b (take (i + 1) ps)) r k
-    chain-turn {r} {k} g = subst (λ (x : Rows Fix). Sweeps l s m x r k) (sym one-more) (sweeps-then (entriesOn b (take i ps)) (entries (pageAt b here)) next-page done g)
+    pub chain-turn : {u : State} → u ≡ walked l t (entries (pageAt b here)) → u ≡ walked l s (entriesOn b (take (i + 1) ps))
+    chain-turn g =
+        g ∙ ap (λ (x : State). walked l x (entries (pageAt b here))) done ∙ sym (walked-append l s (entriesOn b (take i ps)) (entries (pageAt b here)))
+        ∙ ap (walked l s) (sym one-more)
 
--- the whole chain, from an empty table
-pub chain-end : (l : Rows (Option Place)) (b ps : List ℕ) {n i : ℕ} {t r : Entries} {m marks : List Bool} → i ≤ n → n ≤ i → rowsOf t ≡ [] → t .n ≡ 0 → Sweeps l t m (entriesOn b (take i ps)) r marks → SweepsAll l m (entriesOn b (take n ps)) r marks
-chain-end l b ps {n} {i} {t} {r} {m} {marks} h k e z d =
-    let q : i ≡ n = omega arith in
-    let s = subst (λ (j : ℕ). Sweeps l t m (entriesOn b (take j ps)) r marks) q d in
-    record { rows = s .table ∙ ap (λ (x : Rows Fix). x ++ stay l (entriesOn b (take n ps))) e; count = omega (arith, s .count); marks = s .marks }
+-- the whole chain, from nothing
+module _ (l : Rows Line) (b ps : List ℕ) {n i : ℕ} (low : i ≤ n) (high : n ≤ i) (radios₀ easts₀ norths₀ : List ℕ) (marks₀ : List Bool) {at : ℕ} (k : ℕ) (radios easts norths : List ℕ) {marks : List Bool}
+    (done : stateOf (record { at = at; kept = k }) radios easts norths marks ≡ walked l (stateOf (record { at = 0; kept = 0 }) radios₀ easts₀ norths₀ marks₀) (entriesOn b (take i ps))) where
+  all-done : stateOf (record { at = at; kept = k }) radios easts norths marks ≡ walked l (begun marks₀) (entriesOn b (take n ps))
+  all-done =
+      let z : i ≡ n = omega arith in
+      done ∙ ap (λ (x : Rows Fix). walked l (record { passed = 0; stay = x; marks = marks₀ }) (entriesOn b (take i ps))) (rows-none radios₀ easts₀ norths₀)
+      ∙ ap (λ (j : ℕ). walked l (begun marks₀) (entriesOn b (take j ps))) z
 
--- ---- the memo swept
-
-rising-lower : (b : ℕ) (es : Rows Fix) (l : Rows Line) → Rising b es → Rising 0 l → Rising 0 (lowerEach es l)
-unfolding lowerEach
-rising-lower b [] l a r = r
-rising-lower b (e ∷ es) l a r = rising-lower (e .key) es (alter lowered (e .key) l) (a .1) (rising-alter lowered 0 (e .key) l (omega arith) r)
-
-module _ (l : Rows Line) (es : Rows Fix) (rising : Rising 0 es) (lines : Rising 0 l) where
-  pub rising-sweptMemo : Rising 0 (sweptMemo l es)
-  unfolding sweptMemo
-  rising-sweptMemo = rising-lower 0 (filter (stale l) es) l (rising-filter (stale l) 0 es rising) lines
+  pub chain-end : length (sweptEntries l (entriesOn b (take n ps))) ≤ maxOn
+      → (rowsIn k radios easts norths ≡ sweptEntries l (entriesOn b (take n ps))) × (marks ≡ walked l (begun marks₀) (entriesOn b (take n ps)) .marks) × (k ≤ maxOn)
+  chain-end h =
+      let r = ap (λ (x : State). x .stay) all-done ∙ walked-stay l (begun marks₀) (entriesOn b (take n ps)) in
+      (r, ap (λ (x : State). x .marks) all-done, omega (arith, ap length r, length-rowsIn k radios easts norths))

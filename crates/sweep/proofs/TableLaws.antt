@@ -1,193 +1,80 @@
--- The memo's lines in tables: the loop that writes them, the search among the radios, and the line at a radio's rank.
-use mathlib.Core.Path.{_≡_, refl, sym, ap, _∙_}
-use mathlib.Core.Bool.{Bool, true, false, not}
-use mathlib.Core.List.{List, _∷_, map}
-use mathlib.Core.Logic.{_≢_}
-use mathlib.Core.Option.{Option, none}
-use Prim.Native.Nat.{ℕ, zero, suc, _+_, _-_, _*_, _/_, _≤_, _<_}
+-- Entries in three arrays: the one that is put behind them, and the table that they are read to.
+use mathlib.Core.Path.{_≡_, refl, sym, ap, _∙_, subst}
+use mathlib.Core.List.{List, [], _∷_, _++_}
+use Prim.Native.Nat.{ℕ, _+_, _≤_, _<_}
 use native.Mathlib.Omega.{arith}
-use lib.Dec.{eqb}
-use lib.ListN.{length, getD, set, take, length-map, length-set, length-take, List·getD-map}
-use lib.Seq.{getD-set-same, getD-set-other, getD-take}
-use borrow.Author.Tests.{eqb-true, eqb-false, eq-eqb, ne-eqb}
-use Rattle.terms.specs.Terms.{Place}
+use lib.ListN.{length, getD, set}
+use lib.Seq.{set-out, getD-set-same, getD-set-other}
+use Rattle.terms.specs.Terms.{Fix, maxOn}
 use Rattle.lists.specs.Parts.{tab}
-use Rattle.lists.specs.Rows.{Row, Rows, Rising, rank}
-use Rattle.lists.specs.Tests.{both}
-use Rattle.lists.proofs.Cases.{by-cases}
-use Rattle.lists.proofs.PartsLaws.{length-tab, getD-tab, tab-of}
-use Rattle.lists.proofs.RowsLaws.{rising-map}
-use Rattle.lists.proofs.SearchLaws.{Between, between-start, between-up, between-down, find-rank, find-rank-none}
-use Rattle.lists.proofs.SumsLaws.{sum-map}
+use Rattle.lists.specs.Rows.{Row, Rows}
+use Rattle.lists.proofs.PartsLaws.{length-tab, tab-suc, tab-ext}
 use Rattle.entries.specs.declared.Entry.{Entry}
-use Rattle.entries.specs.Entries.{rowOf as entryRow, placeOf}
-use Rattle.rules.specs.Sweep.{isAt}
-use Rattle.desk.specs.declared.Line.{Line}
-use Rattle.desk.specs.declared.Memo.{Memo}
-use Rattle.desk.specs.Layout.{lineSlots, lineFields, noLine}
-use Rattle.desk.specs.Views.{linesIn}
-use Rattle.desk.proofs.LinesLaws.{length-lines-in}
-use Rattle.memo.specs.Memo.{rowOf, noRow, linesOf}
-use Rattle.sweep.specs.Sweep.{linePlaces, radiosIn, lastAt, lastsIn, lastsOf, isStale}
+use Rattle.entries.specs.declared.Entries.{Entries}
+use Rattle.entries.specs.Entries.{rowOf, rowsOf}
+use Rattle.entries.proofs.TableLaws.{rows-empty, rows-push}
+use Rattle.sweep.specs.Sweep.{rowsIn, Roomy}
 
--- ---- lists
+pub length-rowsIn : (n : ℕ) (radios easts norths : List ℕ) → length (rowsIn n radios easts norths) ≡ n
+unfolding rowsIn
+length-rowsIn n radios easts norths = length-tab n _
 
-map-tab : {A B : Type 0} (f : A → B) (n : ℕ) (g : ℕ → A) → map f (tab n g) ≡ tab n (λ i. f (g i))
-unfolding tab
-map-tab f zero g = refl
-map-tab {B = B} f (suc n) g = ap (λ (l : List B). f (g 0) ∷ l) (map-tab f n (λ k. g (suc k)))
+pub rows-none : (radios easts norths : List ℕ) → rowsIn 0 radios easts norths ≡ []
+unfolding rowsIn tab
+rows-none radios easts norths = refl
 
--- a rank looks at keys only
-pub rank-map : {Val Val′ : Type 0} (g : Val → Val′) (r : ℕ) (l : Rows Val) → rank r (map (λ x. record { key = x .key; val = g (x .val) }) l) ≡ rank r l
-unfolding rank
-rank-map g r l = sum-map _ (λ x. record { key = x .key; val = g (x .val) }) l
+abbrev rowAt : List ℕ → List ℕ → List ℕ → ℕ → Row Fix
+rowAt radios easts norths i = record { key = getD radios i 0; val = record { east = getD easts i 0; north = getD norths i 0 } }
 
--- ---- writing the tables
+rows-suc : (n : ℕ) (radios easts norths : List ℕ) → rowsIn (n + 1) radios easts norths ≡ rowsIn n radios easts norths ++ (rowAt radios easts norths n ∷ [])
+unfolding rowsIn
+rows-suc n radios easts norths = tab-suc n (rowAt radios easts norths)
 
--- one field of each line before i
-pub record Copied (f : Line → ℕ) (rows : List Line) (i : ℕ) (t : List ℕ) : Type 0 where
-  pub size : length t ≡ linePlaces
-  pub same : (j : ℕ) → j < i → getD t j 0 ≡ f (getD rows j noLine)
+-- ---- an entry put in a slot
 
-copied-turn : (f : Line → ℕ) (rows : List Line) {i : ℕ} {t : List ℕ} → i < linePlaces → Copied f rows i t → Copied f rows (i + 1) (set t i (f (getD rows i noLine)))
-copied-turn f rows {i} {t} h c =
-    let s = c .size in
-    record {
-      size = length-set t i (f (getD rows i noLine)) ∙ s;
-      same = λ j k. by-cases (eqb j i)
-          (λ e. rw (eqb-true j i e) (getD-set-same t i (f (getD rows i noLine)) 0 (omega arith)))
-          (λ e. getD-set-other t i j (f (getD rows i noLine)) 0 (eqb-false j i e) ∙ c .same j (omega (arith, eqb-false j i e)));
-    }
+module _ (e : Entry) (k : ℕ) (radios easts norths : List ℕ) where
+  pub put-none : Roomy radios easts norths → maxOn ≤ k → (radios ≡ set radios k (e .radio)) × (easts ≡ set easts k (e .east)) × (norths ≡ set norths k (e .north)) × Roomy radios easts norths
+  put-none r h = (sym (set-out radios k (e .radio) (omega (arith, r .0))), sym (set-out easts k (e .east) (omega (arith, r .1))), sym (set-out norths k (e .north) (omega (arith, r .2))), r)
 
--- the lines before i are written
-pub record LinesRead (m : Memo) (i : ℕ) (radios placed easts norths : List ℕ) : Type 0 where
-  pub radio : Copied (λ x. x .radio) (linesIn (m .words)) i radios
-  pub mark : Copied (λ x. x .placed) (linesIn (m .words)) i placed
-  pub east : Copied (λ x. x .east) (linesIn (m .words)) i easts
-  pub north : Copied (λ x. x .north) (linesIn (m .words)) i norths
+  abbrev radios′ : List ℕ
+  radios′ = set radios k (e .radio)
 
-pub lines-start : (m : Memo) (radios placed easts norths : List ℕ) → length radios ≡ linePlaces → length placed ≡ linePlaces → length easts ≡ linePlaces → length norths ≡ linePlaces → LinesRead m 0 radios placed easts norths
-lines-start m radios placed easts norths a b c d =
-    let none : (t : List ℕ) (f : Line → ℕ) (j : ℕ) → j < 0 → getD t j 0 ≡ f (getD (linesIn (m .words)) j noLine) = λ t f j h. absurd (omega arith) in
-    record {
-      radio = record { size = a; same = none radios (λ x. x .radio) };
-      mark = record { size = b; same = none placed (λ x. x .placed) };
-      east = record { size = c; same = none easts (λ x. x .east) };
-      north = record { size = d; same = none norths (λ x. x .north) };
-    }
+  abbrev easts′ : List ℕ
+  easts′ = set easts k (e .east)
 
-module _ (m : Memo) {i : ℕ} {radios placed easts norths : List ℕ} (l : LinesRead m i radios placed easts norths) (few : m .n ≤ lineSlots) where
-  pub lines-turn : {x : Line} → x ≡ getD (linesIn (m .words)) i noLine → i < m .n → LinesRead m (i + 1) (set radios i (x .radio)) (set placed i (x .placed)) (set easts i (x .east)) (set norths i (x .north))
-  lines-turn e h = rw e (record {
-    radio = copied-turn (λ x. x .radio) (linesIn (m .words)) (omega arith) (l .radio);
-    mark = copied-turn (λ x. x .placed) (linesIn (m .words)) (omega arith) (l .mark);
-    east = copied-turn (λ x. x .east) (linesIn (m .words)) (omega arith) (l .east);
-    north = copied-turn (λ x. x .north) (linesIn (m .words)) (omega arith) (l .north);
-  })
+  abbrev norths′ : List ℕ
+  norths′ = set norths k (e .north)
 
-  abbrev lastRow : ℕ → Row (Option Place)
-  lastRow j = record { key = getD radios j 0; val = lastAt (getD placed j 0) (getD easts j 0) (getD norths j 0) }
+  -- those before it are kept
+  pub rows-skip : rowsIn k radios′ easts′ norths′ ≡ rowsIn k radios easts norths
+  unfolding rowsIn
+  rows-skip =
+      tab-ext k _ _ (λ i h.
+      let n : i ≡ k → ⊥ = λ z. absurd (omega arith) in
+      let r = getD-set-other radios k i (e .radio) 0 n in
+      let s = getD-set-other easts k i (e .east) 0 n in
+      let t = getD-set-other norths k i (e .north) 0 n in
+      λ j. record { key = r j; val = record { east = s j; north = t j } })
 
-  pub lines-end : length (m .words) ≡ lineFields * lineSlots → m .n ≤ i → lastsIn (m .n) radios placed easts norths ≡ lastsOf (linesOf m)
-  unfolding lastsIn linesOf
-  lines-end size h =
-      let all : length (linesIn (m .words)) ≡ lineSlots = length-lines-in lineSlots (m .words) size in
-      sym (tab-of (lastsOf (linesOf m)) (m .n) (record { key = 0; val = none }) lastRow
-      (length-map (linesOf m) _ ∙ length-map (take (m .n) (linesIn (m .words))) rowOf ∙ length-take (m .n) (linesIn (m .words)) ∙ omega arith)
-      (λ j k.
-      let x : Line = getD (linesIn (m .words)) j noLine in
-      let a = l .radio .same j (omega arith) in
-      let b = l .mark .same j (omega arith) in
-      let c = l .east .same j (omega arith) in
-      let d = l .north .same j (omega arith) in
-      List·getD-map (λ y. record { key = y .key; val = y .val .last }) (linesOf m) j noRow
-      ∙ ap (λ y. record { key = y .key; val = y .val .last }) (List·getD-map rowOf (take (m .n) (linesIn (m .words))) j noLine ∙ ap rowOf (getD-take (m .n) (linesIn (m .words)) j noLine k))
-      ∙ sym (λ t. record { key = a t; val = lastAt (b t) (c t) (d t) })))
+  pub rows-more : Roomy radios easts norths → k < maxOn → rowsIn (k + 1) radios′ easts′ norths′ ≡ rowsIn k radios easts norths ++ (rowOf e ∷ [])
+  rows-more y h =
+      let r = getD-set-same radios k (e .radio) 0 (omega (arith, y .0)) in
+      let s = getD-set-same easts k (e .east) 0 (omega (arith, y .1)) in
+      let t = getD-set-same norths k (e .north) 0 (omega (arith, y .2)) in
+      let x : rowAt radios′ easts′ norths′ k ≡ rowOf e = λ j. record { key = r j; val = record { east = s j; north = t j } } in
+      rows-suc k radios′ easts′ norths′ ∙ ap (λ (l : Rows Fix). l ++ (rowAt radios′ easts′ norths′ k ∷ [])) rows-skip ∙ ap (λ (z : Row Fix). rowsIn k radios easts norths ++ (z ∷ [])) x
 
--- ---- the search
+-- ---- the table
 
-abbrev pub noRadio : Row (Unit {0})
-noRadio = record { key = 0; val = tt }
+module _ (radios easts norths : List ℕ) where
+  pub table-start : (all : List Entry) → rowsOf (record { n = 0; all = all }) ≡ rowsIn 0 radios easts norths
+  table-start all = rows-empty all ∙ sym (rows-none radios easts norths)
 
-length-radios : (n : ℕ) (radios : List ℕ) → length (radiosIn n radios) ≡ n
-unfolding radiosIn
-length-radios n radios = length-tab n _
+  pub table-turn : {i k : ℕ} (all : List Entry) → rowsOf (record { n = i; all = all }) ≡ rowsIn i radios easts norths → length all ≡ maxOn → i < k → k ≤ maxOn
+      → rowsOf (record { n = i + 1; all = set all i (record { radio = getD radios i 0; east = getD easts i 0; north = getD norths i 0 }) }) ≡ rowsIn (i + 1) radios easts norths
+  table-turn {i} all e size h few =
+      rows-push (record { n = i; all = all }) (record { radio = getD radios i 0; east = getD easts i 0; north = getD norths i 0 }) (omega arith)
+      ∙ ap (λ (l : Rows Fix). l ++ (rowAt radios easts norths i ∷ [])) e ∙ sym (rows-suc i radios easts norths)
 
-radio-at : (n : ℕ) (radios : List ℕ) (i : ℕ) → i < n → getD (radiosIn n radios) i noRadio .key ≡ getD radios i 0
-unfolding radiosIn
-radio-at n radios i h = ap (λ x. x .key) (getD-tab n _ i noRadio h)
-
-pub search-start : (radios : List ℕ) (n r : ℕ) → Rising 0 (radiosIn n radios) → Between (radiosIn n radios) r noRadio 0 n
-search-start radios n r a = between-start r noRadio n a (length-radios n radios)
-
-abbrev mid : ℕ → ℕ → ℕ
-mid lo hi = lo + (hi - lo) / 2
-
-module _ (radios : List ℕ) {n r lo hi : ℕ} (s : Between (radiosIn n radios) r noRadio lo hi) (inside : hi ≤ n) (more : lo < hi) where
-  pub search-up : getD radios (mid lo hi) 0 < r → Between (radiosIn n radios) r noRadio (mid lo hi + 1) hi
-  search-up k = between-up s (mid lo hi) (omega arith) (omega arith) (omega (arith, radio-at n radios (mid lo hi) (omega arith)))
-
-  pub search-down : r ≤ getD radios (mid lo hi) 0 → Between (radiosIn n radios) r noRadio lo (mid lo hi)
-  search-down k = between-down s (mid lo hi) (omega arith) (omega arith) (omega (arith, radio-at n radios (mid lo hi) (omega arith)))
-
--- ---- the line at a radio's rank
-
-module _ (n : ℕ) (radios placed easts norths : List ℕ) where
-  abbrev lasts : Rows (Option Place)
-  lasts = lastsIn n radios placed easts norths
-
-  radios-lasts : radiosIn n radios ≡ map (λ x. record { key = x .key; val = tt }) lasts
-  unfolding radiosIn lastsIn
-  radios-lasts = sym (map-tab (λ x. record { key = x .key; val = tt }) n _)
-
-  pub rank-radios : (r : ℕ) → rank r (radiosIn n radios) ≡ rank r lasts
-  rank-radios r = ap (rank r) radios-lasts ∙ rank-map (λ _. tt) r lasts
-
-  pub rising-radios : Rising 0 (lastsIn n radios placed easts norths) → Rising 0 (radiosIn n radios)
-  rising-radios a = rw radios-lasts (rising-map (λ _. tt) 0 lasts a)
-
-  length-lasts : length lasts ≡ n
-  unfolding lastsIn
-  length-lasts = length-tab n _
-
-  abbrev noLast : Row (Option Place)
-  noLast = record { key = 0; val = none }
-
-  last-at : (i : ℕ) → i < n → getD lasts i noLast ≡ record { key = getD radios i 0; val = lastAt (getD placed i 0) (getD easts i 0) (getD norths i 0) }
-  unfolding lastsIn
-  last-at i h = getD-tab n _ i noLast h
-
-  module _ (e : Entry) {at : ℕ} (rising : Rising 0 (lastsIn n radios placed easts norths)) (here : at ≡ rank (e .radio) (radiosIn n radios)) where
-    place : at ≡ rank (e .radio) lasts
-    place = here ∙ rank-radios (e .radio)
-
-    pub stale-past : n ≤ at → false ≡ isStale (lastsIn n radios placed easts norths) (entryRow e)
-    stale-past h = rw (find-rank-none 0 (e .radio) lasts noLast rising (λ k _. absurd (omega (arith, place, length-lasts))))
-
-    module _ (inside : at < n) where
-      key-at : getD lasts (rank (e .radio) lasts) noLast .key ≡ getD radios at 0
-      key-at = ap (λ (i : ℕ). getD lasts i noLast .key) (sym place) ∙ ap (λ (x : Row (Option Place)). x .key) (last-at at inside)
-
-      pub stale-other : getD radios at 0 ≢ e .radio → false ≡ isStale (lastsIn n radios placed easts norths) (entryRow e)
-      stale-other h = rw (find-rank-none 0 (e .radio) lasts noLast rising (λ _ k. h (sym key-at ∙ k)))
-
-      pub stale-here : {b : Bool} → getD radios at 0 ≡ e .radio → b ≡ not (isAt (lastAt (getD placed at 0) (getD easts at 0) (getD norths at 0)) (placeOf e))
-          → b ≡ isStale (lastsIn n radios placed easts norths) (entryRow e)
-      stale-here {b} h s =
-          let f = find-rank 0 (e .radio) lasts noLast rising (omega (arith, place, length-lasts)) (key-at ∙ h) in
-          let v = ap (λ (i : ℕ). getD lasts i noLast .val) (sym place) ∙ ap (λ (x : Row (Option Place)). x .val) (last-at at inside) in
-          rw f (s ∙ ap (λ (o : Option Place). not (isAt o (placeOf e))) (sym v))
-
--- ---- "another place or none"
-
-module _ (placed east north : ℕ) (e : Entry) where
-  pub elsewhere-none : placed ≡ 0 → true ≡ not (isAt (lastAt placed east north) (placeOf e))
-  elsewhere-none h = rw (eq-eqb placed 0 h)
-
-  pub elsewhere-east : placed ≢ 0 → east ≢ e .east → true ≡ not (isAt (lastAt placed east north) (placeOf e))
-  unfolding both
-  elsewhere-east h g = rw (ne-eqb placed 0 h, ne-eqb east (e .east) g)
-
-  pub elsewhere-north : placed ≢ 0 → east ≡ e .east → not (eqb north (e .north)) ≡ not (isAt (lastAt placed east north) (placeOf e))
-  unfolding both
-  elsewhere-north h g = rw (ne-eqb placed 0 h, eq-eqb east (e .east) g)
+  pub table-end : {i k : ℕ} (all : List Entry) → rowsOf (record { n = i; all = all }) ≡ rowsIn i radios easts norths → i ≤ k → k ≤ i → rowsOf (record { n = k; all = all }) ≡ rowsIn k radios easts norths
+  table-end {i} {k} all e g h = let z : i ≡ k = omega arith in subst (λ (j : ℕ). rowsOf (record { n = j; all = all }) ≡ rowsIn j radios easts norths) z e

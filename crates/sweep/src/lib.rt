@@ -1,21 +1,22 @@
-// Sweep a cell: the memo's radios and last places are written to tables, the cell's pages are read one after the other, each entry is judged by the tables,
-// what stays goes to a table of entries, and at the end each line that has lost an entry is lowered. The memo is read twice and written once. No page is
-// written.
-ghost use mathlib.Core.Bool.{true, not, cond};
+// Sweep a cell: its pages are read one after the other, and each entry is judged by the memo's line at its radio's rank. Entries and lines both rise by radio,
+// so that both are walked at once and no line is looked for anew. What stays goes to three arrays, which are lent from page to page, and at the end each line
+// that has lost an entry is lowered. No page is written.
+ghost use mathlib.Core.Bool.{true, not};
 ghost use mathlib.Core.Path.{_≡_};
-ghost use Prim.Native.Nat.{_*_, _<_, _≤_};
-ghost use lib.ListN.{length};
+ghost use Prim.Native.Nat.{_≤_};
+ghost use lib.ListN.{length, set};
 ghost use Rattle.terms.specs.Terms.{maxOn, pages};
 ghost use Rattle.lists.specs.Rows.{Rising, rank};
 ghost use Rattle.lists.specs.Tests.{Each};
-ghost use Rattle.entries.specs.Entries.{rowOf as entryRow, placeOf, rowsOf};
+ghost use Rattle.entries.specs.Entries.{rowOf, placeOf, rowsOf};
 ghost use Rattle.page.specs.Page.{entries};
 ghost use Rattle.page.specs.Buffer.{pageAt, there, pagesOf, entriesOn};
-ghost use Rattle.rules.specs.Sweep.{isAt, sweptEntries, sweptMemo};
-ghost use Rattle.desk.specs.Layout.{lineSlots, lineFields, memoOf};
-ghost use Rattle.memo.specs.Memo.{memoIn, linesOf, Whole};
-ghost use Rattle.sweep.specs.Sweep.{linePlaces, radiosIn, lastAt, lastsIn, lastsOf, isStale, stay, slotAfter, Ready, Sweeps, SweepsAll};
+ghost use Rattle.rules.specs.Sweep.{isAt, stale, sweptEntries, sweptMemo};
+ghost use Rattle.desk.specs.Layout.{lineSlots, memoOf};
+ghost use Rattle.memo.specs.Memo.{memoIn, lastOf, linesOf, Whole, GoodMemo};
+ghost use Rattle.sweep.specs.Sweep.{rowsIn, Roomy, stateOf, begun, walked, Ready};
 use desk::Desk;
+use desk::Line;
 use entries::Entries;
 use entries::Entry;
 use memo_sweep::PLACES;
@@ -28,169 +29,173 @@ pub struct Swept {
     pub lines: u16,
 }
 
-// ---- the memo's lines in tables
-
-// Each line's radio and last place.
-fn read_lines<'a>(
-    words: &'a [u16; Desk::MEMO_WORDS],
-    n: usize,
-    radios: &'a mut [u16; PLACES],
-    placed: &'a mut [u16; PLACES],
-    easts: &'a mut [u16; PLACES],
-    norths: &'a mut [u16; PLACES],
-)
-    requires { ⌜ (length (now words) ≡ lineFields * lineSlots) × (n ≤ lineSlots) × (length (now radios) ≡ linePlaces) × (length (now placed) ≡ linePlaces)
-        × (length (now easts) ≡ linePlaces) × (length (now norths) ≡ linePlaces) ⌝ }
-    ensures { λ _. ⌜ lastsIn n (now (radios .exit)) (now (placed .exit)) (now (easts .exit)) (now (norths .exit))
-        ≡ lastsOf (linesOf (memoIn n (now (words .entry)))) ⌝ }
-{
-    let mut i: usize = 0;
-    while i < n {
-        let x = desk::line_at(words, i);
-        radios[i] = x.radio;
-        placed[i] = x.placed;
-        easts[i] = x.east;
-        norths[i] = x.north;
-        i += 1;
-    }
+// How far the walk has come: how many lines are of radios below the last entry's, and how many entries stay.
+struct Reached {
+    at: usize,
+    kept: usize,
 }
 
-// How many of the first n radios lie below `radio`, by binary search.
-fn rank<'a>(radios: &'a [u16; PLACES], n: usize, radio: u16) -> usize
-    requires { ⌜ (n ≤ lineSlots) × Rising 0 (radiosIn n (now radios)) ⌝ }
-    ensures { λ r. ⌜ (r ≡ rank radio (radiosIn n (now (radios .entry)))) × (r ≤ n) ⌝ }
+// ---- lines
+
+// How many lines are of radios below `radio`, where the first `start` are known to be.
+fn rank_from<'a>(words: &'a [u16; Desk::MEMO_WORDS], n: usize, start: usize, radio: u16) -> usize
+    requires { ⌜ GoodMemo (memoIn n (now words)) × (start ≤ rank radio (linesOf (memoIn n (now words)))) ⌝ }
+    ensures { λ r. ⌜ (r ≡ rank radio (linesOf (memoIn n (now (words .entry))))) × (r ≤ n) ⌝ }
 {
-    let mut low: usize = 0;
-    let mut high = n;
-    while low < high {
-        let mid = low + (high - low) / 2;
-        let x = radios[mid];
-        if x < radio {
-            low = mid + 1;
-        } else {
-            high = mid;
+    let mut at: usize = start;
+    while at < n {
+        let x = desk::line_at(words, at);
+        if radio <= x.radio {
+            return at;
         }
+        at += 1;
     }
-    low
+    at
 }
 
-// ---- entries
-
-// Whether a last place is "another place or none".
-fn is_elsewhere(placed: u16, east: u16, north: u16, e: Entry) -> bool
-    ensures { λ r. ⌜ r ≡ not (isAt (lastAt placed east north) (placeOf e)) ⌝ }
+// Whether a line has "another place or none".
+fn is_elsewhere(x: Line, e: Entry) -> bool
+    ensures { λ r. ⌜ r ≡ not (isAt (lastOf x) (placeOf e)) ⌝ }
 {
-    if placed == UNPLACED {
+    if x.placed == UNPLACED {
         return true;
     }
-    if east != e.east {
+    if x.east != e.east {
         return true;
     }
-    north != e.north
+    x.north != e.north
 }
 
 // Whether an entry is stale: the line at its radio's rank is its radio's, and has "another place or none".
-fn is_stale<'a>(
-    e: Entry,
-    at: usize,
-    n: usize,
-    radios: &'a [u16; PLACES],
-    placed: &'a [u16; PLACES],
-    easts: &'a [u16; PLACES],
-    norths: &'a [u16; PLACES],
-) -> bool
-    requires { ⌜ (n ≤ lineSlots) × Rising 0 (lastsIn n (now radios) (now placed) (now easts) (now norths))
-        × (at ≡ rank (e .radio) (radiosIn n (now radios))) ⌝ }
-    ensures { λ r. ⌜ r ≡ isStale (lastsIn n (now (radios .entry)) (now (placed .entry)) (now (easts .entry)) (now (norths .entry))) (entryRow e) ⌝ }
+fn is_stale<'a>(words: &'a [u16; Desk::MEMO_WORDS], n: usize, at: usize, e: Entry) -> bool
+    requires { ⌜ GoodMemo (memoIn n (now words)) × (at ≡ rank (e .radio) (linesOf (memoIn n (now words)))) ⌝ }
+    ensures { λ r. ⌜ r ≡ stale (linesOf (memoIn n (now (words .entry)))) (rowOf e) ⌝ }
 {
     if n <= at {
         return false;
     }
-    if radios[at] != e.radio {
+    let x = desk::line_at(words, at);
+    if x.radio != e.radio {
         return false;
     }
-    is_elsewhere(placed[at], easts[at], norths[at], e)
+    is_elsewhere(x, e)
 }
 
-// The slot after n entries, or the last of all.
-fn slot_after(n: usize) -> usize
-    ensures { λ r. ⌜ (r ≡ slotAfter n) × (r < maxOn) ⌝ }
+// ---- entries
+
+// The entry in slot k, if there is one: at the end every slot may be taken, and what follows is stale.
+fn put_entry<'a>(
+    radios: &'a mut [u16; Desk::MAX_ON],
+    easts: &'a mut [u16; Desk::MAX_ON],
+    norths: &'a mut [u16; Desk::MAX_ON],
+    k: usize,
+    e: Entry,
+)
+    requires { ⌜ Roomy (now radios) (now easts) (now norths) ⌝ }
+    ensures { λ _. ⌜ (now (radios .exit) ≡ set (now (radios .entry)) k (e .radio)) × (now (easts .exit) ≡ set (now (easts .entry)) k (e .east))
+        × (now (norths .exit) ≡ set (now (norths .entry)) k (e .north)) × Roomy (now (radios .exit)) (now (easts .exit)) (now (norths .exit)) ⌝ }
 {
-    if n < Desk::MAX_ON {
-        n
-    } else {
-        Desk::MAX_ON - 1
+    if Desk::MAX_ON <= k {
+        return;
     }
+    radios[k] = e.radio;
+    easts[k] = e.east;
+    norths[k] = e.north;
 }
 
-// The entry, or what stood there if it goes.
-fn entry_or(goes: bool, old: Entry, e: Entry) -> Entry
-    ensures { λ r. ⌜ r ≡ cond goes old e ⌝ }
-{
-    if goes { old } else { e }
-}
-
-// The entries of page p: those that are stale mark their lines, the others go behind those in the table.
+// The entries of page p: each goes behind those that stay, and counts as one of them unless it is stale.
 fn sweep_page<'a>(
     buffer: &'a [u8],
     p: u16,
-    table: Entries,
+    words: &'a [u16; Desk::MEMO_WORDS],
     n: usize,
-    radios: &'a [u16; PLACES],
-    placed: &'a [u16; PLACES],
-    easts: &'a [u16; PLACES],
-    norths: &'a [u16; PLACES],
+    from: Reached,
+    radios: &'a mut [u16; Desk::MAX_ON],
+    easts: &'a mut [u16; Desk::MAX_ON],
+    norths: &'a mut [u16; Desk::MAX_ON],
     marks: &'a mut [bool; PLACES],
-) -> Entries
-    requires { ⌜ (there (now buffer) p ≡ true) × (n ≤ lineSlots)
-        × Ready (lastsIn n (now radios) (now placed) (now easts) (now norths)) table (entries (pageAt (now buffer) p)) ⌝ }
-    ensures { λ r. ⌜ Sweeps (lastsIn n (now (radios .entry)) (now (placed .entry)) (now (easts .entry)) (now (norths .entry))) table (now (marks .entry))
-        (entries (pageAt (now (buffer .entry)) p)) r (now (marks .exit)) ⌝ }
+) -> Reached
+    requires { ⌜ (there (now buffer) p ≡ true) × GoodMemo (memoIn n (now words)) × Roomy (now radios) (now easts) (now norths)
+        × Ready (linesOf (memoIn n (now words))) (stateOf from (now radios) (now easts) (now norths) (now marks)) (entries (pageAt (now buffer) p)) ⌝ }
+    ensures { λ r. ⌜ (stateOf r (now (radios .exit)) (now (easts .exit)) (now (norths .exit)) (now (marks .exit))
+        ≡ walked (linesOf (memoIn n (now (words .entry))))
+        (stateOf from (now (radios .entry)) (now (easts .entry)) (now (norths .entry)) (now (marks .entry)))
+        (entries (pageAt (now (buffer .entry)) p)))
+        × Roomy (now (radios .exit)) (now (easts .exit)) (now (norths .exit)) ⌝ }
 {
     let page = page::page_at(buffer, p as usize);
     let count = page::entry_count(page);
-    let mut all = table.all;
-    let mut k = table.n;
+    let mut at = from.at;
+    let mut k = from.kept;
     let mut i: usize = 0;
     while i < count {
         let e = page::read_entry(page, i);
-        let at = rank(radios, n, e.radio);
-        let stale = is_stale(e, at, n, radios, placed, easts, norths);
+        at = rank_from(words, n, at, e.radio);
+        let stale = is_stale(words, n, at, e);
         marks[at] = stale;
-        let slot = slot_after(k);
-        let old = all[slot];
-        all[slot] = entry_or(stale, old, e);
+        put_entry(radios, easts, norths, k, e);
         k = k + lists::one_if(!stale);
         i += 1;
     }
-    Entries { n: k, all }
+    Reached { at, kept: k }
 }
 
-// The entries on the pages of a chain: what stays of them, and the lines of the others marked.
+// The entries on the pages of a chain: how many stay.
 fn sweep_pages<'a>(
     buffer: &'a [u8],
     chain: Chain,
+    words: &'a [u16; Desk::MEMO_WORDS],
     n: usize,
-    radios: &'a [u16; PLACES],
-    placed: &'a [u16; PLACES],
-    easts: &'a [u16; PLACES],
-    norths: &'a [u16; PLACES],
+    radios: &'a mut [u16; Desk::MAX_ON],
+    easts: &'a mut [u16; Desk::MAX_ON],
+    norths: &'a mut [u16; Desk::MAX_ON],
     marks: &'a mut [bool; PLACES],
-) -> Entries
-    requires { ⌜ (chain .n ≤ pages) × Each (λ p. there (now buffer) p ≡ true) (pagesOf chain) × (n ≤ lineSlots)
-        × Rising 0 (lastsIn n (now radios) (now placed) (now easts) (now norths))
-        × (length (stay (lastsIn n (now radios) (now placed) (now easts) (now norths)) (entriesOn (now buffer) (pagesOf chain))) ≤ maxOn) ⌝ }
-    ensures { λ r. ⌜ SweepsAll (lastsIn n (now (radios .entry)) (now (placed .entry)) (now (easts .entry)) (now (norths .entry))) (now (marks .entry))
-        (entriesOn (now (buffer .entry)) (pagesOf chain)) r (now (marks .exit)) ⌝ }
+) -> usize
+    requires { ⌜ (chain .n ≤ pages) × Each (λ p. there (now buffer) p ≡ true) (pagesOf chain) × Rising 0 (entriesOn (now buffer) (pagesOf chain))
+        × GoodMemo (memoIn n (now words)) × Roomy (now radios) (now easts) (now norths)
+        × (length (sweptEntries (linesOf (memoIn n (now words))) (entriesOn (now buffer) (pagesOf chain))) ≤ maxOn) ⌝ }
+    ensures { λ r. ⌜ (rowsIn r (now (radios .exit)) (now (easts .exit)) (now (norths .exit))
+        ≡ sweptEntries (linesOf (memoIn n (now (words .entry)))) (entriesOn (now (buffer .entry)) (pagesOf chain)))
+        × (now (marks .exit)
+        ≡ walked (linesOf (memoIn n (now (words .entry)))) (begun (now (marks .entry))) (entriesOn (now (buffer .entry)) (pagesOf chain)) .marks)
+        × (r ≤ maxOn) ⌝ }
 {
-    let mut table = Entries::empty();
+    let mut s = Reached { at: 0, kept: 0 };
     let mut i: usize = 0;
     while i < chain.n {
         let p = chain.pages[i];
-        table = sweep_page(buffer, p, table, n, radios, placed, easts, norths, marks);
+        s = sweep_page(buffer, p, words, n, s, radios, easts, norths, marks);
         i += 1;
     }
-    table
+    s.kept
+}
+
+// The first k entries of the arrays as a table.
+fn table_of<'a>(
+    radios: &'a [u16; Desk::MAX_ON],
+    easts: &'a [u16; Desk::MAX_ON],
+    norths: &'a [u16; Desk::MAX_ON],
+    k: usize,
+) -> Entries
+    requires { ⌜ k ≤ maxOn ⌝ }
+    ensures { λ r. ⌜ (rowsOf r ≡ rowsIn k (now (radios .entry)) (now (easts .entry)) (now (norths .entry))) × (r .n ≡ k) ⌝ }
+{
+    let none = Entry {
+        radio: 0,
+        east: 0,
+        north: 0,
+    };
+    let mut all = [none; Desk::MAX_ON];
+    let mut i: usize = 0;
+    while i < k {
+        all[i] = Entry {
+            radio: radios[i],
+            east: easts[i],
+            north: norths[i],
+        };
+        i += 1;
+    }
+    Entries { n: k, all }
 }
 
 // ---- a chain
@@ -211,31 +216,22 @@ pub fn sweep_chain<'a>(
         × (memoIn (r .lines) (now (words .exit))
         ≡ memoOf (sweptMemo (linesOf (memoIn n (now (words .entry)))) (entriesOn (now (buffer .entry)) (pagesOf chain)))) ⌝ }
 {
-    let mut radios = [0u16; PLACES];
-    let mut placed = [0u16; PLACES];
-    let mut easts = [0u16; PLACES];
-    let mut norths = [0u16; PLACES];
-    read_lines(
+    let mut radios = [0u16; Desk::MAX_ON];
+    let mut easts = [0u16; Desk::MAX_ON];
+    let mut norths = [0u16; Desk::MAX_ON];
+    let mut marks = [false; PLACES];
+    let kept = sweep_pages(
+        buffer,
+        chain,
         words,
         n as usize,
         &mut radios,
-        &mut placed,
         &mut easts,
         &mut norths,
-    );
-    let mut marks = [false; PLACES];
-    let table = sweep_pages(
-        buffer,
-        chain,
-        n as usize,
-        &radios,
-        &placed,
-        &easts,
-        &norths,
         &mut marks,
     );
     Swept {
-        table,
+        table: table_of(&radios, &easts, &norths, kept),
         lines: memo_sweep::lowered(words, n, &marks),
     }
 }

@@ -1,6 +1,6 @@
 -- Rows in an array whose unused slots hold one value: what loops and stores there do to the rows, and where a search of them ends.
 use mathlib.Core.Bool.{Bool, true, false}
-use mathlib.Core.List.{List, [], _∷_, _++_, map, map-append}
+use mathlib.Core.List.{List, [], _∷_, _++_, map}
 use mathlib.Core.Logic.{_≢_}
 use mathlib.Core.Option.{Option, none, some}
 use mathlib.Core.Path.{_≡_, refl, sym, ap, ap₂, _∙_}
@@ -208,20 +208,6 @@ module _ {A Val : Type 0} {size : ℕ} {z : A} {g : Row Val → A} {l : Rows Val
         count = rw (length-removeAt l a (rw (← e) b), e);
         list = rw (map-removeAt g l a) (rw m at (close-slotted size z (map g l) a {ys = ys} (rw m h) (rw m b) (rw (m, ← s .list) c)));
       }
-
-  pub slots-push : (x : Row Val) → n < size → Slots size z g (l ++ (x ∷ [])) (n + 1) (set xs n (g x))
-  slots-push x h =
-      let e = s .count in
-      let m : length (map g l) ≡ n = length-map l g ∙ sym e in
-      record {
-        count = simp length-append (omega arith);
-        list = rw (s .list, map-append g l (x ∷ [])) (rw m at (push-slotted size z (map g l) (g x) (rw m h)));
-      }
-
-  pub slots-skip : n < size → Slots size z g l n (set xs n z)
-  slots-skip h =
-      let m : length (map g l) ≡ n = length-map l g ∙ sym (s .count) in
-      record { count = s .count; list = rw (s .list) (rw m at (skip-slotted size z (map g l) (rw m h))) }
 
 -- ---- a radio's place
 

@@ -6,6 +6,9 @@ use Rattle.memo_sweep.proofs.lowered_line.Tie as tie
 returns : tie.Need-returns
 returns c = search line-kept
 
+no-line-requires : tie.Need-no-line-requires
+no-line-requires c κs = search needs
+
 returns-2 : tie.Need-returns-2
 returns-2 c = search line-dropped
 
@@ -16,4 +19,4 @@ returns-3 : tie.Need-returns-3
 returns-3 c = search line-lowered
 
 pub lowered-line-spec : {M : Type 1} → statement M
-lowered-line-spec = tie.close (tie.spec returns returns-2 sub-t4 returns-3)
+lowered-line-spec = tie.close (tie.spec returns no-line-requires returns-2 sub-t4 returns-3)

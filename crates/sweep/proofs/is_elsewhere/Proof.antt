@@ -1,4 +1,4 @@
-use Rattle.sweep.proofs.TableLaws.{elsewhere-none, elsewhere-east, elsewhere-north}
+use Rattle.sweep.proofs.LinesLaws.{elsewhere-none, elsewhere-east, elsewhere-north}
 use Rattle.sweep.proofs.is_elsewhere.Statement.{statement}
 use Rattle.sweep.proofs.is_elsewhere.Tie as tie
 

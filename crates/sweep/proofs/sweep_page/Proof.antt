@@ -1,25 +1,25 @@
--- The entries read so far are swept.
+-- The entries read so far are walked.
 use mathlib.Core.Path.{_≡_}
 use Prim.Native.Nat.{_+_, _-_, _≤_}
-use lib.ListN.{length}
 use Rattle.terms.specs.Terms.{maxOn}
 use Rattle.lists.specs.Parts.{tab}
-use Rattle.lists.proofs.ShiftLaws.{length-mapped}
 use Rattle.page.specs.Page.{entryAt, entries}
 use Rattle.page.specs.Buffer.{pageAt}
 use Rattle.page.proofs.ChainLaws.{there-bounds}
-use Rattle.sweep.specs.Sweep.{lastsIn, Ready, Sweeps}
-use Rattle.sweep.proofs.TableLaws.{rising-radios}
-use Rattle.sweep.proofs.SweepLaws.{page-few, page-start, page-turn, page-end}
+use Rattle.memo.specs.Memo.{memoIn, linesOf}
+use Rattle.sweep.specs.Sweep.{Roomy, stateOf, walked, Ready}
+use Rattle.sweep.proofs.SweepLaws.{page-few, page-start, page-ahead, page-turn, page-end}
 use borrow.Author.Needs.{needs}
 use Rattle.sweep.proofs.sweep_page.Statement.{statement}
 use Rattle.sweep.proofs.sweep_page.Tie as tie
 
 abbrev Inv-loop : tie.InvT-loop
-Inv-loop buffer p n radios placed easts norths marks₀ page count all₀ k₀ i₀ marks all k i = (i ≤ count) × (k ≤ maxOn + i) × (length all ≡ maxOn) × Ready (lastsIn n radios placed easts norths) (record { n = k₀; all = all₀ }) (entries (pageAt buffer p)) × Sweeps (lastsIn n radios placed easts norths) (record { n = k₀; all = all₀ }) marks₀ (tab i (entryAt page)) (record { n = k; all = all }) marks
+Inv-loop buffer p words n radios₀ easts₀ norths₀ marks₀ page count at₀ k₀ i₀ radios easts norths marks at k i =
+    (i ≤ count) × (k ≤ maxOn + i) × Roomy radios easts norths × Ready (linesOf (memoIn n words)) (stateOf (record { at = at₀; kept = k₀ }) radios₀ easts₀ norths₀ marks₀) (entries (pageAt buffer p))
+    × (stateOf (record { at = at; kept = k }) radios easts norths marks ≡ walked (linesOf (memoIn n words)) (stateOf (record { at = at₀; kept = k₀ }) radios₀ easts₀ norths₀ marks₀) (tab i (entryAt page)))
 
 abbrev μ-loop : tie.MeasureT-loop
-μ-loop buffer p n radios placed easts norths marks₀ page count all₀ k₀ i₀ marks all k i = count - i
+μ-loop buffer p words n radios₀ easts₀ norths₀ marks₀ page count at₀ k₀ i₀ radios easts norths marks at k i = count - i
 
 page-at-requires : tie.Need-page-at-requires Inv-loop μ-loop
 page-at-requires c κs = search there-bounds
@@ -28,13 +28,15 @@ entry-count-requires : tie.Need-entry-count-requires Inv-loop μ-loop
 entry-count-requires c κs = search needs
 
 loop-holds : tie.Need-loop-holds Inv-loop μ-loop
-loop-holds c = (search needs, search page-few, search length-mapped, search needs, search page-start)
+loop-holds c = (search needs, page-few _ _ _ _ _ (c .before .before .before .pre .3), search needs, search needs, search page-start)
 
 read-entry-requires : tie.Need-read-entry-requires Inv-loop μ-loop
 read-entry-requires c κs = search needs
 
-rank-requires : tie.Need-rank-requires Inv-loop μ-loop
-rank-requires c κs = (search needs, search rising-radios)
+rank-from-requires : tie.Need-rank-from-requires Inv-loop μ-loop
+rank-from-requires c κs =
+    let l = c .before .before in
+    (search needs, page-ahead _ _ _ (l .loop .inv .3) (l .before .before .page-at .ensures .0) (l .before .entry-count .ensures .0) (l .loop .inv .4) (c .before .loop-test .taken) (c .read-entry .ensures))
 
 is-stale-requires : tie.Need-is-stale-requires Inv-loop μ-loop
 is-stale-requires c κs = search needs
@@ -42,23 +44,8 @@ is-stale-requires c κs = search needs
 element-write-marks : tie.Need-element-write-marks Inv-loop μ-loop
 element-write-marks c = search needs
 
-slot-after-requires : tie.Need-slot-after-requires Inv-loop μ-loop
-slot-after-requires c κs = search needs
-
-mul-old : tie.Need-mul-old Inv-loop μ-loop
-mul-old c = search needs
-
-array-copy-out-old : tie.Need-array-copy-out-old Inv-loop μ-loop
-array-copy-out-old c = search needs
-
-entry-or-requires : tie.Need-entry-or-requires Inv-loop μ-loop
-entry-or-requires c κs = search needs
-
-mul-all : tie.Need-mul-all Inv-loop μ-loop
-mul-all c = search needs
-
-array-set-from-all : tie.Need-array-set-from-all Inv-loop μ-loop
-array-set-from-all c = search needs
+put-entry-requires : tie.Need-put-entry-requires Inv-loop μ-loop
+put-entry-requires c κs = search needs
 
 one-if-requires : tie.Need-one-if-requires Inv-loop μ-loop
 one-if-requires c κs = search needs
@@ -76,7 +63,7 @@ loop-again : tie.Need-loop-again Inv-loop μ-loop
 loop-again c = (search needs, search needs, search needs, search needs, search page-turn)
 
 returns : tie.Need-returns Inv-loop μ-loop
-returns c = search page-end
+returns c = (search page-end, search needs)
 
 pub sweep-page-spec : {M : Type 1} → statement M
 sweep-page-spec =
@@ -88,15 +75,10 @@ sweep-page-spec =
     entry-count-requires
     loop-holds
     read-entry-requires
-    rank-requires
+    rank-from-requires
     is-stale-requires
     element-write-marks
-    slot-after-requires
-    mul-old
-    array-copy-out-old
-    entry-or-requires
-    mul-all
-    array-set-from-all
+    put-entry-requires
     one-if-requires
     add-k
     add-i

@@ -1,26 +1,26 @@
--- The entries on the pages read so far are swept.
+-- The entries on the pages read so far are walked.
 use mathlib.Core.Path.{_≡_}
 use Prim.Native.Nat.{_-_, _≤_}
 use lib.ListN.{length, take}
 use Rattle.terms.specs.Terms.{pages}
 use Rattle.page.specs.Buffer.{pagesOf, entriesOn}
-use Rattle.sweep.specs.Sweep.{lastsIn, Ready, Sweeps}
+use Rattle.memo.specs.Memo.{memoIn, linesOf}
+use Rattle.sweep.specs.Sweep.{Roomy, stateOf, walked, Ready}
 use Rattle.sweep.proofs.SweepLaws.{chain-begins, chain-start, page-there, chain-ready, chain-turn, chain-end}
 use borrow.Author.Needs.{needs}
 use Rattle.sweep.proofs.sweep_pages.Statement.{statement}
 use Rattle.sweep.proofs.sweep_pages.Tie as tie
 
 abbrev Inv-loop : tie.InvT-loop
-Inv-loop buffer n radios placed easts norths marks₀ chain table₀ i₀ marks table i = (i ≤ chain .n) × (length (chain .pages) ≡ pages) × Ready (lastsIn n radios placed easts norths) table₀ (entriesOn buffer (pagesOf chain)) × Sweeps (lastsIn n radios placed easts norths) table₀ marks₀ (entriesOn buffer (take i (chain .pages))) table marks
+Inv-loop buffer words n radios₀ easts₀ norths₀ marks₀ chain s₀ i₀ radios easts norths marks s i =
+    (i ≤ chain .n) × (length (chain .pages) ≡ pages) × Roomy radios easts norths × Ready (linesOf (memoIn n words)) (stateOf s₀ radios₀ easts₀ norths₀ marks₀) (entriesOn buffer (pagesOf chain))
+    × (stateOf s radios easts norths marks ≡ walked (linesOf (memoIn n words)) (stateOf s₀ radios₀ easts₀ norths₀ marks₀) (entriesOn buffer (take i (chain .pages))))
 
 abbrev μ-loop : tie.MeasureT-loop
-μ-loop buffer n radios placed easts norths marks₀ chain table₀ i₀ marks table i = chain .n - i
-
-empty-requires : tie.Need-empty-requires Inv-loop μ-loop
-empty-requires c κs = search needs
+μ-loop buffer words n radios₀ easts₀ norths₀ marks₀ chain s₀ i₀ radios easts norths marks s i = chain .n - i
 
 loop-holds : tie.Need-loop-holds Inv-loop μ-loop
-loop-holds c = (search needs, search needs, search chain-begins, search chain-start)
+loop-holds c = (search needs, search needs, search needs, search chain-begins, search chain-start)
 
 mul-p : tie.Need-mul-p Inv-loop μ-loop
 mul-p c = search needs
@@ -29,7 +29,7 @@ element-copy-out-p : tie.Need-element-copy-out-p Inv-loop μ-loop
 element-copy-out-p c = search needs
 
 sweep-page-requires : tie.Need-sweep-page-requires Inv-loop μ-loop
-sweep-page-requires c κs = (search page-there, search needs, search chain-ready)
+sweep-page-requires c κs = (search page-there, search needs, search needs, search chain-ready)
 
 add-i : tie.Need-add-i Inv-loop μ-loop
 add-i c = search needs
@@ -38,13 +38,13 @@ loop-less : tie.Need-loop-less Inv-loop μ-loop
 loop-less c = search needs
 
 loop-again : tie.Need-loop-again Inv-loop μ-loop
-loop-again c = (search needs, search needs, search needs, search chain-turn)
+loop-again c = (search needs, search needs, search needs, search needs, search chain-turn)
 
 returns : tie.Need-returns Inv-loop μ-loop
 returns c =
     let l = c .before in
-    let e = l .before .empty .ensures in
-    chain-end _ _ _ (l .loop .inv .0) (c .loop-test .left) (e .0) (e .1) (l .loop .inv .3)
+    let start = l .before .before in
+    chain-end _ _ (start .args .t2 .pages) (l .loop .inv .0) (c .loop-test .left) _ _ _ _ _ _ _ _ (l .loop .inv .4) (start .pre .5)
 
 pub sweep-pages-spec : {M : Type 1} → statement M
 sweep-pages-spec =
@@ -52,7 +52,6 @@ sweep-pages-spec =
     (tie.spec
     Inv-loop
     μ-loop
-    empty-requires
     loop-holds
     mul-p
     element-copy-out-p

@@ -1,29 +1,30 @@
--- Those of the first i lines that stay are in the slots, and every other slot is unused (`Lowering`).
+-- Those of the first i lines that stay are in the first slots, and the slots from i on are as they were (`MovedUp`): what is read next is not written yet.
 use Prim.Native.Nat.{_-_, _≤_}
+use lib.ListN.{take}
+use Rattle.memo.specs.Memo.{memoIn, linesOf}
+use Rattle.memo_sweep.specs.Lowering.{lowerWhere, markOf, MovedUp}
+use Rattle.memo_sweep.proofs.LowerLaws.{up-start, up-plain, up-turn, up-end}
 use borrow.Author.Needs.{needs}
-use Rattle.memo.specs.Memo.{memoIn}
-use Rattle.memo.proofs.MemoLaws.{whole-size}
-use Rattle.memo_sweep.proofs.LowerLaws.{Lowering, lower-start, line-plain, lower-turn, lower-end}
-use Rattle.memo_sweep.proofs.written_anew.Statement.{statement}
-use Rattle.memo_sweep.proofs.written_anew.Tie as tie
+use Rattle.memo_sweep.proofs.moved_up.Statement.{statement}
+use Rattle.memo_sweep.proofs.moved_up.Tie as tie
 
 abbrev Inv-loop : tie.InvT-loop
-Inv-loop words n marks left₀ k₀ i₀ left k i = (k ≤ i) × (i ≤ n) × Lowering marks (memoIn n words) i k left
+Inv-loop words₀ n marks first k₀ i₀ words k i = (k ≤ i) × (i ≤ n) × MovedUp (lowerWhere (markOf marks (linesOf (memoIn n words₀))) (take i (linesOf (memoIn n words₀)))) i k words₀ words
 
 abbrev μ-loop : tie.MeasureT-loop
-μ-loop words n marks left₀ k₀ i₀ left k i = n - i
+μ-loop words₀ n marks first k₀ i₀ words k i = n - i
 
 loop-holds : tie.Need-loop-holds Inv-loop μ-loop
-loop-holds c = (search needs, search needs, lower-start _ _)
+loop-holds c = (search needs, search needs, search up-start)
 
 line-at-requires : tie.Need-line-at-requires Inv-loop μ-loop
-line-at-requires c κs = let s = c .before .before .before in (search needs, whole-size (s .pre .0) (s .pre .1))
+line-at-requires c κs = search needs
 
 element-copy-out-mark : tie.Need-element-copy-out-mark Inv-loop μ-loop
 element-copy-out-mark c = search needs
 
 lowered-line-requires : tie.Need-lowered-line-requires Inv-loop μ-loop
-lowered-line-requires c κs = line-plain _ (c .before .before .before .before .before .before .pre .0) (c .before .before .line-at .ensures) (c .before .before .before .before .loop-test .taken)
+lowered-line-requires c κs = search up-plain
 
 put-line-requires : tie.Need-put-line-requires Inv-loop μ-loop
 put-line-requires c κs = search needs
@@ -44,16 +45,13 @@ loop-less : tie.Need-loop-less Inv-loop μ-loop
 loop-less c = search needs
 
 loop-again : tie.Need-loop-again Inv-loop μ-loop
-loop-again c = (search needs, search needs, search lower-turn)
-
-cast-result : tie.Need-cast-result Inv-loop μ-loop
-cast-result c = search needs
+loop-again c = (search needs, search needs, search up-turn)
 
 returns : tie.Need-returns Inv-loop μ-loop
-returns c = search lower-end
+returns c = (search up-end, search needs)
 
-pub written-anew-spec : {M : Type 1} → statement M
-written-anew-spec =
+pub moved-up-spec : {M : Type 1} → statement M
+moved-up-spec =
     tie.close
     (tie.spec
     Inv-loop
@@ -69,5 +67,4 @@ written-anew-spec =
     add-i
     loop-less
     loop-again
-    cast-result
     returns)
