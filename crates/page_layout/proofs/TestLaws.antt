@@ -1,22 +1,23 @@
 -- What the functions of the layout test need: a law for each turn, end or return, in the words of the contracts.
-use mathlib.Core.Bool.{Bool, true, false, not}
+use mathlib.Core.Bool.{Bool, true, false, not, cond}
 use mathlib.Core.List.{List, _∷_}
 use mathlib.Core.Option.{Option, none, some}
-use mathlib.Core.Path.{_≡_, sym, ap, _∙_}
+use mathlib.Core.Path.{_≡_, refl, sym, ap, _∙_}
 use Prim.Native.Nat.{ℕ, suc, _+_, _*_, _≤_, _<_, max}
 use native.Mathlib.Numerals.{add-one}
 use native.Mathlib.Omega.{arith}
-use lib.Dec.{eqb, leb, ltb}
+use lib.Dec.{eqb, ltb}
 use lib.ListN.{length, getD, drop, drop-of-length-le}
 use lib.Seq.{drop-cons}
-use borrow.Author.Tests.{eq-eqb, ne-eqb, le-ltb, lt-leb}
-use Rattle.terms.specs.Terms.{fieldBytes, maxRadio}
+use borrow.Author.Tests.{eq-eqb, ne-eqb, le-ltb, lt-ltb, lt-leb, ltb-true, ltb-false}
+use Rattle.terms.specs.Terms.{Fix, fieldBytes, maxRadio}
 use Rattle.lists.specs.Parts.{tab}
+use Rattle.lists.specs.Rows.{Row, Rows}
 use Rattle.lists.specs.Tests.{both, either, isSome}
 use Rattle.lists.specs.Words.{word}
 use Rattle.lists.proofs.Cases.{by-cases}
 use Rattle.lists.proofs.PartsLaws.{length-tab, getD-tab}
-use Rattle.lists.proofs.TestsLaws.{not-true, not-false, both-left-false, both-right-false}
+use Rattle.lists.proofs.TestsLaws.{not-true, not-false, both-intro, both-left-false, both-right-false}
 use Rattle.entries.specs.Entries.{noRow}
 use Rattle.page.specs.Page.{pageBytes, headBytes, entryBytes, kindFree, kindFirst, kindFurther, used, kind, next, cell, roomOf, count, entryAt, entries}
 use Rattle.page_layout.specs.Layout.{climb, climbOf, top, kindFits, laidOut}
@@ -37,36 +38,71 @@ top-end b i s h f = omega (arith, ap top (drop-of-length-le b {i = i} h))
 
 -- ---- radios_rise
 
-module _ (b : List ℕ) (n low i last : ℕ) (inside : i < n) (so : climb last (drop i (tab n (entryAt b))) ≡ climb low (tab n (entryAt b))) where
-  open-entry : drop i (tab n (entryAt b)) ≡ entryAt b i ∷ drop (suc i) (tab n (entryAt b))
-  open-entry =
-      let l = length-tab n (entryAt b) in
-      drop-cons (tab n (entryAt b)) i noRow (omega arith) ∙ rw (getD-tab n (entryAt b) i noRow inside)
+-- the climb of what is left after i radios, where these rise but the last of them may be past the greatest number
+unfoldable pub climbOn : ℕ → ℕ → Rows Fix → Option ℕ
+climbOn i last es = cond (both (ltb 0 i) (ltb maxRadio last)) none (climb last es)
 
-  module _ {r : ℕ} (e : r ≡ word fieldBytes b (headBytes + entryBytes * i)) where
+pub on-start : (last : ℕ) (es : Rows Fix) → climbOn 0 last es ≡ climb last es
+unfolding climbOn both
+on-start last es = refl
+
+on-past : (i last : ℕ) (es : Rows Fix) → 0 < i → maxRadio < last → climbOn i last es ≡ none
+unfolding climbOn
+on-past i last es h k = rw (both-intro (lt-ltb 0 i h) (lt-ltb maxRadio last k))
+
+on-within : (i last : ℕ) (es : Rows Fix) → last ≤ maxRadio → climbOn i last es ≡ climb last es
+unfolding climbOn
+on-within i last es k = rw (both-right-false (ltb 0 i) (le-ltb maxRadio last k))
+
+on-broken : (i last : ℕ) (es : Rows Fix) → climb last es ≡ none → climbOn i last es ≡ none
+unfolding climbOn
+on-broken i last es e = by-cases (both (ltb 0 i) (ltb maxRadio last)) (λ t. rw t) (λ t. rw t e)
+
+on-stop : (i last : ℕ) (e : Row Fix) (es : Rows Fix) → e .key ≤ last → climbOn i last (e ∷ es) ≡ none
+on-stop i last e es h = on-broken i last (e ∷ es) (climb-stop last e es (both-left-false _ (le-ltb last (e .key) h)))
+
+-- a radio past the greatest number ends the climb, and all after it are past it too
+on-step : (i last : ℕ) (e : Row Fix) (es : Rows Fix) → last < e .key → climbOn i last (e ∷ es) ≡ climbOn (i + 1) (e .key) es
+on-step i last e es h =
+    by-cases (ltb maxRadio (e .key))
+    (λ t. let k = ltb-true maxRadio (e .key) t in
+    on-broken i last (e ∷ es) (climb-stop last e es (both-right-false _ (lt-leb (e .key) maxRadio k))) ∙ sym (on-past (i + 1) (e .key) es (omega arith) k))
+    (λ t. let k = ltb-false maxRadio (e .key) t in
+    on-within i last (e ∷ es) (omega arith) ∙ climb-step last e es h k ∙ sym (on-within (i + 1) (e .key) es k))
+
+pub climb-empty : (b : List ℕ) (low : ℕ) {n : ℕ} → n ≡ 0 → some low ≡ climb low (tab n (entryAt b))
+unfolding tab
+climb-empty b low e = rw (e, climb-none low)
+
+module _ (b : List ℕ) (n i last : ℕ) {t : Option ℕ} (so : climbOn i last (drop i (tab n (entryAt b))) ≡ t) where
+  module _ (inside : i < n) {r : ℕ} (e : r ≡ word fieldBytes b (headBytes + entryBytes * i)) where
+    open-entry : climbOn i last (entryAt b i ∷ drop (suc i) (tab n (entryAt b))) ≡ t
+    open-entry =
+        let l = length-tab n (entryAt b) in
+        rw (drop-cons (tab n (entryAt b)) i noRow (omega arith), getD-tab n (entryAt b) i noRow inside) at so
+
     radio-is : entryAt b i .key ≡ r
     unfolding entryAt
     radio-is = sym e
 
-    pub climb-turn : last < r → r ≤ maxRadio → climb r (drop (i + 1) (tab n (entryAt b))) ≡ climb low (tab n (entryAt b))
-    climb-turn h k =
+    pub climb-turn : last < r → climbOn (i + 1) r (drop (i + 1) (tab n (entryAt b))) ≡ t
+    climb-turn h =
         let a = radio-is in
-        let g = rw (open-entry, climb-step last (entryAt b i) (drop (suc i) (tab n (entryAt b))) (omega arith) (omega arith)) at so in
-        rw (add-one i) (ap (λ (x : ℕ). climb x (drop (suc i) (tab n (entryAt b)))) (sym a) ∙ g)
+        rw (add-one i)
+        (ap (λ (x : ℕ). climbOn (suc i) x (drop (suc i) (tab n (entryAt b)))) (sym a)
+        ∙ rw add-one at (sym (on-step i last (entryAt b i) (drop (suc i) (tab n (entryAt b))) (omega arith))) ∙ open-entry)
 
-    stop : both (ltb last (entryAt b i .key)) (leb (entryAt b i .key) maxRadio) ≡ false → none ≡ climb low (tab n (entryAt b))
-    stop t = sym (climb-stop last (entryAt b i) (drop (suc i) (tab n (entryAt b))) t) ∙ rw open-entry at so
+    pub climb-low : r ≤ last → none ≡ t
+    climb-low h = let a = radio-is in sym (on-stop i last (entryAt b i) (drop (suc i) (tab n (entryAt b))) (omega arith)) ∙ open-entry
 
-    pub climb-low : r ≤ last → none ≡ climb low (tab n (entryAt b))
-    climb-low h = let a = radio-is in stop (both-left-false _ (le-ltb last (entryAt b i .key) (omega arith)))
+  module _ (some-radio : n ≡ 0 → ⊥) (all : n ≤ i) where
+    pub climb-high : maxRadio < last → none ≡ t
+    climb-high h = sym (on-past i last (drop i (tab n (entryAt b))) (omega (arith, some-radio)) h) ∙ so
 
-    pub climb-high : maxRadio < r → none ≡ climb low (tab n (entryAt b))
-    climb-high h = let a = radio-is in stop (both-right-false _ (lt-leb (entryAt b i .key) maxRadio (omega arith)))
-
-pub climb-end : (b : List ℕ) (n low : ℕ) {i last : ℕ} → n ≤ i → climb last (drop i (tab n (entryAt b))) ≡ climb low (tab n (entryAt b)) → some last ≡ climb low (tab n (entryAt b))
-climb-end b n low {i} {last} h so =
-    let l = length-tab n (entryAt b) in
-    sym (climb-none last) ∙ rw (drop-of-length-le (tab n (entryAt b)) {i = i} (omega arith)) at so
+    pub climb-end : last ≤ maxRadio → some last ≡ t
+    climb-end h =
+        let l = length-tab n (entryAt b) in
+        sym (climb-none last) ∙ rw (on-within i last (drop i (tab n (entryAt b))) h, drop-of-length-le (tab n (entryAt b)) {i = i} (omega arith)) at so
 
 -- ---- kind_fits
 

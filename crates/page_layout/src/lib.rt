@@ -20,11 +20,14 @@ pub enum Climb {
     Broken,
 }
 
-// The first n radios rise from above `low` up to the greatest number.
+// The first n radios rise from above `low` up to the greatest number. The last of them is the greatest, so that it alone is compared with that number.
 pub fn radios_rise(page: &[u8], n: usize, low: u16) -> Climb
     requires { ⌜ (n ≤ pageEntries) × (headBytes + entryBytes * n ≤ length (now page)) ⌝ }
     ensures { λ r. ⌜ climbOf r ≡ climb low (tab n (entryAt (now (page .entry)))) ⌝ }
 {
+    if n == 0 {
+        return Climb::To(low);
+    }
     let mut last = low;
     let mut i: usize = 0;
     while i < n {
@@ -32,11 +35,11 @@ pub fn radios_rise(page: &[u8], n: usize, low: u16) -> Climb
         if radio <= last {
             return Climb::Broken;
         }
-        if MAX_RADIO < radio {
-            return Climb::Broken;
-        }
         last = radio;
         i += 1;
+    }
+    if MAX_RADIO < last {
+        return Climb::Broken;
     }
     Climb::To(last)
 }

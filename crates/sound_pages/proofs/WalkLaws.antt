@@ -22,7 +22,9 @@ use Rattle.desk.specs.Layout.{noSlot}
 use Rattle.sound_page.specs.PageTest.{isPage, lastRadio, pageOk}
 use Rattle.sound_page.proofs.CodeLaws.{both-no, both-next}
 use Rattle.sound_pages.specs.PagesSound.{PagesSound}
-use Rattle.sound_pages.specs.Walks.{Walk, noMarks, unmarked, passed, failed, chainTest, slotTest, slotsTest, freeTest, frontTest, restTest, pagesTest}
+use Rattle.sound_pages.specs.Walks.{Walk, noMarks, unmarked, passed, failed, chainTest, slotTest, slotsTest, freeTest, frontTest, afterRun, leftBy, restTest, pagesTest}
+use Rattle.sound_pages.specs.declared.Run.{Run}
+use Rattle.sound_pages.specs.declared.Run.the-variants.{To, Broken}
 use Rattle.sound_pages.proofs.MarksLaws.{unmarked-bounds}
 use Rattle.sound_pages.proofs.ChainLaws.{chain-spent, chain-out, chain-bad, chain-last, chain-more, free-spent, free-last, free-out, free-bad, free-more}
 use Rattle.sound_pages.proofs.SoundLaws.{slots-none, slots-out, slots-more, sound-few, test-sound, sound-test}
@@ -35,6 +37,9 @@ module _ (m : List Bool) (p : ℕ) {r : Bool} (test : r ≡ unmarked m p) (passe
 
   pub unmarked-room : (b : List ℕ) → length b ≡ bufferBytes → pageBytes * p + pageBytes ≤ length b
   unmarked-room b l = let h = unmarked-below in omega arith
+
+  pub unmarked-following : p + 1 ≡ noPage → ⊥
+  unmarked-following e = let h = unmarked-below in omega arith
 
 -- ---- walk_chain
 
@@ -71,7 +76,7 @@ module _ (b : List ℕ) (s : Slot) (fuel : ℕ) (m : List Bool) (k low p : ℕ) 
             rw (last, page, ← next-so)
             (sym (chain-more (fuel - 1) b s m k low p unmarked-so (ok-is ∙ not-false v x) (ne-eqb _ _ (λ z. y (sym next-so ∙ z)))) ∙ again)
 
--- ---- walk_free
+-- ---- walk_run, walk_free
 
 module _ (b : List ℕ) (fuel : ℕ) (m : List Bool) (p : ℕ) {t : Walk} where
   pub free-tired : fuel ≤ 0 → freeTest fuel b m p ≡ t → record { ok = eqb p noPage; marks = m } ≡ t
@@ -99,6 +104,19 @@ module _ (b : List ℕ) (fuel : ℕ) (m : List Bool) (p : ℕ) {t : Walk} where
         free-goes-on x following =
             ap (freeTest (fuel - 1) b (set m p true)) (following ∙ ap next page)
             ∙ sym (free-more (fuel - 1) b m p (ne-eqb _ _ n) (sym fresh ∙ not-false r u) (free-is ∙ not-false v x)) ∙ free-again
+
+        pub free-runs-on : not v ≡ false → {q k : ℕ} → q ≡ next g → q ≡ k → freeTest (fuel - 1) b (set m p true) k ≡ t
+        free-runs-on x following e = free-goes-on x (sym e ∙ following)
+
+module _ (b : List ℕ) (fuel : ℕ) (m : List Bool) (p : ℕ) (m′ : List Bool) {r : Run} (run : afterRun b m′ r ≡ freeTest fuel b m p) {t : Walk} (so : freeTest fuel b m p ≡ t) where
+  pub run-broken : r ≡ Broken → failed m′ ≡ t
+  run-broken e = sym (ap (afterRun b m′) e) ∙ run ∙ so
+
+  pub run-on : {q left : ℕ} → r ≡ To q left → freeTest left b m′ q ≡ t
+  run-on e = sym (ap (afterRun b m′) e) ∙ run ∙ so
+
+pub run-less : {r : Run} {q left : ℕ} (fuel : ℕ) → leftBy r < fuel → r ≡ To q left → left < fuel
+run-less fuel h e = omega (arith, ap leftBy e)
 
 -- ---- walk_slots
 

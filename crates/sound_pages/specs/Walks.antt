@@ -12,6 +12,8 @@ use Rattle.rules.specs.Limits.{maxCells}
 use Rattle.desk.specs.declared.Slot.{Slot}
 use Rattle.desk.specs.declared.Directory.{Directory}
 use Rattle.sound_page.specs.PageTest.{isPage, lastRadio, pageOk}
+use Rattle.sound_pages.specs.declared.Run.{Run}
+use Rattle.sound_pages.specs.declared.Run.the-variants.{To, Broken}
 
 -- ---- marks
 
@@ -63,6 +65,15 @@ freeTest (suc fuel) b m p =
     (cond (unmarked m p)
     (cond (isPage kindFree noCell (pageAt b p)) (freeTest fuel b (set m p true) (next (pageAt b p))) (failed m))
     (failed m))
+
+-- what is still to be tested after a run of the free chain, and how many pages the walk may still meet
+abbrev pub afterRun : List ℕ → List Bool → Run → Walk
+afterRun b m (To p fuel) = freeTest fuel b m p
+afterRun b m Broken = failed m
+
+abbrev pub leftBy : Run → ℕ
+leftBy (To p fuel) = fuel
+leftBy Broken = 0
 
 -- the free chain from its front
 unfoldable pub frontTest : List ℕ → List Bool → ℕ → Walk

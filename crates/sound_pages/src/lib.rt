@@ -1,13 +1,14 @@
 // The test of soundness, its part that looks at pages, chains and the directory: on any bytes and any directory whatever.
 ghost use mathlib.Core.Bool.{true};
 ghost use mathlib.Core.Path.{_≡_};
-ghost use Prim.Native.Nat.{_≤_};
+ghost use Prim.Native.Nat.{_≤_, _<_};
 ghost use lib.ListN.{length, take};
+ghost use Rattle.terms.specs.Terms.{noPage};
 ghost use Rattle.lists.specs.Tests.{both, all};
 ghost use Rattle.page.specs.Buffer.{bufferBytes};
 ghost use Rattle.rules.specs.Limits.{maxCells};
 ghost use Rattle.sound_pages.specs.PagesSound.{PagesSound};
-ghost use Rattle.sound_pages.specs.Walks.{noMarks, unmarked, slotTest, slotsTest, frontTest};
+ghost use Rattle.sound_pages.specs.Walks.{noMarks, unmarked, slotTest, slotsTest, freeTest, frontTest, afterRun, leftBy};
 use desk::Desk;
 use desk::Directory;
 use desk::Slot;
@@ -86,6 +87,38 @@ fn walk_chain<'a>(pages: &'a [u8], s: Slot, marks: &'a mut [bool; PAGES]) -> boo
     false
 }
 
+// How a run of the free chain ends: at the page where the chain goes on elsewhere, with the pages that the walk may still meet; or at a page that fails.
+enum Run {
+    To(usize, usize),
+    Broken,
+}
+
+// A run of the free chain: pages one behind the other, as most of it lies. Where the next one lies is then known before the field that names it is read.
+fn walk_run<'a>(pages: &'a [u8], marks: &'a mut [bool; PAGES], first: usize, fuel: usize) -> Run
+    requires { ⌜ (length (now pages) ≡ bufferBytes) × (0 < fuel) × (first ≡ noPage → ⊥) ⌝ }
+    ensures { λ r. ⌜ (afterRun (now (pages .entry)) (now (marks .exit)) r ≡ freeTest fuel (now (pages .entry)) (now (marks .entry)) first) × (leftBy r < fuel) ⌝ }
+{
+    let mut p = first;
+    let mut left = fuel;
+    while 0 < left {
+        if !is_unmarked(marks, p) {
+            return Run::Broken;
+        }
+        let page = page::page_at(pages, p);
+        if !sound_page::is_free(page) {
+            return Run::Broken;
+        }
+        marks[p] = true;
+        left -= 1;
+        p += 1;
+        let next = sound_page::next_of(page);
+        if next != p {
+            return Run::To(next, left);
+        }
+    }
+    Run::To(p, left)
+}
+
 // The free chain from its front.
 fn walk_free<'a>(pages: &'a [u8], marks: &'a mut [bool; PAGES], front: u16) -> bool
     requires { ⌜ length (now pages) ≡ bufferBytes ⌝ }
@@ -97,16 +130,11 @@ fn walk_free<'a>(pages: &'a [u8], marks: &'a mut [bool; PAGES], front: u16) -> b
         if p == NO_PAGE as usize {
             return true;
         }
-        if !is_unmarked(marks, p) {
+        let Run::To(next, left) = walk_run(pages, marks, p, fuel) else {
             return false;
-        }
-        let page = page::page_at(pages, p);
-        if !sound_page::is_free(page) {
-            return false;
-        }
-        marks[p] = true;
-        p = sound_page::next_of(page);
-        fuel -= 1;
+        };
+        p = next;
+        fuel = left;
     }
     p == NO_PAGE as usize
 }
