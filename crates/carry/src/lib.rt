@@ -58,7 +58,17 @@ fn listed(
     let cells = grid.cells;
     let waiting = parts.waiting;
     let on = parts.on;
-    let told = range::list(pages, area, cells, waiting, words, parts.lines, on, buffer);
+    let told = range::list(
+        pages,
+        area,
+        cells,
+        waiting,
+        words,
+        parts.lines,
+        &on.radios,
+        on.n,
+        buffer,
+    );
     answered(parts, told.number, told.count)
 }
 

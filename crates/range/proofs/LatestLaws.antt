@@ -1,6 +1,7 @@
 -- Why the table has the latest places: a radio on has one entry that isn't stale. Where it has a memo line, that entry is at the line's place; where it has none,
--- none of its entries is stale, so it has no other, and a cell that the rectangle does not touch has it outside the rectangle.
-use mathlib.Core.Path.{_≡_, refl, sym, ap, ap₂, _∙_}
+-- none of its entries is stale, so it has no other, and a cell that the rectangle does not touch has it outside the rectangle. This is said of a table for which
+-- no place is tested (`tableAny`); from there `over-seen` leads to the one for which each is tested as it is laid.
+use mathlib.Core.Path.{_≡_, refl, sym, ap, ap₂, _∙_, fun-ext}
 use mathlib.Core.Bool.{Bool, true, false, not, cond}
 use mathlib.Core.List.{List, [], _∷_}
 use mathlib.Core.Option.{Option, none, some}
@@ -9,7 +10,7 @@ use native.Mathlib.Omega.{arith}
 use lib.Dec.{eqb}
 use borrow.Author.Tests.{eqb-true}
 use Rattle.terms.specs.Terms.{Place, Fix}
-use Rattle.lists.specs.Rows.{Rows, Rising, find, putRow, passed}
+use Rattle.lists.specs.Rows.{Row, Rows, Rising, find, putRow, passed}
 use Rattle.lists.specs.Sums.{sumBy}
 use Rattle.lists.specs.Tests.{one-if, both, isSome, orElse, Each}
 use Rattle.lists.proofs.Cases.{by-cases, option-cases, false-true}
@@ -24,17 +25,22 @@ use Rattle.rules.specs.Plain.{putAt}
 use Rattle.rules.specs.WellFormed.{WellFormed, GoodCell, countIf, liveOf}
 use Rattle.rules.proofs.LiveLaws.{liveBy, stored-at}
 use Rattle.rules.proofs.PlaceLaws.{samePlace-refl, samePlace-true}
-use Rattle.range_places.specs.Places.{Places, noPlaces, over, rowOver, entriesOver, linesOver, reportsOver, touches}
+use Rattle.range_places.specs.Places.{Places, noPlaces, over, seen, entriesOver, linesOver, reportsOver, touches}
 use Rattle.range_places.proofs.TouchLaws.{covered-touches}
+use Rattle.range.specs.Range.{listHeld}
 
--- ---- rows laid over places
+-- ---- rows laid over places, wherever they lie
+
+-- the radio of a row has the row's place, whatever it had
+abbrev rowAny : {Val : Type 0} → (Val → Option Place) → Row Val → Places → Places
+rowAny place x f = putAt (x .key) (place (x .val)) f
 
 abbrev foundOr : {Val : Type 0} → (Val → Option Place) → Option Val → Option Place → Option Place
 foundOr place none o = o
 foundOr place (some v) o = place v
 
 -- rows by rising radio: each radio has at most one
-over-find : {Val : Type 0} (place : Val → Option Place) (b : ℕ) (l : Rows Val) (f : Places) (r : ℕ) → Rising b l → over (rowOver place) l f r ≡ foundOr place (find l r) (f r)
+over-find : {Val : Type 0} (place : Val → Option Place) (b : ℕ) (l : Rows Val) (f : Places) (r : ℕ) → Rising b l → over (rowAny place) l f r ≡ foundOr place (find l r) (f r)
 unfolding over find
 over-find place b [] f r a = refl
 over-find place b (x ∷ xs) f r a =
@@ -110,16 +116,15 @@ module _ (memo : Rows Line) (r : ℕ) (unlined : find memo r ≡ none) where
       ∙ omega (arith, stored-count cs few t, sum-cons (f t) c cs)
 
 -- a cell's entries over the places, if the rectangle touches it
-abbrev pub cellOver : Rect → Cell → Places → Places
-cellOver rect c f = cond (touches rect (c .edges)) (entriesOver (c .entries) f) f
+abbrev cellAny : Rect → Cell → Places → Places
+cellAny rect c f = cond (touches rect (c .edges)) (over (rowAny some) (c .entries) f) f
 
 pub record Placed (c : Cell) : Type 0 where
   pub rising : Rising 0 (c .entries)
   pub placed : Each (λ e. inside (c .edges) (e .val) ≡ true) (c .entries)
 
 module _ (rect : Rect) (r : ℕ) where
-  entries-find : (c : Cell) (f : Places) → Placed c → entriesOver (c .entries) f r ≡ orElse (find (c .entries) r) (f r)
-  unfolding entriesOver
+  entries-find : (c : Cell) (f : Places) → Placed c → over (rowAny some) (c .entries) f r ≡ orElse (find (c .entries) r) (f r)
   entries-find c f k = over-find some 0 (c .entries) f r (k .rising) ∙ same (find (c .entries) r) (f r)
     where
       same : (a b : Option Place) → foundOr some a b ≡ orElse a b
@@ -127,10 +132,10 @@ module _ (rect : Rect) (r : ℕ) where
       same (some p) b = refl
 
   module _ (c : Cell) (f : Places) (k : Placed c) (few : countIf anyPlace (f r) + countIf anyPlace (find (c .entries) r) ≤ 1) where
-    count-touched : (t : Place → Bool) → touches rect (c .edges) ≡ true → countIf t (cellOver rect c f r) ≡ countIf t (f r) + countIf t (find (c .entries) r)
+    count-touched : (t : Place → Bool) → touches rect (c .edges) ≡ true → countIf t (cellAny rect c f r) ≡ countIf t (f r) + countIf t (find (c .entries) r)
     count-touched t u = rw u (ap (countIf t) (entries-find c f k) ∙ count-orElse t (find (c .entries) r) (f r) (omega arith) ∙ omega arith)
 
-    count-few : countIf anyPlace (cellOver rect c f r) ≤ countIf anyPlace (f r) + countIf anyPlace (find (c .entries) r)
+    count-few : countIf anyPlace (cellAny rect c f r) ≤ countIf anyPlace (f r) + countIf anyPlace (find (c .entries) r)
     count-few = by-cases (touches rect (c .edges)) (λ u. omega (arith, count-touched anyPlace u)) (λ u. rw u (omega arith))
 
     count-skipped : (t : Place → Bool) → ((p : Place) → t p ≡ true → covers rect p ≡ true) → touches rect (c .edges) ≡ false → countIf t (find (c .entries) r) ≡ 0
@@ -141,12 +146,12 @@ module _ (rect : Rect) (r : ℕ) where
         (λ v. let y = covered-touches rect (c .edges) p (within p v) (each-find (λ _ q. inside (c .edges) q ≡ true) r p (c .entries) (k .placed) e) in false-true (sym u ∙ y))
         (λ v. rw v)))
 
-    count-cell : (t : Place → Bool) → ((p : Place) → t p ≡ true → covers rect p ≡ true) → countIf t (cellOver rect c f r) ≡ countIf t (f r) + countIf t (find (c .entries) r)
+    count-cell : (t : Place → Bool) → ((p : Place) → t p ≡ true → covers rect p ≡ true) → countIf t (cellAny rect c f r) ≡ countIf t (f r) + countIf t (find (c .entries) r)
     count-cell t within = by-cases (touches rect (c .edges)) (λ u. count-touched t u) (λ u. rw u (omega (arith, count-skipped t within u)))
 
   -- an entry in the rectangle is met, for its cell is touched
   count-cells : (cells : List Cell) (f : Places) → Each Placed cells → countIf anyPlace (f r) + heldBy anyPlace r cells ≤ 1 → (t : Place → Bool) → ((p : Place) → t p ≡ true → covers rect p ≡ true)
-      → countIf t (over (cellOver rect) cells f r) ≡ countIf t (f r) + heldBy t r cells
+      → countIf t (over (cellAny rect) cells f r) ≡ countIf t (f r) + heldBy t r cells
   unfolding over
   count-cells [] f k h t within = omega (arith, sum-nil (λ (c : Cell). countIf t (find (c .entries) r)))
   count-cells (c ∷ cs) f k h t within =
@@ -154,17 +159,12 @@ module _ (rect : Rect) (r : ℕ) where
       let one : countIf anyPlace (f r) + countIf anyPlace (find (c .entries) r) ≤ 1 = omega (arith, sum-cons (g anyPlace) c cs) in
       omega (
         arith,
-        count-cells cs (cellOver rect c f) (k .1) (omega (arith, count-few c f (k .0) one, sum-cons (g anyPlace) c cs)) t within,
+        count-cells cs (cellAny rect c f) (k .1) (omega (arith, count-few c f (k .0) one, sum-cons (g anyPlace) c cs)) t within,
         count-cell c f (k .0) one t within,
         sum-cons (g t) c cs,
       )
 
 -- ---- places that count alike in the rectangle
-
--- a place that lies in the rectangle
-abbrev pub seen : Rect → Option Place → Option Place
-seen rect none = none
-seen rect (some p) = cond (covers rect p) (some p) none
 
 abbrev Alike : Rect → Option Place → Option Place → Type 0
 Alike rect a b = (t : Place → Bool) → ((p : Place) → t p ≡ true → covers rect p ≡ true) → countIf t a ≡ countIf t b
@@ -190,22 +190,24 @@ count-noPlaces : (t : Place → Bool) (r : ℕ) → countIf t (noPlaces r) ≡ 0
 unfolding noPlaces
 count-noPlaces t r = refl
 
-abbrev pub tableOf : Rect → Store → Places
-tableOf rect s = reportsOver (s .waiting) (linesOver (s .memo) (over (cellOver rect) (s .cells) noPlaces))
+-- what the range would hold if it tested no place
+abbrev tableAny : Rect → Store → Places
+tableAny rect s = over (rowAny (λ w. some (w .place))) (s .waiting) (over (rowAny (λ l. l .last)) (s .memo) (over (cellAny rect) (s .cells) noPlaces))
 
 module _ (s : Store) (w : WellFormed s) (rect : Rect) (r : ℕ) (on : isOn s r ≡ true) where
   abbrev stored : Places
-  stored = over (cellOver rect) (s .cells) noPlaces
+  stored = over (cellAny rect) (s .cells) noPlaces
 
   cells-placed : Each Placed (s .cells)
   cells-placed = each-map (GoodCell (s .cuts)) Placed (s .cells) (λ c g. record { rising = g .rising; placed = g .placed }) (w .cells)
 
-  reports-find : tableOf rect s r ≡ foundOr (λ x. some (x .place)) (find (s .waiting) r) (linesOver (s .memo) stored r)
-  unfolding reportsOver
-  reports-find = over-find _ 0 (s .waiting) (linesOver (s .memo) stored) r (w .waiting-rises)
+  abbrev lined : Places
+  lined = over (rowAny (λ l. l .last)) (s .memo) stored
 
-  lines-find : linesOver (s .memo) stored r ≡ foundOr (λ x. x .last) (find (s .memo) r) (stored r)
-  unfolding linesOver
+  reports-find : tableAny rect s r ≡ foundOr (λ x. some (x .place)) (find (s .waiting) r) (lined r)
+  reports-find = over-find _ 0 (s .waiting) lined r (w .waiting-rises)
+
+  lines-find : lined r ≡ foundOr (λ x. x .last) (find (s .memo) r) (stored r)
   lines-find = over-find _ 0 (s .memo) stored r (w .memo-rises)
 
   latest-is : latest s r ≡ orElse (placeOf (find (s .waiting) r)) (storedIn (s .memo) r (s .cells))
@@ -216,7 +218,7 @@ module _ (s : Store) (w : WellFormed s) (rect : Rect) (r : ℕ) (on : isOn s r �
     one-live : liveOf (s .memo) r (s .cells) ≡ 1
     one-live = omega (arith, w .present r, ap (λ (o : Option Report). one-if (wasNew o)) quiet, ap one-if on)
 
-    seen-stored : seen rect (linesOver (s .memo) stored r) ≡ seen rect (storedIn (s .memo) r (s .cells))
+    seen-stored : seen rect (lined r) ≡ seen rect (storedIn (s .memo) r (s .cells))
     seen-stored =
         option-cases (find (s .memo) r)
         (λ e. let h = sym (live-held (s .memo) r e (s .cells)) ∙ one-live in
@@ -230,14 +232,50 @@ module _ (s : Store) (w : WellFormed s) (rect : Rect) (r : ℕ) (on : isOn s r �
         )))
         (λ l e. ap (seen rect) (lines-find ∙ ap (λ (o : Option Line). foundOr (λ x. x .last) o (stored r)) e ∙ sym (line-stored (s .memo) r (l .missed) (l .last) (s .cells) e one-live)))
 
-  seen-latest : seen rect (tableOf rect s r) ≡ seen rect (latest s r)
+  seen-latest : seen rect (tableAny rect s r) ≡ seen rect (latest s r)
   seen-latest =
       option-cases (find (s .waiting) r)
-      (λ e. ap (seen rect) (reports-find ∙ ap (λ (o : Option Report). foundOr (λ x. some (x .place)) o (linesOver (s .memo) stored r)) e)
+      (λ e. ap (seen rect) (reports-find ∙ ap (λ (o : Option Report). foundOr (λ x. some (x .place)) o (lined r)) e)
       ∙ seen-stored e
       ∙ ap (seen rect) (sym (latest-is ∙ ap (λ (o : Option Report). orElse (placeOf o) (storedIn (s .memo) r (s .cells))) e)))
-      (λ v e. ap (seen rect) (reports-find ∙ ap (λ (o : Option Report). foundOr (λ x. some (x .place)) o (linesOver (s .memo) stored r)) e
+      (λ v e. ap (seen rect) (reports-find ∙ ap (λ (o : Option Report). foundOr (λ x. some (x .place)) o (lined r)) e
       ∙ sym (latest-is ∙ ap (λ (o : Option Report). orElse (placeOf o) (storedIn (s .memo) r (s .cells))) e)))
+
+-- ---- a place outside is none
+
+-- The last row that names a radio tells its place, so it is the same whether each place is tested as it is laid over the others, or what is left at the end.
+module _ (rect : Rect) where
+  abbrev seenAt : Places → Places
+  seenAt f r = seen rect (f r)
+
+  over-seen : {A : Type 0} (step tested : A → Places → Places) → ((x : A) (f : Places) → tested x (seenAt f) ≡ seenAt (step x f)) → (l : List A) (f : Places) → over tested l (seenAt f) ≡ seenAt (over step l f)
+  unfolding over
+  over-seen step tested h [] f = refl
+  over-seen step tested h (x ∷ l) f = ap (over tested l) (h x f) ∙ over-seen step tested h l (step x f)
+
+  put-seen : (r : ℕ) (o : Option Place) (f : Places) → putAt r (seen rect o) (seenAt f) ≡ seenAt (putAt r o f)
+  put-seen r o f = fun-ext (λ q. by-cases (eqb q r) (λ t. rw t) (λ t. rw t))
+
+  entries-seen : (l : Rows Fix) (f : Places) → entriesOver rect l (seenAt f) ≡ seenAt (over (rowAny some) l f)
+  unfolding entriesOver
+  entries-seen = over-seen (rowAny some) _ (λ x f. put-seen (x .key) (some (x .val)) f)
+
+  -- a cell's entries, each tested
+  abbrev pub cellOver : Cell → Places → Places
+  cellOver c f = cond (touches rect (c .edges)) (entriesOver rect (c .entries) f) f
+
+  cell-seen : (c : Cell) (f : Places) → cellOver c (seenAt f) ≡ seenAt (cellAny rect c f)
+  cell-seen c f = by-cases (touches rect (c .edges)) (λ t. rw t (entries-seen (c .entries) f)) (λ t. rw t)
+
+  abbrev pub tableOf : Store → Places
+  tableOf s = reportsOver rect (s .waiting) (linesOver rect (s .memo) (over cellOver (s .cells) noPlaces))
+
+  table-seen : (s : Store) → tableOf s ≡ seenAt (tableAny rect s)
+  unfolding linesOver reportsOver noPlaces
+  table-seen s =
+      ap (λ (f : Places). reportsOver rect (s .waiting) (linesOver rect (s .memo) f)) (over-seen (cellAny rect) cellOver cell-seen (s .cells) noPlaces)
+      ∙ ap (reportsOver rect (s .waiting)) (over-seen (rowAny (λ l. l .last)) _ (λ x f. put-seen (x .key) (x .val .last) f) (s .memo) _)
+      ∙ over-seen (rowAny (λ w. some (w .place))) _ (λ x f. put-seen (x .key) (some (x .val .place)) f) (s .waiting) _
 
 -- ---- the same list
 
@@ -245,17 +283,16 @@ listIf-seen : (rect : Rect) (r : ℕ) (o : Option Place) (l : Rows Fix) → list
 listIf-seen rect r none l = refl
 listIf-seen rect r (some p) l = by-cases (covers rect p) (λ t. rw t) (λ t. rw t)
 
-listOf-seen : (rect : Rect) (f g : Places) (l : Rows (Unit {0})) → Each (λ x. seen rect (f (x .key)) ≡ seen rect (g (x .key))) l → listOf rect f l ≡ listOf rect g l
-unfolding listOf
-listOf-seen rect f g [] e = refl
-listOf-seen rect f g (x ∷ l) e =
-    listIf-seen rect (x .key) (f (x .key)) (listOf rect f l)
-    ∙ ap₂ (λ (o : Option Place) (m : Rows Fix). putRow (x .key) o m) (e .0) (listOf-seen rect f g l (e .1))
-    ∙ sym (listIf-seen rect (x .key) (g (x .key)) (listOf rect g l))
+held-seen : (rect : Rect) (f g : Places) (l : Rows (Unit {0})) → Each (λ x. f (x .key) ≡ seen rect (g (x .key))) l → listHeld f l ≡ listOf rect g l
+unfolding listHeld listOf
+held-seen rect f g [] e = refl
+held-seen rect f g (x ∷ l) e =
+    ap₂ (λ (o : Option Place) (m : Rows Fix). putRow (x .key) o m) (e .0) (held-seen rect f g l (e .1)) ∙ sym (listIf-seen rect (x .key) (g (x .key)) (listOf rect g l))
 
--- the radios on whose place in the table lies in the rectangle are those whose latest place does
-pub found-table : (s : Store) → WellFormed s → (rect : Rect) → listOf rect (tableOf rect s) (s .on) ≡ found s rect
+-- the radios on that have a place in the table are those whose latest place lies in the rectangle
+pub found-table : (s : Store) → WellFormed s → (rect : Rect) → listHeld (tableOf rect s) (s .on) ≡ found s rect
 unfolding found
 found-table s w rect =
-    listOf-seen rect (tableOf rect s) (latest s) (s .on)
-    (find-each (λ r _. seen rect (tableOf rect s r) ≡ seen rect (latest s r)) 0 (s .on) (w .rising-on) (λ r v e. seen-latest s w rect r (unfold isOn in ap isSome e)))
+    held-seen rect (tableOf rect s) (latest s) (s .on)
+    (find-each (λ r _. tableOf rect s r ≡ seen rect (latest s r)) 0 (s .on) (w .rising-on)
+    (λ r v e. ap (λ (f : Places). f r) (table-seen rect s) ∙ seen-latest s w rect r (unfold isOn in ap isSome e)))

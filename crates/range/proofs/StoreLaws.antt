@@ -4,7 +4,7 @@ use mathlib.Core.List.{List, [], _∷_, map}
 use Prim.Native.Nat.{ℕ, _*_, _≤_}
 use native.Mathlib.Omega.{arith}
 use lib.Dec.{ltb}
-use lib.ListN.{length}
+use lib.ListN.{length, length-map}
 use Rattle.terms.specs.Terms.{Fix, maxRadio, maxOn, noPage}
 use Rattle.lists.specs.Chains.{firstOf}
 use Rattle.lists.specs.Rows.{Rows, UpTo}
@@ -13,11 +13,12 @@ use Rattle.lists.proofs.Cases.{by-cases}
 use Rattle.lists.proofs.TestsLaws.{each-map, each-zip, each-over-map}
 use Rattle.rules.specs.Grid.{Rect}
 use Rattle.rules.specs.Store.{Line, Report, Cell, Store}
-use Rattle.rules.specs.Carry.{listBytes, listOf, found, Outcome, answered}
+use Rattle.rules.specs.Carry.{listBytes, found, Outcome, answered}
 use Rattle.rules.specs.Told.{Told, toldList}
 use Rattle.rules.specs.WellFormed.{WellFormed, GoodCell}
 use Rattle.desk.specs.declared.Slot.{Slot}
 use Rattle.desk.specs.declared.Directory.{Directory}
+use Rattle.desk.specs.declared.On.{On}
 use Rattle.desk.specs.declared.Desk.{Desk}
 use Rattle.desk.specs.Layout.{slotOf, directoryOf, gridOf, waitingOf, memoOf, onOf, deskOf, Laid}
 use Rattle.desk.specs.Views.{slotsIn, radiosOf}
@@ -27,10 +28,11 @@ use Rattle.memo.proofs.MemoLaws.{lines-are, count-is, well-memo}
 use Rattle.waiting.specs.Waiting.{reportsOf}
 use Rattle.waiting.proofs.WaitingLaws.{reports-laid, count-laid}
 use Rattle.waiting.proofs.OnLaws.{radios-laid, count-on-laid}
+use Rattle.waiting.proofs.SlotsLaws.{length-slotted}
 use Rattle.page.specs.Buffer.{entriesOn, entriesFrom}
 use Rattle.sweep.proofs.CellLaws.{Sweepable, well-sweep}
 use Rattle.range_places.specs.Places.{Places, noPlaces, over, linesOver, reportsOver, slotOver, placesOf, Readable}
-use Rattle.range.specs.Range.{foundIn}
+use Rattle.range.specs.Range.{listHeld, foundIn}
 use Rattle.range.proofs.LatestLaws.{cellOver, tableOf, found-table}
 
 -- ---- cells in the directory
@@ -93,7 +95,13 @@ module _ (s : Store) (b : List ℕ) (desk : Desk) (w : WellFormed s) (l : Laid s
       subst (λ (x : List Slot). Each (λ y. UpTo maxRadio (entriesFrom b (y .first))) x) (sym (slots-laid (desk .grid .cells) (s .cells) cells-are))
       (each-over-map _ slotOf (s .cells) (each-zip (GoodCell (s .cuts)) (Read b) _ (s .cells) (λ c g e. subst (λ (x : Rows Fix). UpTo maxRadio x) (sym e) (g .radios)) (w .cells) (cells-read s b w l)))
 
-  pub range-asks : Readable b (desk .grid .cells) (desk .waiting) (desk .memo) × (desk .on .n ≤ maxOn) × UpTo maxRadio (radiosOf (desk .on))
+  slots-on : length (desk .on .radios) ≡ maxOn
+  unfolding onOf
+  slots-on =
+      let keys : List ℕ = map (λ x. x .key) (s .on) in
+      ap (λ (o : On). length (o .radios)) on-is ∙ length-slotted maxOn 0 keys (omega (arith, w .few-on, length-map (s .on) (λ x. x .key)))
+
+  pub range-asks : Readable b (desk .grid .cells) (desk .waiting) (desk .memo) × (length (desk .on .radios) ≡ maxOn) × (desk .on .n ≤ maxOn) × UpTo maxRadio (radiosOf (desk .on))
   range-asks = (
     record {
       few-cells = omega (arith, count-slots (desk .grid .cells) (s .cells) cells-are, w .few-cells);
@@ -103,6 +111,7 @@ module _ (s : Store) (b : List ℕ) (desk : Desk) (w : WellFormed s) (l : Laid s
       report-radios = subst (λ (x : Rows Report). UpTo maxRadio x) (sym (reports-laid waiting-is)) (w .waiting-radios);
       line-radios = subst (λ (x : Rows Line). UpTo maxRadio x) (sym (lines-are (s .memo) memo-is)) (w .memo-radios);
     },
+    slots-on,
     omega (arith, count-on-laid (desk .on) (s .on) on-is, w .few-on),
     subst (λ (x : Rows (Unit {0})). UpTo maxRadio x) (sym (radios-laid on-is)) (w .radios-on),
   )
@@ -110,13 +119,13 @@ module _ (s : Store) (b : List ℕ) (desk : Desk) (w : WellFormed s) (l : Laid s
   places-are : (rect : Rect) → placesOf b rect (slotsIn (desk .grid .cells)) (linesOf (desk .memo)) (reportsOf (desk .waiting)) ≡ tableOf rect s
   unfolding placesOf
   places-are rect =
-      ap₂ (λ (x : Rows Report) (f : Places). reportsOver x f) (reports-laid waiting-is)
-      (ap₂ (λ (x : Rows Line) (f : Places). linesOver x f) (lines-are (s .memo) memo-is)
+      ap₂ (λ (x : Rows Report) (f : Places). reportsOver rect x f) (reports-laid waiting-is)
+      (ap₂ (λ (x : Rows Line) (f : Places). linesOver rect x f) (lines-are (s .memo) memo-is)
       (ap (λ (x : List Slot). over (slotOver b rect) x noPlaces) (slots-laid (desk .grid .cells) (s .cells) cells-are) ∙ cells-over b rect (s .cells) noPlaces (cells-read s b w l)))
 
   pub found-is : (rect : Rect) → foundIn b rect (desk .grid .cells) (desk .waiting) (desk .memo) (desk .on) ≡ found s rect
   unfolding foundIn
-  found-is rect = ap₂ (λ (f : Places) (x : Rows (Unit {0})). listOf rect f x) (places-are rect) (radios-laid on-is) ∙ found-table s w rect
+  found-is rect = ap₂ (λ (f : Places) (x : Rows (Unit {0})). listHeld f x) (places-are rect) (radios-laid on-is) ∙ found-table s w rect
 
   pub range-gives : (rect : Rect) (buffer : List ℕ) {number count : ℕ} {after : List ℕ}
       → record { number = number; count = count; buffer = after } ≡ toldList (foundIn b rect (desk .grid .cells) (desk .waiting) (desk .memo) (desk .on)) buffer

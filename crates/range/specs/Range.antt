@@ -1,12 +1,11 @@
 -- Range (01, "How a record is carried out"): which of the radios on are found, and the list that they give.
-use mathlib.Core.Bool.{Bool}
-use mathlib.Core.List.{List, map}
+use mathlib.Core.Bool.{Bool, false}
+use mathlib.Core.List.{List, [], _∷_, map}
 use Prim.Native.Nat.{ℕ}
 use lib.ListN.{getD}
 use Rattle.terms.specs.Terms.{Fix}
-use Rattle.lists.specs.Rows.{Row, Rows}
+use Rattle.lists.specs.Rows.{Row, Rows, putRow}
 use Rattle.rules.specs.Grid.{Rect}
-use Rattle.rules.specs.Carry.{inRange, listOf}
 use Rattle.desk.specs.declared.Directory.{Directory}
 use Rattle.desk.specs.declared.Waiting.{Waiting}
 use Rattle.desk.specs.declared.Memo.{Memo}
@@ -16,9 +15,9 @@ use Rattle.memo.specs.Memo.{linesOf}
 use Rattle.waiting.specs.Waiting.{reportsOf}
 use Rattle.range_places.specs.Places.{Places, placesOf}
 
--- a radio whose place lies in the rectangle
-abbrev pub isFound : Rect → Places → Row (Unit {0}) → Bool
-isFound rect f x = inRange rect (f (x .key))
+-- a radio that the table marks
+abbrev pub isMarked : List Bool → Row (Unit {0}) → Bool
+isMarked marks x = getD marks (x .key) false
 
 -- a radio with what stands in the columns
 abbrev pub rowAt : List ℕ → List ℕ → ℕ → Row Fix
@@ -27,6 +26,11 @@ rowAt easts norths r = record { key = r; val = record { east = getD easts r 0; n
 unfoldable pub rowsAt : List ℕ → List ℕ → Rows (Unit {0}) → Rows Fix
 rowsAt easts norths = map (λ x. rowAt easts norths (x .key))
 
+-- the list of those radios that have a place
+unfoldable pub listHeld : Places → Rows (Unit {0}) → Rows Fix
+listHeld f [] = []
+listHeld f (x ∷ xs) = putRow (x .key) (f (x .key)) (listHeld f xs)
+
 -- "the radios on whose latest place, a waiting report's before a stored one's, lies in the rectangle, by rising number"
 unfoldable pub foundIn : List ℕ → Rect → Directory → Waiting → Memo → On → Rows Fix
-foundIn b rect cells waiting memo on = listOf rect (placesOf b rect (slotsIn cells) (linesOf memo) (reportsOf waiting)) (radiosOf on)
+foundIn b rect cells waiting memo on = listHeld (placesOf b rect (slotsIn cells) (linesOf memo) (reportsOf waiting)) (radiosOf on)

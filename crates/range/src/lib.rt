@@ -7,21 +7,19 @@ ghost use Rattle.terms.specs.Terms.{maxRadio, maxOn};
 ghost use Rattle.lists.specs.Parts.{put};
 ghost use Rattle.lists.specs.Rows.{UpTo};
 ghost use Rattle.lists.specs.Sums.{filter};
-ghost use Rattle.rules.specs.Grid.{covers};
-ghost use Rattle.rules.specs.Carry.{inRange, listBytes, bytesOf};
+ghost use Rattle.rules.specs.Carry.{listBytes, bytesOf};
 ghost use Rattle.rules.specs.Told.{toldList};
 ghost use Rattle.desk.specs.Layout.{lineSlots, lineFields};
-ghost use Rattle.desk.specs.Views.{radiosOf, rectOf};
+ghost use Rattle.desk.specs.Views.{radioRow, radiosOf, rectOf};
 ghost use Rattle.memo.specs.Memo.{memoIn};
-ghost use Rattle.range_places.specs.Places.{placesIn, radioSlots, Columns, Readable};
-ghost use Rattle.range.specs.Range.{isFound, rowAt, rowsAt, foundIn};
+ghost use Rattle.waiting.specs.On.{onWith};
+ghost use Rattle.range_places.specs.Places.{radioSlots, Readable};
+ghost use Rattle.range.specs.Range.{isMarked, rowAt, rowsAt, foundIn};
 use desk::Desk;
 use desk::Directory;
-use desk::On;
 use desk::Rectangle;
 use desk::Waiting;
 use range_places::RADIO_SLOTS;
-use range_places::takes_in;
 
 const LIST_BYTES: usize = 6;
 
@@ -35,56 +33,37 @@ pub struct Listed {
     pub count: u16,
 }
 
-// ---- rectangles
-
-// Whether the range takes in the place.
-fn is_covered(area: Rectangle, east: u16, north: u16) -> bool
-    ensures { λ r. ⌜ r ≡ covers (rectOf area) (record { east = east; north = north }) ⌝ }
-{
-    takes_in(area.west, area.east, east) & takes_in(area.south, area.north, north)
-}
-
 // ---- the list
 
-// Whether the radio's place lies in the rectangle.
-fn is_found(
-    easts: &[u16; RADIO_SLOTS],
-    norths: &[u16; RADIO_SLOTS],
-    marks: &[bool; RADIO_SLOTS],
-    area: Rectangle,
-    radio: u16,
-) -> bool
-    requires { ⌜ Columns (now easts) (now norths) (now marks) × (radio ≤ maxRadio) ⌝ }
-    ensures { λ r. ⌜ r ≡ inRange (rectOf area) (placesIn (now (easts .entry)) (now (norths .entry)) (now (marks .entry)) radio) ⌝ }
+// Whether the table has a place of the radio: only one in the rectangle is marked there.
+fn is_marked(marks: &[bool; RADIO_SLOTS], radio: u16) -> bool
+    requires { ⌜ (length (now marks) ≡ radioSlots) × (radio ≤ maxRadio) ⌝ }
+    ensures { λ r. ⌜ r ≡ isMarked (now (marks .entry)) (radioRow radio) ⌝ }
 {
-    let at = radio as usize;
-    marks[at] & is_covered(area, easts[at], norths[at])
+    marks[radio as usize]
 }
 
-// Those of the radios on that are found: a radio is put after those kept, and kept where it is.
-fn found_on(
-    easts: &[u16; RADIO_SLOTS],
-    norths: &[u16; RADIO_SLOTS],
-    marks: &[bool; RADIO_SLOTS],
-    area: Rectangle,
-    on: On,
-) -> On
-    requires { ⌜ Columns (now easts) (now norths) (now marks) × (on .n ≤ maxOn) × UpTo maxRadio (radiosOf on) ⌝ }
-    ensures { λ r. ⌜ (radiosOf r ≡ filter (isFound (rectOf area) (placesIn (now (easts .entry)) (now (norths .entry)) (now (marks .entry)))) (radiosOf on))
-        × (r .n ≤ maxOn) ⌝ }
+// Those of the radios on that are marked: a radio is put after those kept, and kept where it is marked.
+fn found_on<'a>(
+    marks: &'a [bool; RADIO_SLOTS],
+    radios: &'a [u16; Desk::MAX_ON],
+    n: u16,
+    found: &'a mut [u16; Desk::MAX_ON],
+) -> u16
+    requires { ⌜ (length (now marks) ≡ radioSlots) × (length (now radios) ≡ maxOn) × (length (now found) ≡ maxOn) × (n ≤ maxOn)
+        × UpTo maxRadio (radiosOf (onWith n (now radios))) ⌝ }
+    ensures { λ r. ⌜ (radiosOf (onWith r (now (found .exit))) ≡ filter (isMarked (now (marks .entry))) (radiosOf (onWith n (now (radios .entry)))))
+        × (length (now (found .exit)) ≡ maxOn) × (r ≤ maxOn) ⌝ }
 {
-    let n = on.n as usize;
-    let mut found = on;
     let mut kept: usize = 0;
     let mut i: usize = 0;
-    while i < n {
-        let radio = on.radios[i];
-        found.radios[kept] = radio;
-        kept = kept + lists::one_if(is_found(easts, norths, marks, area, radio));
+    while i < n as usize {
+        let radio = radios[i];
+        found[kept] = radio;
+        kept = kept + lists::one_if(is_marked(marks, radio));
         i += 1;
     }
-    found.n = kept as u16;
-    found
+    kept as u16
 }
 
 // "radio, east, north": a radio with what stands in the columns.
@@ -105,15 +84,20 @@ fn write_row(
 }
 
 // "6 × n bytes .. at the buffer's start"
-fn write_rows(buffer: &mut [u8], easts: &[u16; RADIO_SLOTS], norths: &[u16; RADIO_SLOTS], found: On)
-    requires { ⌜ (length (now easts) ≡ radioSlots) × (length (now norths) ≡ radioSlots) × (found .n ≤ maxOn) × UpTo maxRadio (radiosOf found)
-        × (listBytes * found .n ≤ length (now buffer)) ⌝ }
-    ensures { λ _. ⌜ now (buffer .exit) ≡ put (now (buffer .entry)) 0 (bytesOf (rowsAt (now (easts .entry)) (now (norths .entry)) (radiosOf found))) ⌝ }
+fn write_rows<'a>(
+    buffer: &'a mut [u8],
+    easts: &'a [u16; RADIO_SLOTS],
+    norths: &'a [u16; RADIO_SLOTS],
+    found: &'a [u16; Desk::MAX_ON],
+    n: u16,
+)
+    requires { ⌜ (length (now easts) ≡ radioSlots) × (length (now norths) ≡ radioSlots) × (length (now found) ≡ maxOn) × (n ≤ maxOn)
+        × UpTo maxRadio (radiosOf (onWith n (now found))) × (listBytes * n ≤ length (now buffer)) ⌝ }
+    ensures { λ _. ⌜ now (buffer .exit) ≡ put (now (buffer .entry)) 0 (bytesOf (rowsAt (now (easts .entry)) (now (norths .entry)) (radiosOf (onWith n (now (found .entry)))))) ⌝ }
 {
-    let n = found.n as usize;
     let mut i: usize = 0;
-    while i < n {
-        let radio = found.radios[i];
+    while i < n as usize {
+        let radio = found[i];
         write_row(buffer, LIST_BYTES * i, easts, norths, radio);
         i += 1;
     }
@@ -127,13 +111,14 @@ pub fn list(
     waiting: Waiting,
     words: &[u16; Desk::MEMO_WORDS],
     lines: u16,
-    on: On,
+    radios: &[u16; Desk::MAX_ON],
+    on: u16,
     buffer: &mut [u8],
 ) -> Listed
-    requires { ⌜ (length (now words) ≡ lineFields * lineSlots) × Readable (now pages) cells waiting (memoIn lines (now words)) × (on .n ≤ maxOn)
-        × UpTo maxRadio (radiosOf on) ⌝ }
+    requires { ⌜ (length (now words) ≡ lineFields * lineSlots) × Readable (now pages) cells waiting (memoIn lines (now words))
+        × (length (now radios) ≡ maxOn) × (on ≤ maxOn) × UpTo maxRadio (radiosOf (onWith on (now radios))) ⌝ }
     ensures { λ r. ⌜ record { number = r .number; count = r .count; buffer = now (buffer .exit) }
-        ≡ toldList (foundIn (now (pages .entry)) (rectOf area) cells waiting (memoIn lines (now (words .entry))) on) (now (buffer .entry)) ⌝ }
+        ≡ toldList (foundIn (now (pages .entry)) (rectOf area) cells waiting (memoIn lines (now (words .entry))) (onWith on (now (radios .entry)))) (now (buffer .entry)) ⌝ }
 {
     let mut easts = [0u16; RADIO_SLOTS];
     let mut norths = [0u16; RADIO_SLOTS];
@@ -149,15 +134,15 @@ pub fn list(
         &mut norths,
         &mut marks,
     );
-    let found = found_on(&easts, &norths, &marks, area, on);
-    let n = found.n;
+    let mut found = [0u16; Desk::MAX_ON];
+    let n = found_on(&marks, radios, on, &mut found);
     if buffer.len() < LIST_BYTES * n as usize {
         return Listed {
             number: NO_ROOM,
             count: n,
         };
     }
-    write_rows(buffer, &easts, &norths, found);
+    write_rows(buffer, &easts, &norths, &found, n);
     Listed {
         number: 0,
         count: n,

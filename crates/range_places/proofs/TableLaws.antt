@@ -1,6 +1,6 @@
 -- The table by radio: tests of edges, what a store in it does, and what the loops that lay rows over it keep.
 use mathlib.Core.Path.{_≡_, refl, sym, ap, _∙_, fun-ext, subst}
-use mathlib.Core.Bool.{Bool, true, false, not, cond}
+use mathlib.Core.Bool.{Bool, true, false, not, cond, _&&_}
 use mathlib.Core.List.{List, [], _∷_, _++_}
 use mathlib.Core.Logic.{_≢_}
 use mathlib.Core.Option.{Option, none, some}
@@ -25,7 +25,7 @@ use Rattle.page.specs.Page.{count, next, entryAt, entries}
 use Rattle.page.specs.Buffer.{pageAt, there, chainFrom, entriesOn, entriesFrom}
 use Rattle.page.proofs.ChainLaws.{chain-ended, chain-not-there, chain-there, chain-out, was-there}
 use Rattle.rules.specs.Limits.{maxCells, fullMemory}
-use Rattle.rules.specs.Grid.{Rect}
+use Rattle.rules.specs.Grid.{Rect, covers}
 use Rattle.rules.specs.Plain.{putAt}
 use Rattle.desk.specs.declared.Slot.{Slot}
 use Rattle.desk.specs.declared.Directory.{Directory}
@@ -38,24 +38,24 @@ use Rattle.desk.specs.Views.{slotsIn, edgesOf, linesIn}
 use Rattle.desk.proofs.LinesLaws.{length-lines-in}
 use Rattle.memo.specs.Memo.{linesOf, rowOf as lineRow}
 use Rattle.waiting.specs.Waiting.{reportsOf, rowOf as reportRow}
-use Rattle.range_places.specs.Places.{Places, noPlaces, placesIn, Columns, Holds, over, rowOver, entriesOver, linesOver, reportsOver, touches, slotOver, placesOf}
+use Rattle.range_places.specs.Places.{Places, noPlaces, placesIn, Columns, Holds, over, seen, rowOver, entriesOver, linesOver, reportsOver, touches, slotOver, placesOf}
 
 -- ---- a store in the table
 
-module _ (easts norths : List ℕ) (marks : List Bool) (r east north : ℕ) (placed : Bool) (size : Columns easts norths marks) (radio : r ≤ maxRadio) where
+module _ (easts norths : List ℕ) (marks : List Bool) (r east north : ℕ) (lies : Bool) (size : Columns easts norths marks) (radio : r ≤ maxRadio) where
   abbrev held : Option Place
-  held = cond placed (some (record { east = east; north = north })) none
+  held = cond lies (some (record { east = east; north = north })) none
 
-  held-at : (q : ℕ) → placesIn (set easts r east) (set norths r north) (set marks r placed) q ≡ putAt r held (placesIn easts norths marks) q
+  held-at : (q : ℕ) → placesIn (set easts r east) (set norths r north) (set marks r lies) q ≡ putAt r held (placesIn easts norths marks) q
   unfolding placesIn
   held-at q =
       by-cases (eqb q r)
-      (λ t. rw (t, eqb-true q r t, getD-set-same easts r east 0 (omega (arith, size .east)), getD-set-same norths r north 0 (omega (arith, size .north)), getD-set-same marks r placed false (omega (arith, size .mark))))
-      (λ t. let n = eqb-false q r t in rw (t, getD-set-other easts r q east 0 n, getD-set-other norths r q north 0 n, getD-set-other marks r q placed false n))
+      (λ t. rw (t, eqb-true q r t, getD-set-same easts r east 0 (omega (arith, size .east)), getD-set-same norths r north 0 (omega (arith, size .north)), getD-set-same marks r lies false (omega (arith, size .mark))))
+      (λ t. let n = eqb-false q r t in rw (t, getD-set-other easts r q east 0 n, getD-set-other norths r q north 0 n, getD-set-other marks r q lies false n))
 
-  pub held-place : Holds (set easts r east) (set norths r north) (set marks r placed) (putAt r held (placesIn easts norths marks))
+  pub held-place : Holds (set easts r east) (set norths r north) (set marks r lies) (putAt r held (placesIn easts norths marks))
   held-place = record {
-    columns = record { east = length-set easts r east ∙ size .east; north = length-set norths r north ∙ size .north; mark = length-set marks r placed ∙ size .mark };
+    columns = record { east = length-set easts r east ∙ size .east; north = length-set norths r north ∙ size .north; mark = length-set marks r lies ∙ size .mark };
     places = fun-ext held-at;
   }
 
@@ -86,18 +86,23 @@ module _ {A : Type 0} (step : A → Places → Places) where
   pub over-end : {easts norths : List ℕ} {marks : List Bool} (f : Places) (l l′ : List A) → l ≡ l′ → Holds easts norths marks (over step l f) → Holds easts norths marks (over step l′ f)
   over-end {easts} {norths} {marks} f l l′ e h = subst (λ (m : List A). Holds easts norths marks (over step m f)) e h
 
+-- a test that tells whether a place lies in the rectangle
+seen-told : (rect : Rect) (p : Place) {q : Bool} → q ≡ covers rect p → cond q (some p) none ≡ seen rect (some p)
+seen-told rect p e = ap (λ (q : Bool). cond q (some p) none) e
+
 -- ---- the entries of a page
 
-pub page-start : (v : List ℕ) {easts norths : List ℕ} {marks : List Bool} → Columns easts norths marks → Holds easts norths marks (entriesOver (tab 0 (entryAt v)) (placesIn easts norths marks))
+pub page-start : (rect : Rect) (v : List ℕ) {easts norths : List ℕ} {marks : List Bool} → Columns easts norths marks → Holds easts norths marks (entriesOver rect (tab 0 (entryAt v)) (placesIn easts norths marks))
 unfolding entriesOver tab
-page-start v c = over-start (rowOver some) c
+page-start rect v c = over-start (rowOver rect some) c
 
 module _ (v b : List ℕ) (p : ℕ) {n i : ℕ} (here : v ≡ pageAt b p) (many : n ≡ count v) where
-  pub page-end : (f : Places) {easts norths : List ℕ} {marks : List Bool} → i ≤ n → n ≤ i → Holds easts norths marks (entriesOver (tab i (entryAt v)) f) → Holds easts norths marks (entriesOver (entries (pageAt b p)) f)
+  pub page-end : (rect : Rect) (f : Places) {easts norths : List ℕ} {marks : List Bool} → i ≤ n → n ≤ i → Holds easts norths marks (entriesOver rect (tab i (entryAt v)) f)
+      → Holds easts norths marks (entriesOver rect (entries (pageAt b p)) f)
   unfolding entries
-  page-end f {easts} {norths} {marks} h k d =
+  page-end rect f {easts} {norths} {marks} h k d =
       let z : i ≡ count v = omega arith in
-      subst (λ (w : List ℕ). Holds easts norths marks (entriesOver (entries w) f)) here (subst (λ (j : ℕ). Holds easts norths marks (entriesOver (tab j (entryAt v)) f)) z d)
+      subst (λ (w : List ℕ). Holds easts norths marks (entriesOver rect (entries w) f)) here (subst (λ (j : ℕ). Holds easts norths marks (entriesOver rect (tab j (entryAt v)) f)) z d)
 
   module _ (more : i < n) {e : Entry} (read : rowOf e ≡ entryAt v i) where
     pub page-radio : UpTo maxRadio (entries (pageAt b p)) → e .radio ≤ maxRadio
@@ -107,12 +112,14 @@ module _ (v b : List ℕ) (p : ℕ) {n i : ℕ} (here : v ≡ pageAt b p) (many 
         let k : entryAt v i .key ≤ maxRadio = each-tab (λ x. x .key ≤ maxRadio) (count v) (entryAt v) i w (omega arith) in
         omega (arith, ap (λ (x : Row Fix). x .key) read)
 
-pub page-turn : (v : List ℕ) (f : Places) (i : ℕ) (e : Entry) {easts norths easts′ norths′ : List ℕ} {marks marks′ : List Bool} → rowOf e ≡ entryAt v i → Holds easts norths marks (entriesOver (tab i (entryAt v)) f)
-    → Holds easts′ norths′ marks′ (putAt (e .radio) (some (record { east = e .east; north = e .north })) (placesIn easts norths marks))
-    → Holds easts′ norths′ marks′ (entriesOver (tab (i + 1) (entryAt v)) f)
+pub page-turn : (rect : Rect) (v : List ℕ) (f : Places) (i : ℕ) (e : Entry) {easts norths easts′ norths′ : List ℕ} {marks marks′ : List Bool} {q : Bool} → rowOf e ≡ entryAt v i
+    → Holds easts norths marks (entriesOver rect (tab i (entryAt v)) f) → q ≡ covers rect (record { east = e .east; north = e .north })
+    → Holds easts′ norths′ marks′ (putAt (e .radio) (cond q (some (record { east = e .east; north = e .north })) none) (placesIn easts norths marks))
+    → Holds easts′ norths′ marks′ (entriesOver rect (tab (i + 1) (entryAt v)) f)
 unfolding entriesOver
-page-turn v f i e read d t =
-    over-turn (rowOver some) f (tab i (entryAt v)) (tab (i + 1) (entryAt v)) (rowOf e) (tab-suc i (entryAt v) ∙ ap (λ (x : Row Fix). tab i (entryAt v) ++ (x ∷ [])) (sym read)) d t
+page-turn rect v f i e {easts} {norths} {easts′} {norths′} {marks} {marks′} read d told t =
+    over-turn (rowOver rect some) f (tab i (entryAt v)) (tab (i + 1) (entryAt v)) (rowOf e) (tab-suc i (entryAt v) ∙ ap (λ (x : Row Fix). tab i (entryAt v) ++ (x ∷ [])) (sym read)) d
+    (subst (λ (o : Option Place). Holds easts′ norths′ marks′ (putAt (e .radio) o (placesIn easts norths marks))) (seen-told rect _ told) t)
 
 -- ---- the pages of a chain: what is laid over the table, with what the rest of the chain still has, is the whole
 
@@ -124,34 +131,34 @@ entries-none : (b : List ℕ) → entriesOn b [] ≡ []
 unfolding entriesOn concat
 entries-none b = refl
 
-entriesOver-none : (f : Places) → f ≡ entriesOver [] f
+entriesOver-none : (rect : Rect) (f : Places) → f ≡ entriesOver rect [] f
 unfolding entriesOver
-entriesOver-none = over-none (rowOver some)
+entriesOver-none rect = over-none (rowOver rect some)
 
-entriesOver-append : (l m : Rows Fix) (f : Places) → entriesOver (l ++ m) f ≡ entriesOver m (entriesOver l f)
+entriesOver-append : (rect : Rect) (l m : Rows Fix) (f : Places) → entriesOver rect (l ++ m) f ≡ entriesOver rect m (entriesOver rect l f)
 unfolding entriesOver
-entriesOver-append = over-append (rowOver some)
+entriesOver-append rect = over-append (rowOver rect some)
 
-pub record Walking (b : List ℕ) (first : ℕ) (f : Places) (p fuel : ℕ) (easts norths : List ℕ) (marks : List Bool) : Type 0 where
+pub record Walking (b : List ℕ) (rect : Rect) (first : ℕ) (f : Places) (p fuel : ℕ) (easts norths : List ℕ) (marks : List Bool) : Type 0 where
   pub columns : Columns easts norths marks
   pub radios : UpTo maxRadio (entriesOn b (chainFrom fuel b p))
-  pub places : entriesOver (entriesOn b (chainFrom fuel b p)) (placesIn easts norths marks) ≡ entriesOver (entriesFrom b first) f
+  pub places : entriesOver rect (entriesOn b (chainFrom fuel b p)) (placesIn easts norths marks) ≡ entriesOver rect (entriesFrom b first) f
 
-pub walking-start : (b : List ℕ) (first : ℕ) {easts norths : List ℕ} {marks : List Bool} → Columns easts norths marks → UpTo maxRadio (entriesFrom b first)
-    → Walking b first (placesIn easts norths marks) first pages easts norths marks
+pub walking-start : (b : List ℕ) (rect : Rect) (first : ℕ) {easts norths : List ℕ} {marks : List Bool} → Columns easts norths marks → UpTo maxRadio (entriesFrom b first)
+    → Walking b rect first (placesIn easts norths marks) first pages easts norths marks
 unfolding entriesFrom
-walking-start b first c u = record { columns = c; radios = u; places = refl }
+walking-start b rect first c u = record { columns = c; radios = u; places = refl }
 
-module _ {b : List ℕ} {first p fuel : ℕ} {f : Places} {easts norths : List ℕ} {marks : List Bool} (w : Walking b first f p fuel easts norths marks) where
-  walking-stop : chainFrom fuel b p ≡ [] → Holds easts norths marks (entriesOver (entriesFrom b first) f)
+module _ {b : List ℕ} {rect : Rect} {first p fuel : ℕ} {f : Places} {easts norths : List ℕ} {marks : List Bool} (w : Walking b rect first f p fuel easts norths marks) where
+  walking-stop : chainFrom fuel b p ≡ [] → Holds easts norths marks (entriesOver rect (entriesFrom b first) f)
   walking-stop e =
       let n : entriesOn b (chainFrom fuel b p) ≡ [] = ap (entriesOn b) e ∙ entries-none b in
-      record { columns = w .columns; places = entriesOver-none (placesIn easts norths marks) ∙ ap (λ (l : Rows Fix). entriesOver l (placesIn easts norths marks)) (sym n) ∙ w .places }
+      record { columns = w .columns; places = entriesOver-none rect (placesIn easts norths marks) ∙ ap (λ (l : Rows Fix). entriesOver rect l (placesIn easts norths marks)) (sym n) ∙ w .places }
 
-  pub walking-ended : p ≡ noPage → Holds easts norths marks (entriesOver (entriesFrom b first) f)
+  pub walking-ended : p ≡ noPage → Holds easts norths marks (entriesOver rect (entriesFrom b first) f)
   walking-ended e = walking-stop (chain-ended b p fuel e .0)
 
-  pub walking-out : fuel ≤ 0 → Holds easts norths marks (entriesOver (entriesFrom b first) f)
+  pub walking-out : fuel ≤ 0 → Holds easts norths marks (entriesOver rect (entriesFrom b first) f)
   walking-out h = let z : fuel ≡ 0 = omega arith in walking-stop (rw z (chain-out b p .0))
 
   module _ (more : 0 < fuel) {r : Bool} (told : r ≡ there b p) where
@@ -161,7 +168,7 @@ module _ {b : List ℕ} {first p fuel : ℕ} {f : Places} {easts norths : List �
     one-more : fuel ≡ suc rest
     one-more = omega arith
 
-    pub walking-lost : p ≢ noPage → not r ≡ true → Holds easts norths marks (entriesOver (entriesFrom b first) f)
+    pub walking-lost : p ≢ noPage → not r ≡ true → Holds easts norths marks (entriesOver rect (entriesFrom b first) f)
     walking-lost n t = walking-stop (rw one-more (chain-not-there b p rest n (sym told ∙ not-true r t) .0))
 
     module _ (found : not r ≡ false) where
@@ -174,21 +181,21 @@ module _ {b : List ℕ} {first p fuel : ℕ} {f : Places} {easts norths : List �
       pub walking-radios : UpTo maxRadio (entries (pageAt b p))
       walking-radios = radios-split .0
 
-      pub walking-turn : {easts′ norths′ : List ℕ} {marks′ : List Bool} {q : ℕ} → Holds easts′ norths′ marks′ (entriesOver (entries (pageAt b p)) (placesIn easts norths marks)) → q ≡ next (pageAt b p)
-          → Walking b first f q rest easts′ norths′ marks′
+      pub walking-turn : {easts′ norths′ : List ℕ} {marks′ : List Bool} {q : ℕ} → Holds easts′ norths′ marks′ (entriesOver rect (entries (pageAt b p)) (placesIn easts norths marks)) → q ≡ next (pageAt b p)
+          → Walking b rect first f q rest easts′ norths′ marks′
       walking-turn h e =
           let l : Rows Fix = entries (pageAt b p) in
           let m : Rows Fix = entriesOn b (chainFrom rest b (next (pageAt b p))) in
           rw e (record {
             columns = h .columns;
             radios = radios-split .1;
-            places = ap (entriesOver m) (h .places) ∙ sym (entriesOver-append l m (placesIn easts norths marks)) ∙ ap (λ (x : Rows Fix). entriesOver x (placesIn easts norths marks)) (sym step) ∙ w .places;
+            places = ap (entriesOver rect m) (h .places) ∙ sym (entriesOver-append rect l m (placesIn easts norths marks)) ∙ ap (λ (x : Rows Fix). entriesOver rect x (placesIn easts norths marks)) (sym step) ∙ w .places;
           })
 
 -- ---- the cells of the directory
 
 module _ (b : List ℕ) (rect : Rect) (s : Slot) {r : Bool} (told : r ≡ touches rect (edgesOf s)) {easts norths : List ℕ} {marks : List Bool} where
-  pub slot-touched : (f : Places) → r ≡ true → Holds easts norths marks (entriesOver (entriesFrom b (s .first)) f) → Holds easts norths marks (slotOver b rect s f)
+  pub slot-touched : (f : Places) → r ≡ true → Holds easts norths marks (entriesOver rect (entriesFrom b (s .first)) f) → Holds easts norths marks (slotOver b rect s f)
   unfolding slotOver
   slot-touched f t h = rw (← told, t) h
 
@@ -219,12 +226,13 @@ module _ (b : List ℕ) (rect : Rect) (d : Directory) where
 
 -- ---- the memo's lines
 
-cond-not : {A : Type 0} (b : Bool) (x y : A) → cond (not b) x y ≡ cond b y x
-cond-not true x y = refl
-cond-not false x y = refl
+-- a line's place is seen if it has one, and that lies in the rectangle
+line-told : (rect : Rect) (bare : Bool) (p : Place) {q : Bool} → q ≡ covers rect p → cond (not bare && q) (some p) none ≡ seen rect (cond bare none (some p))
+line-told rect true p e = refl
+line-told rect false p e = seen-told rect p e
 
-module _ (m : Memo) where
-  pub lines-start : {easts norths : List ℕ} {marks : List Bool} → Columns easts norths marks → Holds easts norths marks (linesOver (take 0 (linesOf m)) (placesIn easts norths marks))
+module _ (rect : Rect) (m : Memo) where
+  pub lines-start : {easts norths : List ℕ} {marks : List Bool} → Columns easts norths marks → Holds easts norths marks (linesOver rect (take 0 (linesOf m)) (placesIn easts norths marks))
   unfolding linesOver
   lines-start c = over-start _ c
 
@@ -236,22 +244,22 @@ module _ (m : Memo) where
     unfolding linesOf
     lines-radios e = rw read (each-mapped (linesIn (m .words)) (m .n) i noLine inside more (λ x. x .key ≤ maxRadio) lineRow e)
 
-    pub lines-turn : (f : Places) {easts norths easts′ norths′ : List ℕ} {marks marks′ : List Bool} → Holds easts norths marks (linesOver (take i (linesOf m)) f)
-        → Holds easts′ norths′ marks′ (putAt (line .radio) (cond (not (eqb (line .placed) 0)) (some (record { east = line .east; north = line .north })) none) (placesIn easts norths marks))
-        → Holds easts′ norths′ marks′ (linesOver (take (i + 1) (linesOf m)) f)
+    pub lines-turn : (f : Places) {easts norths easts′ norths′ : List ℕ} {marks marks′ : List Bool} {q : Bool} → q ≡ covers rect (record { east = line .east; north = line .north }) → Holds easts norths marks (linesOver rect (take i (linesOf m)) f)
+        → Holds easts′ norths′ marks′ (putAt (line .radio) (cond (not (eqb (line .placed) 0) && q) (some (record { east = line .east; north = line .north })) none) (placesIn easts norths marks))
+        → Holds easts′ norths′ marks′ (linesOver rect (take (i + 1) (linesOf m)) f)
     unfolding linesOf linesOver
-    lines-turn f {easts} {norths} {easts′} {norths′} {marks} {marks′} h k =
+    lines-turn f {easts} {norths} {easts′} {norths′} {marks} {marks′} told h k =
         over-turn _ f _ _ (lineRow line) (rw read (mapped-turn (linesIn (m .words)) (m .n) i noLine inside more lineRow)) h
-        (subst (λ (o : Option Place). Holds easts′ norths′ marks′ (putAt (line .radio) o (placesIn easts norths marks))) (cond-not (eqb (line .placed) 0) _ none) k)
+        (subst (λ (o : Option Place). Holds easts′ norths′ marks′ (putAt (line .radio) o (placesIn easts norths marks))) (line-told rect (eqb (line .placed) 0) _ told) k)
 
-  pub lines-end : (i : ℕ) (f : Places) {easts norths : List ℕ} {marks : List Bool} → m .n ≤ i → Holds easts norths marks (linesOver (take i (linesOf m)) f) → Holds easts norths marks (linesOver (linesOf m) f)
+  pub lines-end : (i : ℕ) (f : Places) {easts norths : List ℕ} {marks : List Bool} → m .n ≤ i → Holds easts norths marks (linesOver rect (take i (linesOf m)) f) → Holds easts norths marks (linesOver rect (linesOf m) f)
   unfolding linesOf linesOver
   lines-end i f k h = over-end _ f _ _ (mapped-end (linesIn (m .words)) (m .n) i k lineRow) h
 
 -- ---- the waiting reports
 
-module _ (w : Waiting) where
-  pub reports-start : {easts norths : List ℕ} {marks : List Bool} → Columns easts norths marks → Holds easts norths marks (reportsOver (take 0 (reportsOf w)) (placesIn easts norths marks))
+module _ (rect : Rect) (w : Waiting) where
+  pub reports-start : {easts norths : List ℕ} {marks : List Bool} → Columns easts norths marks → Holds easts norths marks (reportsOver rect (take 0 (reportsOf w)) (placesIn easts norths marks))
   unfolding reportsOver
   reports-start c = over-start _ c
 
@@ -263,23 +271,25 @@ module _ (w : Waiting) where
     unfolding reportsOf
     reports-radios e = each-mapped (w .rows) (w .n) i noReport (omega arith) more (λ x. x .key ≤ maxRadio) reportRow e
 
-    pub reports-turn : (f : Places) {easts norths easts′ norths′ : List ℕ} {marks marks′ : List Bool} → Holds easts norths marks (reportsOver (take i (reportsOf w)) f)
-        → Holds easts′ norths′ marks′ (putAt (report .radio) (some (record { east = report .east; north = report .north })) (placesIn easts norths marks))
-        → Holds easts′ norths′ marks′ (reportsOver (take (i + 1) (reportsOf w)) f)
+    pub reports-turn : (f : Places) {easts norths easts′ norths′ : List ℕ} {marks marks′ : List Bool} {q : Bool} → q ≡ covers rect (record { east = report .east; north = report .north }) → Holds easts norths marks (reportsOver rect (take i (reportsOf w)) f)
+        → Holds easts′ norths′ marks′ (putAt (report .radio) (cond q (some (record { east = report .east; north = report .north })) none) (placesIn easts norths marks))
+        → Holds easts′ norths′ marks′ (reportsOver rect (take (i + 1) (reportsOf w)) f)
     unfolding reportsOf reportsOver
-    reports-turn f h k = over-turn _ f _ _ (reportRow report) (mapped-turn (w .rows) (w .n) i noReport (omega arith) more reportRow) h k
+    reports-turn f {easts} {norths} {easts′} {norths′} {marks} {marks′} told h k =
+        over-turn _ f _ _ (reportRow report) (mapped-turn (w .rows) (w .n) i noReport (omega arith) more reportRow) h
+        (subst (λ (o : Option Place). Holds easts′ norths′ marks′ (putAt (report .radio) o (placesIn easts norths marks))) (seen-told rect _ told) k)
 
-  pub reports-end : (i : ℕ) (f : Places) {easts norths : List ℕ} {marks : List Bool} → w .n ≤ i → Holds easts norths marks (reportsOver (take i (reportsOf w)) f) → Holds easts norths marks (reportsOver (reportsOf w) f)
+  pub reports-end : (i : ℕ) (f : Places) {easts norths : List ℕ} {marks : List Bool} → w .n ≤ i → Holds easts norths marks (reportsOver rect (take i (reportsOf w)) f) → Holds easts norths marks (reportsOver rect (reportsOf w) f)
   unfolding reportsOf reportsOver
   reports-end i f k h = over-end _ f _ _ (mapped-end (w .rows) (w .n) i k reportRow) h
 
 -- ---- all of them
 
 pub all-held : (b : List ℕ) (rect : Rect) (d : Directory) (m : Memo) (w : Waiting) {e₀ n₀ e₁ n₁ e₂ n₂ e₃ n₃ : List ℕ} {k₀ k₁ k₂ k₃ : List Bool} → Holds e₀ n₀ k₀ noPlaces
-    → Holds e₁ n₁ k₁ (over (slotOver b rect) (slotsIn d) (placesIn e₀ n₀ k₀)) → Holds e₂ n₂ k₂ (linesOver (linesOf m) (placesIn e₁ n₁ k₁)) → Holds e₃ n₃ k₃ (reportsOver (reportsOf w) (placesIn e₂ n₂ k₂))
+    → Holds e₁ n₁ k₁ (over (slotOver b rect) (slotsIn d) (placesIn e₀ n₀ k₀)) → Holds e₂ n₂ k₂ (linesOver rect (linesOf m) (placesIn e₁ n₁ k₁)) → Holds e₃ n₃ k₃ (reportsOver rect (reportsOf w) (placesIn e₂ n₂ k₂))
     → Holds e₃ n₃ k₃ (placesOf b rect (slotsIn d) (linesOf m) (reportsOf w))
 unfolding placesOf
 all-held b rect d m w h₀ h₁ h₂ h₃ = record {
   columns = h₃ .columns;
-  places = h₃ .places ∙ ap (reportsOver (reportsOf w)) (h₂ .places ∙ ap (linesOver (linesOf m)) (h₁ .places ∙ ap (over (slotOver b rect) (slotsIn d)) (h₀ .places)));
+  places = h₃ .places ∙ ap (reportsOver rect (reportsOf w)) (h₂ .places ∙ ap (linesOver rect (linesOf m)) (h₁ .places ∙ ap (over (slotOver b rect) (slotsIn d)) (h₀ .places)));
 }

@@ -1,5 +1,5 @@
--- A place for each radio (01, "How a record is carried out"): an entry's, over it a memo line's, over both a waiting report's, and the table by radio that
--- holds them.
+-- A place for each radio (01, "How a record is carried out"): an entry's, over it a memo line's, over both a waiting report's, each as far as it lies in the
+-- rectangle, and the table by radio that holds them.
 use mathlib.Core.Bool.{Bool, false, cond}
 use mathlib.Core.List.{List, [], _∷_}
 use mathlib.Core.Option.{Option, none, some}
@@ -13,6 +13,7 @@ use Rattle.page.specs.Buffer.{entriesFrom}
 use Rattle.rules.specs.Limits.{maxCells, fullMemory}
 use Rattle.rules.specs.Grid.{Span, within, takesIn, Rect}
 use Rattle.rules.specs.Store.{Report, Line}
+use Rattle.rules.specs.Carry.{inRange}
 use Rattle.rules.specs.Plain.{putAt}
 use Rattle.desk.specs.declared.Slot.{Slot}
 use Rattle.desk.specs.declared.Directory.{Directory}
@@ -57,18 +58,22 @@ unfoldable pub over : {A : Type 0} → (A → Places → Places) → List A → 
 over step [] f = f
 over step (x ∷ l) f = over step l (step x f)
 
--- the radio of a row has the row's place, whatever it had
-abbrev pub rowOver : {Val : Type 0} → (Val → Option Place) → Row Val → Places → Places
-rowOver place x f = putAt (x .key) (place (x .val)) f
+-- a place in the rectangle; one outside is none
+abbrev pub seen : Rect → Option Place → Option Place
+seen rect o = cond (inRange rect o) o none
 
-unfoldable pub entriesOver : Rows Fix → Places → Places
-entriesOver = over (rowOver some)
+-- the radio of a row has the row's place, or none where that lies outside, whatever it had
+abbrev pub rowOver : {Val : Type 0} → Rect → (Val → Option Place) → Row Val → Places → Places
+rowOver rect place x f = putAt (x .key) (seen rect (place (x .val))) f
 
-unfoldable pub linesOver : Rows Line → Places → Places
-linesOver = over (rowOver (λ l. l .last))
+unfoldable pub entriesOver : Rect → Rows Fix → Places → Places
+entriesOver rect = over (rowOver rect some)
 
-unfoldable pub reportsOver : Rows Report → Places → Places
-reportsOver = over (rowOver (λ w. some (w .place)))
+unfoldable pub linesOver : Rect → Rows Line → Places → Places
+linesOver rect = over (rowOver rect (λ l. l .last))
+
+unfoldable pub reportsOver : Rect → Rows Report → Places → Places
+reportsOver rect = over (rowOver rect (λ w. some (w .place)))
 
 -- a range's edges, and a cell's: the cell begins in the range, or the range, which takes in its own low edge, in the cell
 abbrev pub meets : Span → Span → Bool
@@ -80,11 +85,11 @@ touches a b = both (meets (a .easts) (b .easts)) (meets (a .norths) (b .norths))
 
 -- only the pages of cells that the rectangle touches
 unfoldable pub slotOver : List ℕ → Rect → Slot → Places → Places
-slotOver b rect s f = cond (touches rect (edgesOf s)) (entriesOver (entriesFrom b (s .first)) f) f
+slotOver b rect s f = cond (touches rect (edgesOf s)) (entriesOver rect (entriesFrom b (s .first)) f) f
 
 -- an entry's place; over it a memo line's, which is that of the entry of its radio that isn't stale; over both a waiting report's
 unfoldable pub placesOf : List ℕ → Rect → List Slot → Rows Line → Rows Report → Places
-placesOf b rect slots memo waiting = reportsOver waiting (linesOver memo (over (slotOver b rect) slots noPlaces))
+placesOf b rect slots memo waiting = reportsOver rect waiting (linesOver rect memo (over (slotOver b rect) slots noPlaces))
 
 -- ---- what is asked of desk and pages
 

@@ -1,5 +1,5 @@
-// A place for each radio in a table by radio: the entries of the cells that a rectangle touches, over them the memo's lines, over these the waiting reports.
-// Neither desk nor pages are altered.
+// A place for each radio in a table by radio: the entries of the cells that a rectangle touches, over them the memo's lines, over these the waiting reports,
+// each marked if it lies in the rectangle. Neither desk nor pages are altered.
 ghost use mathlib.Core.Bool.{true, cond};
 ghost use mathlib.Core.Option.{none, some};
 ghost use mathlib.Core.Path.{_≡_};
@@ -11,7 +11,7 @@ ghost use Rattle.lists.specs.Tests.{Each};
 ghost use Rattle.page.specs.Page.{entries};
 ghost use Rattle.page.specs.Buffer.{pageAt, there, entriesFrom};
 ghost use Rattle.rules.specs.Limits.{maxCells, fullMemory};
-ghost use Rattle.rules.specs.Grid.{takesIn};
+ghost use Rattle.rules.specs.Grid.{takesIn, covers};
 ghost use Rattle.rules.specs.Plain.{putAt};
 ghost use Rattle.desk.specs.Layout.{lineSlots, lineFields};
 ghost use Rattle.desk.specs.Views.{slotsIn, edgesOf, rectOf};
@@ -34,10 +34,17 @@ pub const RADIO_SLOTS: usize = MAX_RADIO as usize + 1;
 
 // Whether a range's two edges take in a coordinate: the low edge is inside, the high one outside, but at the last metre it takes in that line. No branch: which
 // radios are found follows no pattern.
-pub fn takes_in(low: u16, high: u16, x: u16) -> bool
+fn takes_in(low: u16, high: u16, x: u16) -> bool
     ensures { λ r. ⌜ r ≡ takesIn (record { low = low; high = high }) x ⌝ }
 {
     (low <= x) & ((x < high) | (high == Desk::LAST_METRE))
+}
+
+// Whether the range takes in the place.
+fn is_covered(area: Rectangle, east: u16, north: u16) -> bool
+    ensures { λ r. ⌜ r ≡ covers (rectOf area) (record { east = east; north = north }) ⌝ }
+{
+    takes_in(area.west, area.east, east) & takes_in(area.south, area.north, north)
 }
 
 // Whether a range's edges and a cell's have a coordinate in common: the cell begins in the range, or the range in the cell.
@@ -58,7 +65,7 @@ fn is_touched(area: Rectangle, cell: Slot) -> bool
 
 // ---- a table by radio
 
-// The radio has this place, or none; every other keeps what it has.
+// The radio has this place, or none if that is not seen (it lies outside the rectangle), whatever it had; every other keeps what it has.
 fn hold(
     easts: &mut [u16; RADIO_SLOTS],
     norths: &mut [u16; RADIO_SLOTS],
@@ -66,22 +73,23 @@ fn hold(
     radio: u16,
     east: u16,
     north: u16,
-    placed: bool,
+    seen: bool,
 )
     requires { ⌜ Columns (now easts) (now norths) (now marks) × (radio ≤ maxRadio) ⌝ }
     ensures { λ _. ⌜ Holds (now (easts .exit)) (now (norths .exit)) (now (marks .exit))
-        (putAt radio (cond placed (some (record { east = east; north = north })) none)
+        (putAt radio (cond seen (some (record { east = east; north = north })) none)
         (placesIn (now (easts .entry)) (now (norths .entry)) (now (marks .entry)))) ⌝ }
 {
     let at = radio as usize;
     easts[at] = east;
     norths[at] = north;
-    marks[at] = placed;
+    marks[at] = seen;
 }
 
 // The entries of page p.
 fn hold_page(
     pages: &[u8],
+    area: Rectangle,
     p: u16,
     easts: &mut [u16; RADIO_SLOTS],
     norths: &mut [u16; RADIO_SLOTS],
@@ -89,14 +97,15 @@ fn hold_page(
 )
     requires { ⌜ Columns (now easts) (now norths) (now marks) × (there (now pages) p ≡ true) × UpTo maxRadio (entries (pageAt (now pages) p)) ⌝ }
     ensures { λ _. ⌜ Holds (now (easts .exit)) (now (norths .exit)) (now (marks .exit))
-        (entriesOver (entries (pageAt (now (pages .entry)) p)) (placesIn (now (easts .entry)) (now (norths .entry)) (now (marks .entry)))) ⌝ }
+        (entriesOver (rectOf area) (entries (pageAt (now (pages .entry)) p)) (placesIn (now (easts .entry)) (now (norths .entry)) (now (marks .entry)))) ⌝ }
 {
     let page = page::page_at(pages, p as usize);
     let n = page::entry_count(page);
     let mut i: usize = 0;
     while i < n {
         let e = page::read_entry(page, i);
-        hold(easts, norths, marks, e.radio, e.east, e.north, true);
+        let seen = is_covered(area, e.east, e.north);
+        hold(easts, norths, marks, e.radio, e.east, e.north, seen);
         i += 1;
     }
 }
@@ -104,6 +113,7 @@ fn hold_page(
 // The entries of a cell, by its chain.
 fn hold_cell(
     pages: &[u8],
+    area: Rectangle,
     first: u16,
     easts: &mut [u16; RADIO_SLOTS],
     norths: &mut [u16; RADIO_SLOTS],
@@ -111,7 +121,7 @@ fn hold_cell(
 )
     requires { ⌜ Columns (now easts) (now norths) (now marks) × UpTo maxRadio (entriesFrom (now pages) first) ⌝ }
     ensures { λ _. ⌜ Holds (now (easts .exit)) (now (norths .exit)) (now (marks .exit))
-        (entriesOver (entriesFrom (now (pages .entry)) first) (placesIn (now (easts .entry)) (now (norths .entry)) (now (marks .entry)))) ⌝ }
+        (entriesOver (rectOf area) (entriesFrom (now (pages .entry)) first) (placesIn (now (easts .entry)) (now (norths .entry)) (now (marks .entry)))) ⌝ }
 {
     let mut p = first;
     let mut fuel: usize = PAGES;
@@ -122,7 +132,7 @@ fn hold_cell(
         if !page::is_there(pages, p) {
             return;
         }
-        hold_page(pages, p, easts, norths, marks);
+        hold_page(pages, area, p, easts, norths, marks);
         p = page::next_page(pages, p);
         fuel -= 1;
     }
@@ -142,7 +152,7 @@ fn hold_touched(
         (slotOver (now (pages .entry)) (rectOf area) cell (placesIn (now (easts .entry)) (now (norths .entry)) (now (marks .entry)))) ⌝ }
 {
     if is_touched(area, cell) {
-        hold_cell(pages, cell.first, easts, norths, marks);
+        hold_cell(pages, area, cell.first, easts, norths, marks);
     }
 }
 
@@ -169,8 +179,9 @@ fn hold_cells(
     }
 }
 
-// A line's place is that of the one entry of its radio that isn't stale.
+// A line's place is that of the one entry of its radio that isn't stale. A line outside, or without a place, takes away what the entries told.
 fn hold_lines(
+    area: Rectangle,
     words: &[u16; Desk::MEMO_WORDS],
     lines: u16,
     easts: &mut [u16; RADIO_SLOTS],
@@ -180,26 +191,20 @@ fn hold_lines(
     requires { ⌜ Columns (now easts) (now norths) (now marks) × (length (now words) ≡ lineFields * lineSlots) × (lines ≤ lineSlots)
         × UpTo maxRadio (linesOf (memoIn lines (now words))) ⌝ }
     ensures { λ _. ⌜ Holds (now (easts .exit)) (now (norths .exit)) (now (marks .exit))
-        (linesOver (linesOf (memoIn lines (now (words .entry)))) (placesIn (now (easts .entry)) (now (norths .entry)) (now (marks .entry)))) ⌝ }
+        (linesOver (rectOf area) (linesOf (memoIn lines (now (words .entry)))) (placesIn (now (easts .entry)) (now (norths .entry)) (now (marks .entry)))) ⌝ }
 {
     let mut i: usize = 0;
     while i < lines as usize {
         let x = desk::line_at(words, i);
-        hold(
-            easts,
-            norths,
-            marks,
-            x.radio,
-            x.east,
-            x.north,
-            x.placed != 0,
-        );
+        let seen = (x.placed != 0) & is_covered(area, x.east, x.north);
+        hold(easts, norths, marks, x.radio, x.east, x.north, seen);
         i += 1;
     }
 }
 
 // "a waiting report's before a stored one's"
 fn hold_reports(
+    area: Rectangle,
     waiting: Waiting,
     easts: &mut [u16; RADIO_SLOTS],
     norths: &mut [u16; RADIO_SLOTS],
@@ -207,13 +212,14 @@ fn hold_reports(
 )
     requires { ⌜ Columns (now easts) (now norths) (now marks) × (waiting .n ≤ fullMemory) × UpTo maxRadio (reportsOf waiting) ⌝ }
     ensures { λ _. ⌜ Holds (now (easts .exit)) (now (norths .exit)) (now (marks .exit))
-        (reportsOver (reportsOf waiting) (placesIn (now (easts .entry)) (now (norths .entry)) (now (marks .entry)))) ⌝ }
+        (reportsOver (rectOf area) (reportsOf waiting) (placesIn (now (easts .entry)) (now (norths .entry)) (now (marks .entry)))) ⌝ }
 {
     let n = waiting.n as usize;
     let mut i: usize = 0;
     while i < n {
         let x = waiting.rows[i];
-        hold(easts, norths, marks, x.radio, x.east, x.north, true);
+        let seen = is_covered(area, x.east, x.north);
+        hold(easts, norths, marks, x.radio, x.east, x.north, seen);
         i += 1;
     }
 }
@@ -236,6 +242,6 @@ pub fn hold_all(
         (placesOf (now (pages .entry)) (rectOf area) (slotsIn cells) (linesOf (memoIn lines (now (words .entry)))) (reportsOf waiting)) ⌝ }
 {
     hold_cells(pages, area, cells, easts, norths, marks);
-    hold_lines(words, lines, easts, norths, marks);
-    hold_reports(waiting, easts, norths, marks);
+    hold_lines(area, words, lines, easts, norths, marks);
+    hold_reports(area, waiting, easts, norths, marks);
 }

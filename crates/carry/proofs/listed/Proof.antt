@@ -7,10 +7,10 @@ use Rattle.carry.proofs.listed.Tie as tie
 
 list-requires : tie.Need-list-requires
 list-requires c κs =
-    let e = c .before .before .before .before .before .before .before in
+    let e = c .before .before .before .before .before .before .before .before .before in
     let s = e .pre .1 in
     let a = range-asks (s .store) _ (deskWith (e .args .parts) (e .args .words .now)) (s .well) (s .laid) (s .held) in
-    (e .pre .0, a .0, a .1, a .2)
+    (e .pre .0, a .0, a .1, a .2, a .3)
 
 answered-requires : tie.Need-answered-requires
 answered-requires c κs = search needs
@@ -21,7 +21,7 @@ same-length c = search needs
 returns : tie.Need-returns
 returns c = λ x.
     let l = c .before .before .before in
-    let e = l .before .before .before .before .before .before .before .before in
+    let e = l .before .before .before .before .before .before .before .before .before .before in
     lists-returns (e .args .parts) (e .args .words .now) x (e .args .area) _ (l .list .ensures) (c .answered .ensures)
 
 pub listed-spec : {M : Type 1} → statement M

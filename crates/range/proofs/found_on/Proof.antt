@@ -1,23 +1,18 @@
--- Of the radios passed those found are kept.
+-- Of the radios passed those marked are kept.
 use Prim.Native.Nat.{_-_, _≤_}
-use Rattle.desk.specs.Views.{rectOf}
-use Rattle.range_places.specs.Places.{placesIn}
 use Rattle.range.proofs.ListLaws.{on-radios, Kept, keep-start, keep-turn, keep-end}
 use borrow.Author.Needs.{needs}
 use Rattle.range.proofs.found_on.Statement.{statement}
 use Rattle.range.proofs.found_on.Tie as tie
 
 abbrev Inv-loop : tie.InvT-loop
-Inv-loop easts norths marks area on n found₀ kept₀ i₀ found kept i = (i ≤ n) × (kept ≤ i) × Kept (rectOf area) (placesIn easts norths marks) on i kept (found .radios)
+Inv-loop marks radios n found₀ kept₀ i₀ found kept i = (i ≤ n) × (kept ≤ i) × Kept marks radios n i kept found
 
 abbrev μ-loop : tie.MeasureT-loop
-μ-loop easts norths marks area on n found₀ kept₀ i₀ found kept i = n - i
-
-cast-n : tie.Need-cast-n Inv-loop μ-loop
-cast-n c = search needs
+μ-loop marks radios n found₀ kept₀ i₀ found kept i = n - i
 
 loop-holds : tie.Need-loop-holds Inv-loop μ-loop
-loop-holds c = (search needs, search needs, search (keep-start, needs))
+loop-holds c = (search needs, search needs, search keep-start)
 
 mul-radio : tie.Need-mul-radio Inv-loop μ-loop
 mul-radio c = search needs
@@ -31,8 +26,8 @@ mul-found c = search needs
 element-write-found : tie.Need-element-write-found Inv-loop μ-loop
 element-write-found c = search needs
 
-is-found-requires : tie.Need-is-found-requires Inv-loop μ-loop
-is-found-requires c κs = (search needs, search (on-radios, needs))
+is-marked-requires : tie.Need-is-marked-requires Inv-loop μ-loop
+is-marked-requires c κs = (search needs, search (on-radios, needs))
 
 one-if-requires : tie.Need-one-if-requires Inv-loop μ-loop
 one-if-requires c κs = search needs
@@ -47,13 +42,13 @@ loop-less : tie.Need-loop-less Inv-loop μ-loop
 loop-less c = search needs
 
 loop-again : tie.Need-loop-again Inv-loop μ-loop
-loop-again c = (search needs, search needs, search (keep-turn, needs))
+loop-again c = (search needs, search needs, search keep-turn)
 
-cast-found : tie.Need-cast-found Inv-loop μ-loop
-cast-found c = search needs
+cast-result : tie.Need-cast-result Inv-loop μ-loop
+cast-result c = search needs
 
 returns : tie.Need-returns Inv-loop μ-loop
-returns c = (search keep-end, search needs)
+returns c = (search keep-end, search needs, search needs)
 
 pub found-on-spec : {M : Type 1} → statement M
 found-on-spec =
@@ -61,17 +56,16 @@ found-on-spec =
     (tie.spec
     Inv-loop
     μ-loop
-    cast-n
     loop-holds
     mul-radio
     element-copy-out-radio
     mul-found
     element-write-found
-    is-found-requires
+    is-marked-requires
     one-if-requires
     add-kept
     add-i
     loop-less
     loop-again
-    cast-found
+    cast-result
     returns)

@@ -1,4 +1,5 @@
 use Rattle.range.proofs.ListLaws.{empty-table, found-radios, told-short, told-listed}
+use Rattle.memo.specs.Memo.{memoIn}
 use borrow.Author.Needs.{needs}
 use Rattle.range.proofs.list.Statement.{statement}
 use Rattle.range.proofs.list.Tie as tie
@@ -16,16 +17,24 @@ mul-if1 : tie.Need-mul-if1
 mul-if1 c = search needs
 
 returns : tie.Need-returns
-returns c = told-short _ _ _ _ _ _ _ (c .before .before .before .before .before .hold-all .ensures) (c .before .found-on .ensures .0) _ (search needs) (c .before .found-on .ensures .1) (c .if1 .taken)
+returns c =
+    let f = c .before in
+    let e = f .before .before .before .before .before .before .before .before .before in
+    told-short _ _ _ _ (memoIn (e .args .lines) (e .args .words .now)) _ _ _ _ (f .before .before .before .hold-all .ensures) (f .found-on .ensures .0) _ (f .found-on .ensures .1) (f .found-on .ensures .2) (c .if1 .taken)
 
 write-rows-requires : tie.Need-write-rows-requires
-write-rows-requires c κs = (search needs, search needs, search needs, found-radios _ _ _ (c .before .before .before .before .found-on .ensures .0) (c .before .before .before .before .before .before .before .before .before .before .before .before .before .before .pre .3), search needs)
+write-rows-requires c κs =
+    let f = c .before .before .before .before .before in
+    (search needs, search needs, f .found-on .ensures .1, f .found-on .ensures .2, found-radios _ _ _ _ _ (f .found-on .ensures .0) (f .before .before .before .before .before .before .before .before .before .pre .4), search needs)
 
 same-length : tie.Need-same-length
 same-length c = search needs
 
 returns-2 : tie.Need-returns-2
-returns-2 c = told-listed _ _ _ _ _ _ _ (c .before .before .before .before .before .before .before .before .before .before .before .hold-all .ensures) (c .before .before .before .before .before .before .before .found-on .ensures .0) _ (search needs) (c .before .before .before .before .before .before .before .found-on .ensures .1) (c .before .before .before .before .before .before .if1 .left) (c .before .before .write-rows .ensures)
+returns-2 c =
+    let f = c .before .before .before .before .before .before .before .before in
+    let e = f .before .before .before .before .before .before .before .before .before in
+    told-listed _ _ _ _ (memoIn (e .args .lines) (e .args .words .now)) _ _ _ _ (f .before .before .before .hold-all .ensures) (f .found-on .ensures .0) _ (f .found-on .ensures .1) (f .found-on .ensures .2) (c .before .before .before .before .before .before .before .if1 .left) (c .before .before .write-rows .ensures)
 
 pub list-spec : {M : Type 1} → statement M
 list-spec =

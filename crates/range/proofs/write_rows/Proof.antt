@@ -8,13 +8,10 @@ use Rattle.range.proofs.write_rows.Statement.{statement}
 use Rattle.range.proofs.write_rows.Tie as tie
 
 abbrev Inv-loop : tie.InvT-loop
-Inv-loop buffer₀ easts norths found n i₀ buffer i = (i ≤ n) × (length buffer ≡ length buffer₀) × Writing easts norths found buffer₀ i buffer
+Inv-loop buffer₀ easts norths found n i₀ buffer i = (i ≤ n) × (length buffer ≡ length buffer₀) × Writing easts norths found n buffer₀ i buffer
 
 abbrev μ-loop : tie.MeasureT-loop
 μ-loop buffer₀ easts norths found n i₀ buffer i = n - i
-
-cast-n : tie.Need-cast-n Inv-loop μ-loop
-cast-n c = search needs
 
 loop-holds : tie.Need-loop-holds Inv-loop μ-loop
 loop-holds c = (search needs, search needs, search writing-start)
@@ -52,7 +49,6 @@ write-rows-spec =
     (tie.spec
     Inv-loop
     μ-loop
-    cast-n
     loop-holds
     mul-radio
     element-copy-out-radio

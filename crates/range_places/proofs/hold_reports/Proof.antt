@@ -1,8 +1,8 @@
 -- The reports passed lie over the table.
-use Prim.Native.Nat.{_-_, _≤_, _<_}
-use native.Mathlib.Omega.{arith}
+use Prim.Native.Nat.{_-_, _≤_}
 use lib.ListN.{take}
 use Rattle.lists.proofs.ShiftLaws.{length-mapped}
+use Rattle.desk.specs.Views.{rectOf}
 use Rattle.waiting.specs.Waiting.{reportsOf}
 use Rattle.range_places.specs.Places.{placesIn, Holds, reportsOver}
 use Rattle.range_places.proofs.TableLaws.{reports-start, reports-radios, reports-turn, reports-end}
@@ -11,10 +11,10 @@ use Rattle.range_places.proofs.hold_reports.Statement.{statement}
 use Rattle.range_places.proofs.hold_reports.Tie as tie
 
 abbrev Inv-loop : tie.InvT-loop
-Inv-loop easts₀ norths₀ marks₀ waiting n i₀ easts norths marks i = (i ≤ n) × Holds easts norths marks (reportsOver (take i (reportsOf waiting)) (placesIn easts₀ norths₀ marks₀))
+Inv-loop area easts₀ norths₀ marks₀ waiting n i₀ easts norths marks i = (i ≤ n) × Holds easts norths marks (reportsOver (rectOf area) (take i (reportsOf waiting)) (placesIn easts₀ norths₀ marks₀))
 
 abbrev μ-loop : tie.MeasureT-loop
-μ-loop easts₀ norths₀ marks₀ waiting n i₀ easts norths marks i = n - i
+μ-loop area easts₀ norths₀ marks₀ waiting n i₀ easts norths marks i = n - i
 
 cast-n : tie.Need-cast-n Inv-loop μ-loop
 cast-n c = search needs
@@ -28,10 +28,11 @@ mul-x c = search needs
 element-copy-out-x : tie.Need-element-copy-out-x Inv-loop μ-loop
 element-copy-out-x c = search needs
 
+is-covered-requires : tie.Need-is-covered-requires Inv-loop μ-loop
+is-covered-requires c κs = search needs
+
 hold-requires : tie.Need-hold-requires Inv-loop μ-loop
-hold-requires c κs =
-    let more : c .before .before .before .before .before .loop .i < c .before .before .before .before .before .before .args .t1 .n = omega arith in
-    (search needs, search (reports-radios, length-mapped))
+hold-requires c κs = (search needs, search (reports-radios, length-mapped))
 
 add-i : tie.Need-add-i Inv-loop μ-loop
 add-i c = search needs
@@ -40,9 +41,7 @@ loop-less : tie.Need-loop-less Inv-loop μ-loop
 loop-less c = search needs
 
 loop-again : tie.Need-loop-again Inv-loop μ-loop
-loop-again c =
-    let more : c .before .before .before .before .before .before .loop .i < c .before .before .before .before .before .before .before .args .t1 .n = omega arith in
-    (search needs, search (reports-turn, length-mapped))
+loop-again c = (search needs, search (reports-turn, length-mapped))
 
 returns : tie.Need-returns Inv-loop μ-loop
 returns c = search reports-end
@@ -57,6 +56,7 @@ hold-reports-spec =
     loop-holds
     mul-x
     element-copy-out-x
+    is-covered-requires
     hold-requires
     add-i
     loop-less

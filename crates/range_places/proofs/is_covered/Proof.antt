@@ -1,7 +1,7 @@
 use Rattle.lists.proofs.TestsLaws.{both-tell}
 use borrow.Author.Needs.{needs}
-use Rattle.range.proofs.is_covered.Statement.{statement}
-use Rattle.range.proofs.is_covered.Tie as tie
+use Rattle.range_places.proofs.is_covered.Statement.{statement}
+use Rattle.range_places.proofs.is_covered.Tie as tie
 
 takes-in-requires : tie.Need-takes-in-requires
 takes-in-requires c κs = search needs
