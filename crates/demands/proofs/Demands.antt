@@ -32,14 +32,14 @@ pub record Beside (d : Desk) (b : List ℕ) (x : Plain) : Type 0 where
   pub laid : Laid store b
   pub link : Link store x
 
-abbrev sound : {d : Desk} {b : List ℕ} {x : Plain} → Beside d b x → Sound d b
+abbrev pub sound : {d : Desk} {b : List ℕ} {x : Plain} → Beside d b x → Sound d b
 sound k = record { store = k .store; well = k .well; held = k .held; laid = k .laid }
 
-begins : Beside freshDesk freshPages plainFresh
+unfoldable pub begins : Beside freshDesk freshPages plainFresh
 begins = record { store = fresh; well = fresh-well; held = refl; laid = fresh-laid; link = fresh-link }
 
 -- what a call answers and leaves, as the rules say of the store beside it
-outcome : {d : Desk} {b : List ℕ} {x : Plain} (k : Beside d b x) (bytes buffer : List ℕ) {y : After}
+unfoldable pub outcome : {d : Desk} {b : List ℕ} {x : Plain} (k : Beside d b x) (bytes buffer : List ℕ) {y : After}
     → y ≡ laidOut (carry (k .store) bytes buffer) → Bytes bytes
     → Beside (y .desk) (y .pages) (plainStep (deskCuts d) bytes x)
 unfolding laidOut

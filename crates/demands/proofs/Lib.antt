@@ -1,3 +1,4 @@
 pub mod Demands
 pub mod KeptLaws
+pub mod Lasting
 pub mod Same

@@ -1,3 +1,4 @@
 pub mod Demands
+pub mod Lasting
 pub mod Same
 pub mod Trace

@@ -161,7 +161,7 @@ clean-find : (memo : Rows Line) (c : Cell) → Rowed c → ((r : ℕ) (p : Place
 unfolding staleIn
 clean-find memo c k h = sum-zero-find (λ e. one-if (stale memo e)) 0 (c .entries) (k .rising) (λ r p e. ap one-if (h r p e))
 
-find-clean : (memo : Rows Line) (c : Cell) → Rowed c → Clean memo c → (r : ℕ) (p : Place) → find (c .entries) r ≡ some p → staleBy (find memo r) p ≡ false
+pub find-clean : (memo : Rows Line) (c : Cell) → Rowed c → Clean memo c → (r : ℕ) (p : Place) → find (c .entries) r ≡ some p → staleBy (find memo r) p ≡ false
 unfolding staleIn
 find-clean memo c k clean r p e =
     each-find (λ r p. staleBy (find memo r) p ≡ false) r p (c .entries)

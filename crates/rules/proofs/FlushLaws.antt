@@ -297,7 +297,7 @@ module _ (f : Flushed) (d₀ : Cell) (before after : List Cell) (memo : Rows Lin
     unfolding settled swept
     books-whole = books-join (f .cell) sweptCell left books-swept-apart clean-d clean-m (whole .number) (whole .chain) (near .side) beside-swept
 
-    clean-whole : Clean memoThen whole
+    pub clean-whole : Clean memoThen whole
     unfolding settled swept
     clean-whole = clean-join (f .cell) sweptCell left books-swept-apart clean-d clean-m (whole .number) (whole .chain) (near .side) beside-swept
 
@@ -308,7 +308,7 @@ module _ (f : Flushed) (d₀ : Cell) (before after : List Cell) (memo : Rows Lin
         (smaller-number (settled (f .store .free) (f .cell)) m ∙ ap (λ (k : ℕ). min k (m .number)) (r .number))
         (ap (λ (e : Rect). joinedEdges e (m .edges)) (r .edges))
 
-    others-left : others (m .number) (f .rest) ≡ left
+    pub others-left : others (m .number) (f .rest) ≡ left
     others-left =
         ap (others (m .number)) (r .rest ∙ a .split)
         ∙ others-split (a .before) m (a .after) (subst (λ (l : List Cell). (q : ℕ) → count q (map (λ x. x .number) l) ≤ 1) (a .split) (round-others before d₀ after (r .tiled .round)))

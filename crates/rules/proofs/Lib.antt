@@ -1,6 +1,7 @@
 pub mod BooksLaws
 pub mod CutLaws
 pub mod FlushLaws
+pub mod LastingLaws
 pub mod LatestLaws
 pub mod LinkLaws
 pub mod LiveLaws

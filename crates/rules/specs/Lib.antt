@@ -2,6 +2,7 @@ pub mod Carry
 pub mod Cut
 pub mod Flush
 pub mod Grid
+pub mod Lasting
 pub mod Limits
 pub mod Midway
 pub mod Neighbour

@@ -44,6 +44,11 @@ impl Both {
         self.calls
     }
 
+    /// Radio and place of each entry on the pages that is stale by the plain rule.
+    pub fn stale_entries(&self) -> impl Iterator<Item = (u16, (u16, u16))> + '_ {
+        self.rule.stale_entries(self.store.pages())
+    }
+
     /// Hands a record to both, with an answer buffer that takes every radio.
     pub fn record(&mut self, record: Record) -> Told {
         self.call(&record.to_bytes(), LIST_BYTES)

@@ -89,6 +89,11 @@ impl Rule {
         );
     }
 
+    /// The stale entries on all pages: those whose place is not the last place flushed for their radio.
+    pub fn stale_entries<'a>(&'a self, pages: &'a [u8]) -> impl Iterator<Item = (u16, Place)> + 'a {
+        entries(pages).filter(|(radio, place)| self.flushed[usize::from(*radio)] != Some(*place))
+    }
+
     /// Each page is once in one chain; the stale entries of each radio are its missed count; stale and waiting together are
     /// within their bound.
     pub fn compare_pages(&self, store: &Store) {
@@ -104,11 +109,8 @@ impl Rule {
         }
         assert_eq!(times, [1; PAGES], "each page is in a chain");
         let mut stale = vec![0; RADIOS];
-        for page in pages.chunks_exact(PAGE_BYTES) {
-            for entry in page[8..usize::from(field(page, 0))].chunks_exact(ENTRY_BYTES) {
-                let (radio, place) = (usize::from(field(entry, 0)), (field(entry, 1), field(entry, 2)));
-                stale[radio] += usize::from(self.flushed[radio] != Some(place));
-            }
+        for (radio, _) in self.stale_entries(pages) {
+            stale[usize::from(radio)] += 1;
         }
         let mut missed = vec![0; RADIOS];
         for line in desk.memo.in_use() {
@@ -122,6 +124,13 @@ impl Rule {
 /// The number of the stripe that a coordinate lies in: a cut at c puts coordinates below c on the low side.
 fn stripe(cuts: &CutList, coordinate: u16) -> usize {
     cuts.in_use().iter().filter(|cut| **cut <= coordinate).count()
+}
+
+/// Radio and place of each entry on all pages.
+fn entries(pages: &[u8]) -> impl Iterator<Item = (u16, Place)> + '_ {
+    let in_use = |page| <[u8]>::chunks_exact(&page[8..usize::from(field(page, 0))], ENTRY_BYTES);
+    let entries = pages.chunks_exact(PAGE_BYTES).flat_map(in_use);
+    entries.map(|entry| (field(entry, 0), (field(entry, 1), field(entry, 2))))
 }
 
 fn page_of(pages: &[u8], page: u16) -> &[u8] {

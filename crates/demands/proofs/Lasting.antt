@@ -1,0 +1,238 @@
+-- An old entry is off the pages by the end of the 1,024th record: the cell that holds it is the same, entry by entry, in every state in which it is stale, and
+-- each record brings it nearer to its sweep. It stands at place 63 of the round at the most, and 16 × 64 = 1,024.
+use mathlib.Core.Bool.{Bool, true, false, not, cond}
+use mathlib.Core.List.{List, [], _∷_}
+use mathlib.Core.Option.{Option, none, some}
+use mathlib.Core.Path.{_≡_, refl, sym, ap, _∙_}
+use Prim.Native.Nat.{ℕ, _+_, _*_, _≤_, _<_}
+use native.Mathlib.Omega.{arith}
+use lib.Dec.{eqb}
+use lib.ListN.{length}
+use borrow.Author.Tests.{eqb-true, eq-eqb, ne-eqb}
+use Rattle.terms.specs.Terms.{Place}
+use Rattle.lists.specs.Among.{Among}
+use Rattle.lists.specs.Rows.{Rising, find, countFound}
+use Rattle.lists.specs.Sums.{sumBy}
+use Rattle.lists.specs.Tests.{one-if, both, either}
+use Rattle.lists.specs.Words.{Bytes}
+use Rattle.lists.proofs.AmongLaws.{among-head, among-tail, each-among, sum-among}
+use Rattle.lists.proofs.Cases.{by-cases, option-cases, false-true}
+use Rattle.lists.proofs.RowsLaws.{sum-at-key, each-find}
+use Rattle.lists.proofs.SumsLaws.{sum-const}
+use Rattle.lists.proofs.TestsLaws.{both-left, both-right}
+use Rattle.rules.specs.Limits.{sweepEvery}
+use Rattle.rules.specs.Grid.{samePlace, inside}
+use Rattle.rules.specs.Store.{Store, Cell, missedOf, fresh}
+use Rattle.rules.specs.Sweep.{isAt, staleBy}
+use Rattle.rules.specs.Records.{requestOf}
+use Rattle.rules.specs.Carry.{carry}
+use Rattle.rules.specs.Plain.{Plain, plainStep}
+use Rattle.rules.specs.WellFormed.{countIf, staleOf, WellFormed}
+use Rattle.rules.specs.Parts.{Rowed, Clean}
+use Rattle.rules.specs.Lasting.{isCounted, lastingRecords}
+use Rattle.rules.proofs.BooksLaws.{find-clean}
+use Rattle.rules.proofs.LastingLaws.{place-below, within-round, step-nearer, step-same, plain-same}
+use Rattle.rules.proofs.LinkLaws.{Link}
+use Rattle.rules.proofs.PlaceLaws.{samePlace-true}
+use Rattle.rules.proofs.WellLaws.{well-core}
+use Rattle.desk.specs.declared.Desk.{Desk}
+use Rattle.desk.specs.Call.{After, Answers, handed, laidOut}
+use Rattle.desk.proofs.CallLaws.{answers-sound}
+use Rattle.demands.specs.Trace.{Trace, begun, called, deskCuts}
+use Rattle.demands.specs.Lasting.{isEntry, entriesAt, isRecord, recordsSince, Lasting, LastingLess, OneEntry}
+use Rattle.demands.proofs.KeptLaws.{pages-sum, stale-flushed}
+use Rattle.demands.proofs.Demands.{Beside, sound, begins, outcome}
+
+sum-le-among : {A : Type 0} (f g : A → ℕ) (l : List A) → ((x : A) → Among l x → f x ≤ g x) → sumBy f l ≤ sumBy g l
+unfolding sumBy
+sum-le-among f g [] h = omega arith
+sum-le-among f g (x ∷ xs) h = omega (arith, h x (among-head x xs), sum-le-among f g xs (λ y a. h y (among-tail x a)))
+
+-- ---- how the records are counted
+
+-- once it is stale, the count goes on from where it was, or from 0
+since-called : {d : Desk} {b : List ℕ} {x : Plain} (t : Trace d b x) (bytes buffer : List ℕ) (y : After) (small : Bytes bytes)
+    (a : Answers (handed d b bytes buffer) y) (r : ℕ) (p : Place) → isAt (plainStep (deskCuts d) bytes x .flushed r) p ≡ false
+    → recordsSince r p (called t bytes buffer y small a) ≤ cond (isAt (x .flushed r) p) 0 (recordsSince r p t + one-if (isRecord bytes y))
+unfolding recordsSince either
+since-called {x = x} t bytes buffer y small a r p stale =
+    let n = recordsSince r p t + one-if (isRecord bytes y) in
+    by-cases (isAt (x .flushed r) p)
+    (λ u. rw u (omega arith))
+    (λ u. rw u (omega (arith, ap (λ (z : Bool). cond z 0 n) stale)))
+
+-- and there is none while it is not
+live-none : {d : Desk} {b : List ℕ} {x : Plain} (t : Trace d b x) (r : ℕ) (p : Place) → isAt (x .flushed r) p ≡ true → recordsSince r p t ≡ 0
+unfolding recordsSince either
+live-none begun r p e = refl
+live-none (called {d} {b} {x} t bytes buffer y small a) r p e =
+    let n = recordsSince r p t + one-if (isRecord bytes y) in
+    by-cases (isAt (x .flushed r) p)
+    (λ u. rw u (omega arith))
+    (λ u. rw u (omega (arith, ap (λ (z : Bool). cond z 0 n) e)))
+
+-- ---- a stale entry is one by the memo
+
+module _ (s : Store) (x : Plain) (w : WellFormed s) (k : Link s x) {c : Cell} (a : Among (s .cells) c) (r : ℕ) (p : Place)
+    (held : find (c .entries) r ≡ some p) (stale : isAt (x .flushed r) p ≡ false) where
+  -- it is one of those that the missed count counts, so its radio has a memo line; and a line's place is the last place flushed
+  counted : 1 ≤ missedOf (find (s .memo) r)
+  unfolding staleOf
+  counted = omega (
+    arith,
+    stale-flushed s x w k r,
+    sum-among (λ c. countIf (λ q. not (isAt (x .flushed r) q)) (find (c .entries) r)) a,
+    ap (countIf (λ q. not (isAt (x .flushed r) q))) held,
+    ap (λ z. one-if (not z)) stale,
+  )
+
+  judged : staleBy (find (s .memo) r) p ≡ true
+  judged =
+      option-cases (find (s .memo) r)
+      (λ e. absurd (omega (arith, counted, ap missedOf e)))
+      (λ l e. rw (e, k .lines r l e, stale) refl)
+
+  not-clean : Clean (s .memo) c → ⊥
+  not-clean clean =
+      false-true (sym (find-clean (s .memo) c (each-among Rowed (well-core s w .books .cells-rowed) a) clean r p held) ∙ judged)
+
+-- ---- the cell that holds it
+
+-- it became stale n records ago, and at place k of the round it is swept with the (16 × (k + 1) − c)-th from here: less than 1,024 together
+abbrev Soon : Store → Plain → ℕ → Place → ℕ → Type 0
+Soon s x r p n = (c : Cell) (a : Among (s .cells) c) → find (c .entries) r ≡ some p → isAt (x .flushed r) p ≡ false
+    → sweepEvery * length (a .before) + sweepEvery + n < lastingRecords + s .tally
+
+-- a call: what counts as a record brings the cell nearer, and anything else leaves store and plain rule as they were
+module _ {d : Desk} {b : List ℕ} {x : Plain} (k : Beside d b x) (bytes buffer : List ℕ) {y : After} (e : y ≡ laidOut (carry (k .store) bytes buffer))
+    (small : Bytes bytes) (r : ℕ) (p : Place) (n : ℕ) (h : Soon (k .store) x r p n) where
+  abbrev then : Beside (y .desk) (y .pages) (plainStep (deskCuts d) bytes x)
+  then = outcome k bytes buffer e small
+
+  abbrev live : Bool
+  live = isAt (x .flushed r) p
+
+  record-told : isRecord bytes y ≡ both (eqb (carry (k .store) bytes buffer .number) 0) (isCounted (requestOf bytes))
+  unfolding isRecord laidOut
+  record-told = ap (λ (z : After). both (eqb (z .number) 0) (isCounted (requestOf bytes))) e
+
+  soon-record : isRecord bytes y ≡ true → Soon (then .store) (plainStep (deskCuts d) bytes x) r p (cond live 0 (n + 1))
+  unfolding outcome
+  soon-record t c now held stale =
+      let told = sym record-told ∙ t in
+      let s = k .store in
+      let zero = eqb-true (carry s bytes buffer .number) 0 (both-left _ _ told) in
+      let old = not-clean (then .store) (plainStep (deskCuts d) bytes x) (then .well) (then .link) now r p held stale in
+      let j = step-nearer s bytes buffer small (k .well) zero (both-right _ _ told) c now old in
+      by-cases live
+      (λ u. rw u (omega (arith, j .sooner, within-round (j .was) (k .well .few-cells))))
+      (λ u. rw u (omega (arith, j .sooner, h c (j .was) held u)))
+
+  soon-other : isRecord bytes y ≡ false → Soon (then .store) (plainStep (deskCuts d) bytes x) r p (cond live 0 (n + 0))
+  unfolding outcome
+  soon-other t =
+      let told = sym record-told ∙ t in
+      let plain = plain-same (k .store) bytes buffer told x (deskCuts d) (k .link) (well-core (k .store) (k .well) .signed) in
+      rw (step-same (k .store) bytes buffer told, plain)
+      (λ c now held stale. rw stale (omega (arith, h c now held stale)))
+
+  soon-called : Soon (then .store) (plainStep (deskCuts d) bytes x) r p (cond live 0 (n + one-if (isRecord bytes y)))
+  soon-called =
+      by-cases (isRecord bytes y)
+      (λ u. rw u (soon-record u))
+      (λ u. rw u (soon-other u))
+
+-- ---- over the whole list
+
+record Aged {d : Desk} {b : List ℕ} {x : Plain} (t : Trace d b x) : Type 0 where
+  beside : Beside d b x
+  soon : (r : ℕ) (p : Place) → Soon (beside .store) x r p (recordsSince r p t)
+
+aged-begun : Aged begun
+unfolding begins fresh recordsSince
+aged-begun = record { beside = begins; soon = λ r p c a held stale. omega (arith, place-below a) }
+
+aged : {d : Desk} {b : List ℕ} {x : Plain} (t : Trace d b x) → Aged t
+aged begun = aged-begun
+aged (called t bytes buffer y small a) =
+    let k = aged t in
+    let e = answers-sound a (sound (k .beside)) in
+    record {
+      beside = outcome (k .beside) bytes buffer e small;
+      soon = λ r p c now held stale. omega (
+        arith,
+        since-called t bytes buffer y small a r p stale,
+        soon-called (k .beside) bytes buffer e small r p (recordsSince r p t) (k .soon r p) c now held stale,
+      );
+    }
+
+-- ---- the entries on the pages
+
+module _ (r : ℕ) (p : Place) where
+  abbrev entriesIn : Cell → ℕ
+  entriesIn c = sumBy (λ e. one-if (isEntry r p e)) (c .entries)
+
+  count-entry : (o : Option Place) → countFound (λ k v. one-if (isEntry r p (record { key = k; val = v }))) r o ≡ countIf (samePlace p) o
+  unfolding isEntry both
+  count-entry none = refl
+  count-entry (some q) = rw (eq-eqb r r refl)
+
+  entries-in : (c : Cell) → Rising 0 (c .entries) → entriesIn c ≡ countIf (samePlace p) (find (c .entries) r)
+  unfolding isEntry both
+  entries-in c a =
+      sum-at-key (λ e. one-if (isEntry r p e)) 0 r (c .entries) (λ e n. rw (ne-eqb r (e .key) (λ q. n (sym q)))) a ∙ count-entry (find (c .entries) r)
+
+  -- a cell has one, which is its entry of the radio, or none
+  held-or-none {ℓ} : {P : Type ℓ} (c : Cell) → Rising 0 (c .entries) → (entriesIn c ≡ 0 → P) → (entriesIn c ≡ 1 → find (c .entries) r ≡ some p → P) → P
+  held-or-none c a f g =
+      option-cases (find (c .entries) r)
+      (λ e. f (entries-in c a ∙ ap (countIf (samePlace p)) e))
+      (λ q e. by-cases (samePlace p q)
+      (λ t. g (entries-in c a ∙ ap (countIf (samePlace p)) e ∙ ap one-if t) (e ∙ ap some (sym (samePlace-true p q t))))
+      (λ t. f (entries-in c a ∙ ap (countIf (samePlace p)) e ∙ ap one-if t)))
+
+  module _ {d : Desk} {b : List ℕ} {x : Plain} (k : Beside d b x) where
+    abbrev cells : List Cell
+    cells = k .store .cells
+
+    on-pages : entriesAt b r p ≡ sumBy entriesIn cells
+    unfolding entriesAt
+    on-pages = pages-sum (k .store) (k .well) b (k .laid) (λ e. one-if (isEntry r p e))
+
+    rows : {c : Cell} → Among cells c → Rowed c
+    rows a = each-among Rowed (well-core (k .store) (k .well) .books .cells-rowed) a
+
+    none-held : ((c : Cell) → Among cells c → find (c .entries) r ≡ some p → ⊥) → entriesAt b r p ≡ 0
+    none-held h =
+        omega (
+          arith,
+          on-pages,
+          sum-const 0 cells,
+          sum-le-among entriesIn (λ _. 0) cells (λ c a. held-or-none c (rows a .rising) (λ z. omega arith) (λ _ e. absurd (h c a e))),
+        )
+
+    -- a place lies in one cell
+    one-held : entriesAt b r p ≤ 1
+    one-held =
+        omega (
+          arith,
+          on-pages,
+          well-core (k .store) (k .well) .books .apart p,
+          sum-le-among entriesIn (λ c. one-if (inside (c .edges) p)) cells (λ c a. held-or-none c (rows a .rising) (λ z. omega arith)
+              (λ o e. omega (arith, o, ap one-if (each-find (λ _ q. inside (c .edges) q ≡ true) r p (c .entries) (rows a .placed) e)))),
+        )
+
+-- ---- the theorems
+
+pub lasting-less : LastingLess
+lasting-less d b x t r p late =
+    let k = aged t in
+    by-cases (isAt (x .flushed r) p)
+    (λ u. absurd (omega (arith, late, live-none t r p u)))
+    (λ u. none-held r p (k .beside) (λ c a e. omega (arith, late, k .soon r p c a e u, k .beside .well .tallied)))
+
+pub lasting : Lasting
+lasting d b x t r p late = lasting-less d b x t r p (omega (arith, late))
+
+pub one-entry : OneEntry
+one-entry d b x t r p = one-held r p (aged t .beside)
