@@ -52,12 +52,18 @@ static int is_sound(size_t pages_length)
 
 static void expect_fresh(void)
 {
-    const boragefile_grid *grid = &lent.desk.grid;
-    assert(grid->easts.n == 0 && grid->norths.n == 0 && grid->cells.n == 1 && grid->free == 1);
-    assert(grid->cells.slots[0].number == 0 && grid->cells.slots[0].first == 0);
-    assert(grid->cells.slots[0].west == 0 && grid->cells.slots[0].east == 65535);
-    assert(grid->cells.slots[0].south == 0 && grid->cells.slots[0].north == 65535);
-    assert(lent.desk.waiting.n == 0 && lent.desk.memo.n == 0 && lent.desk.on.n == 0 && lent.desk.tally == 0);
+    const boragefile_desk *desk = &lent.desk;
+    const boragefile_parts *parts = &desk->parts;
+    assert(parts->frame.easts.n == 0 && parts->frame.norths.n == 0 && parts->frame.cells == 1 && parts->frame.free == 1);
+    assert(all((const uint8_t *)parts->frame.easts.at, sizeof parts->frame.easts.at, 0));
+    assert(all((const uint8_t *)parts->frame.norths.at, sizeof parts->frame.norths.at, 0));
+    assert(parts->waiting == 0 && parts->lines == 0 && parts->on == 0 && parts->tally == 0);
+    assert(desk->cells[0].number == 0 && desk->cells[0].first == 0);
+    assert(desk->cells[0].west == 0 && desk->cells[0].east == 65535);
+    assert(desk->cells[0].south == 0 && desk->cells[0].north == 65535);
+    assert(all((const uint8_t *)&desk->cells[1], sizeof desk->cells - sizeof desk->cells[0], 0));
+    assert(all((const uint8_t *)&desk->waiting, sizeof desk->waiting, 0));
+    assert(all((const uint8_t *)desk->memo, sizeof desk->memo, 0) && all((const uint8_t *)desk->on, sizeof desk->on, 0));
     for (unsigned p = 0; p < 128; p++) {
         const uint8_t *page = lent.pages + 200 * p;
         unsigned next = p == 0 || p == 127 ? 65535 : p + 1;
@@ -65,6 +71,14 @@ static void expect_fresh(void)
         const uint8_t head[8] = {8, 0, p == 0 ? 2 : 1, 0, next & 255, next >> 8, cell & 255, cell >> 8};
         assert(memcmp(page, head, 8) == 0 && all(page + 8, 192, 0));
     }
+}
+
+/* Radio 7 alone is on, and waits with this place, marked new. */
+static void expect_waiting(unsigned east, unsigned north)
+{
+    const boragefile_desk *desk = &lent.desk;
+    assert(desk->parts.on == 1 && desk->on[0] == 7 && desk->parts.waiting == 1 && desk->parts.lines == 0);
+    assert(desk->waiting.radios[0] == 7 && desk->waiting.easts[0] == east && desk->waiting.norths[0] == north && desk->waiting.news[0] == 1);
 }
 
 int main(void)
@@ -96,7 +110,9 @@ int main(void)
     const uint8_t off[] = {6, 0, 3, 0, 7, 0};
     const uint8_t listed[] = {7, 0, 44, 1, 200, 0};
     expect(on, sizeof on, 0, 0);
+    expect_waiting(100, 200);
     expect(report, sizeof report, 0, 0);
+    expect_waiting(300, 200);
     expect(edges, sizeof edges, 0, 0);
     assert(all(lent.buffer, sizeof lent.buffer, 0xA5));
     expect(range, sizeof range, 0, 1);
@@ -125,7 +141,7 @@ int main(void)
     assert(memcmp(&fresh[0], &fresh[1], sizeof fresh[0]) == 0 && memcmp(pages[0], pages[1], sizeof pages[0]) == 0);
 
     /* a damaged store: number 2 */
-    lent.desk.tally = 16;
+    lent.desk.parts.tally = 16;
     expect(range, sizeof range, BORAGEFILE_UNSOUND, 0);
     assert(!is_sound(sizeof lent.pages));
 

@@ -8,9 +8,9 @@
 
 /* The layout of the desk is part of the version: a desk that another version saved is not for this one. */
 #define BORAGEFILE_VERSION_MAJOR 0
-#define BORAGEFILE_VERSION_MINOR 3
+#define BORAGEFILE_VERSION_MINOR 4
 #define BORAGEFILE_VERSION_PATCH 0
-#define BORAGEFILE_VERSION "0.3.0"
+#define BORAGEFILE_VERSION "0.4.0"
 
 #define BORAGEFILE_PAGES_BYTES 25600 /* 128 pages of 200 bytes */
 #define BORAGEFILE_DESK_BYTES 14402
@@ -63,41 +63,41 @@ static inline const char *boragefile_words(uint16_t number)
     }
 }
 
-/* The desk, field by field as the proved code has it. Every field is a 16-bit number, with nothing between the fields and nothing after the last: two desks
- * with equal fields are equal byte by byte, and a desk may be saved and compared as bytes. Counts come first in each part; slots past the count are zero. */
+/* The desk, field by field as the proved code has it: first its parts, with every count, then four arrays. Every field is a 16-bit number, with nothing
+ * between the fields and nothing after the last: two desks with equal fields are equal byte by byte, and a desk may be saved and compared as bytes. Slots past
+ * a count are zero. */
 
-/* the cuts of one direction, rising */
+/* the cuts of one direction, rising: n of them */
 typedef struct {
     uint16_t n;
     uint16_t at[15];
 } boragefile_cut_list;
+
+/* the grid but for its cells */
+typedef struct {
+    boragefile_cut_list easts, norths;
+    uint16_t cells; /* how many cells there are */
+    uint16_t free;  /* the front of the free chain */
+} boragefile_frame;
+
+/* the desk but for its arrays */
+typedef struct {
+    boragefile_frame frame;
+    uint16_t waiting; /* how many reports wait */
+    uint16_t lines;   /* how many lines the memo has */
+    uint16_t on;      /* how many radios are on */
+    uint16_t tally;   /* accepted sign-ons, reports and sign-offs since the last sweep of the round */
+} boragefile_parts;
 
 /* a cell: its number, its edges and the first page of its chain */
 typedef struct {
     uint16_t number, west, east, south, north, first;
 } boragefile_slot;
 
-/* the cells in the order of the round, its front first */
+/* the waiting reports, by rising radio, field by field: report i has number i of each, and news[i] is 1 where it is marked new, else 0. There is room for one
+ * more than may wait between two calls. */
 typedef struct {
-    uint16_t n;
-    boragefile_slot slots[64];
-} boragefile_directory;
-
-typedef struct {
-    boragefile_cut_list easts, norths;
-    boragefile_directory cells;
-    uint16_t free; /* the front of the free chain */
-} boragefile_grid;
-
-/* a waiting report; is_new is 1 where it is marked new, else 0 */
-typedef struct {
-    uint16_t radio, east, north, is_new;
-} boragefile_report;
-
-/* by rising radio: room for one more than may wait between two calls */
-typedef struct {
-    uint16_t n;
-    boragefile_report rows[128];
+    uint16_t radios[128], easts[128], norths[128], news[128];
 } boragefile_waiting;
 
 /* a memo line; placed is 1 where it has a place, and 0, with the place zero, where it has none */
@@ -105,24 +105,12 @@ typedef struct {
     uint16_t radio, missed, placed, east, north;
 } boragefile_line;
 
-/* by rising radio: room for one line more than there may be between two calls */
 typedef struct {
-    uint16_t n;
-    boragefile_line rows[1151];
-} boragefile_memo;
-
-/* the radios on, rising */
-typedef struct {
-    uint16_t n;
-    uint16_t radios[512];
-} boragefile_on;
-
-typedef struct {
-    boragefile_grid grid;
-    boragefile_waiting waiting;
-    boragefile_memo memo;
-    boragefile_on on;
-    uint16_t tally; /* accepted sign-ons, reports and sign-offs since the last sweep of the round */
+    boragefile_parts parts;
+    boragefile_slot cells[64];  /* in the order of the round, its front first; parts.frame.cells of them */
+    boragefile_waiting waiting; /* parts.waiting of them */
+    boragefile_line memo[1151]; /* by rising radio, parts.lines of them: room for one more than there may be between two calls */
+    uint16_t on[512];           /* the radios on, rising; parts.on of them */
 } boragefile_desk;
 
 /* 0, or the number of the check that turned the call down; and what it counted */
@@ -137,22 +125,26 @@ typedef struct {
 #endif
 
 BORAGEFILE_STATIC_ASSERT(sizeof(boragefile_cut_list) == 32, "cut list");
+BORAGEFILE_STATIC_ASSERT(sizeof(boragefile_frame) == 68, "frame");
+BORAGEFILE_STATIC_ASSERT(offsetof(boragefile_frame, norths) == 32, "north cuts");
+BORAGEFILE_STATIC_ASSERT(offsetof(boragefile_frame, cells) == 64, "how many cells");
+BORAGEFILE_STATIC_ASSERT(offsetof(boragefile_frame, free) == 66, "front of the free chain");
+BORAGEFILE_STATIC_ASSERT(sizeof(boragefile_parts) == 76, "parts");
+BORAGEFILE_STATIC_ASSERT(offsetof(boragefile_parts, waiting) == 68, "how many wait");
+BORAGEFILE_STATIC_ASSERT(offsetof(boragefile_parts, lines) == 70, "how many lines");
+BORAGEFILE_STATIC_ASSERT(offsetof(boragefile_parts, on) == 72, "how many are on");
+BORAGEFILE_STATIC_ASSERT(offsetof(boragefile_parts, tally) == 74, "tally");
 BORAGEFILE_STATIC_ASSERT(sizeof(boragefile_slot) == 12, "slot");
-BORAGEFILE_STATIC_ASSERT(sizeof(boragefile_directory) == 770, "directory");
-BORAGEFILE_STATIC_ASSERT(sizeof(boragefile_grid) == 836, "grid");
-BORAGEFILE_STATIC_ASSERT(offsetof(boragefile_grid, norths) == 32, "north cuts");
-BORAGEFILE_STATIC_ASSERT(offsetof(boragefile_grid, cells) == 64, "cells");
-BORAGEFILE_STATIC_ASSERT(offsetof(boragefile_grid, free) == 834, "front of the free chain");
-BORAGEFILE_STATIC_ASSERT(sizeof(boragefile_report) == 8, "report");
-BORAGEFILE_STATIC_ASSERT(sizeof(boragefile_waiting) == 1026, "waiting");
+BORAGEFILE_STATIC_ASSERT(sizeof(boragefile_waiting) == 1024, "waiting");
+BORAGEFILE_STATIC_ASSERT(offsetof(boragefile_waiting, easts) == 256, "easts of the waiting");
+BORAGEFILE_STATIC_ASSERT(offsetof(boragefile_waiting, norths) == 512, "norths of the waiting");
+BORAGEFILE_STATIC_ASSERT(offsetof(boragefile_waiting, news) == 768, "marks of the waiting");
 BORAGEFILE_STATIC_ASSERT(sizeof(boragefile_line) == 10, "line");
-BORAGEFILE_STATIC_ASSERT(sizeof(boragefile_memo) == 11512, "memo");
-BORAGEFILE_STATIC_ASSERT(sizeof(boragefile_on) == 1026, "on");
 BORAGEFILE_STATIC_ASSERT(sizeof(boragefile_desk) == BORAGEFILE_DESK_BYTES, "desk");
-BORAGEFILE_STATIC_ASSERT(offsetof(boragefile_desk, waiting) == 836, "waiting in the desk");
-BORAGEFILE_STATIC_ASSERT(offsetof(boragefile_desk, memo) == 1862, "memo in the desk");
-BORAGEFILE_STATIC_ASSERT(offsetof(boragefile_desk, on) == 13374, "on in the desk");
-BORAGEFILE_STATIC_ASSERT(offsetof(boragefile_desk, tally) == 14400, "tally in the desk");
+BORAGEFILE_STATIC_ASSERT(offsetof(boragefile_desk, cells) == 76, "cells in the desk");
+BORAGEFILE_STATIC_ASSERT(offsetof(boragefile_desk, waiting) == 844, "waiting in the desk");
+BORAGEFILE_STATIC_ASSERT(offsetof(boragefile_desk, memo) == 1868, "memo in the desk");
+BORAGEFILE_STATIC_ASSERT(offsetof(boragefile_desk, on) == 13378, "on in the desk");
 BORAGEFILE_STATIC_ASSERT(sizeof(boragefile_answer) == 4, "answer");
 
 #undef BORAGEFILE_STATIC_ASSERT

@@ -1,4 +1,4 @@
--- A field of a struct in a local, and a field of such a field, read: the rule of `types.Part`, with the entry of the context given by an equation, so that what is read can be stated by its name.
+-- A field of a struct in a local, read: the rule of `types.Part`, with the entry of the context given by an equation, so that what is read can be stated by its name.
 use Prim.Native.Nat.{ℕ, zero, _+_}
 use mathlib.Core.List.{List}
 use mathlib.Core.Option.{some}
@@ -20,10 +20,3 @@ module _ {M : Type 1} {𝓤 : URA M} {H : Heap 𝓤} {A : Atoms 𝓤} {K : Type 
       → Reads K W Γ τ b (o + d) (getV vs k)
   look-field t n {q} {ν} {τs} {b} {o} {vs} k {τ} {d} f e =
       look-in t n (subst (λ (j : Item 𝓤). Part K W j q τ b (o + d) (getV vs k) (λ (u : Val). ‵ (fat q (tyStruct ν τs) b o (vstruct (setV vs k u))))) (sym e) (sub t k f (whole t)))
-
-  pub look-inner : K → (n : ℕ) {q : Share} {ν ν′ : Sym} {τs τs′ : Tys} {b o : ℕ} {vs us : Vals} (k k′ : ℕ) {τ : Ty} {d d′ : ℕ} → fieldAt zero τs k ≡ some (tyStruct ν′ τs′, d) → fieldAt zero τs′ k′ ≡ some (τ, d′)
-      → getV vs k ≡ vstruct us → nth 𝓤 H A n Γ ≡ ‵ (fat q (tyStruct ν τs) b o (vstruct vs)) → Reads K W Γ τ b (o + d + d′) (getV us k′)
-  look-inner t n {q} {ν} {ν′} {τs} {τs′} {b} {o} {vs} {us} k k′ {τ} {d} {d′} f f′ g e =
-      look-in t n (sub t {back = λ (u : Val). ‵ (fat q (tyStruct ν τs) b o (vstruct (setV vs k u)))} k′ f′
-      (subst (λ (w : Val). Part K W (nth 𝓤 H A n Γ) q (tyStruct ν′ τs′) b (o + d) w (λ (u : Val). ‵ (fat q (tyStruct ν τs) b o (vstruct (setV vs k u))))) g
-      (subst (λ (j : Item 𝓤). Part K W j q (tyStruct ν′ τs′) b (o + d) (getV vs k) (λ (u : Val). ‵ (fat q (tyStruct ν τs) b o (vstruct (setV vs k u))))) (sym e) (sub t k f (whole t)))))

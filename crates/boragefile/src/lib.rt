@@ -7,27 +7,25 @@ ghost use Rattle.desk.specs.Sound.{Sound};
 ghost use Rattle.fresh.specs.Begin.{Begins};
 use desk::Answer;
 use desk::Desk;
-use desk::Parts;
 
-// `carry_lent` on a desk that is lent and altered there: its parts are copied out and stored back, and the memo's array is lent on.
+// `carry_lent` on a desk that is lent and altered there: its parts, which are small, are copied out and stored back, and its arrays are lent on.
 pub fn call(desk: &mut Desk, pages: &mut [u8], bytes: &[u8], buffer: &mut [u8]) -> Answer
     ensures { λ r. ⌜ Answers
         (handed (now (desk .entry)) (now (pages .entry)) (now (bytes .entry)) (now (buffer .entry)))
         (left (r .number) (r .count) (now (desk .exit)) (now (pages .exit)) (now (buffer .exit))) ⌝ }
 {
-    let parts = Parts {
-        grid: desk.grid,
-        waiting: desk.waiting,
-        lines: desk.memo.n,
-        on: desk.on,
-        tally: desk.tally,
-    };
-    let told = carry::carry_lent(parts, &mut desk.memo.words, pages, bytes, buffer);
-    desk.grid = told.parts.grid;
-    desk.waiting = told.parts.waiting;
-    desk.memo.n = told.parts.lines;
-    desk.on = told.parts.on;
-    desk.tally = told.parts.tally;
+    let parts = desk.parts;
+    let told = carry::carry_lent(
+        parts,
+        &mut desk.cells,
+        &mut desk.waiting,
+        &mut desk.memo,
+        &mut desk.on,
+        pages,
+        bytes,
+        buffer,
+    );
+    desk.parts = told.parts;
     told.answer
 }
 
@@ -68,11 +66,19 @@ pub extern "C" fn boragefile_begin(desk: &mut Desk, pages: &mut [u8]) -> Answer
     begin(desk, pages)
 }
 
-// Whether desk and pages are those of a sound store: the test that each call makes first, for a serving program in Rust or C.
+// Whether desk and pages are those of a sound store: the test that each call makes first, for a serving program in Rust or C. The desk is taken apart as in
+// `call`.
 #[no_mangle]
 pub extern "C" fn boragefile_sound(desk: &Desk, pages: &[u8]) -> bool
     ensures { λ r. ⌜ (r ≡ true → Sound (now (desk .entry)) (now (pages .entry))) × (Sound (now (desk .entry)) (now (pages .entry)) → r ≡ true) ⌝ }
 {
-    let d = *desk;
-    sound::sound(d, pages)
+    let parts = desk.parts;
+    sound::parts_sound(
+        parts,
+        &desk.cells,
+        &desk.waiting,
+        &desk.memo,
+        &desk.on,
+        pages,
+    )
 }

@@ -8,9 +8,9 @@ use lib.Seq.{take-all}
 use Rattle.rules.specs.Limits.{fullMemory, maxCuts}
 use Rattle.rules.specs.Grid.{boxOf}
 use Rattle.desk.specs.declared.CutList.{CutList}
-use Rattle.desk.specs.declared.Waiting.{Waiting}
+use Rattle.desk.specs.Held.{Waiting}
 use Rattle.desk.specs.Layout.{noReport}
-use Rattle.desk.specs.Views.{cutsBy}
+use Rattle.desk.specs.Views.{everyReport, cutsBy}
 use Rattle.waiting.specs.Waiting.{rowOf, reportsOf}
 use Rattle.waiting.proofs.WaitingLaws.{length-reports, reports-next}
 use Rattle.boxes.specs.declared.Stripes.{Stripes}
@@ -27,15 +27,15 @@ pub record Crowding (easts norths : CutList) (w : Waiting) (i : ℕ) (crowd : Li
 pub crowding-start : (easts norths : CutList) (w : Waiting) → Crowding easts norths w 0 (replicate tableSize 0)
 crowding-start easts norths w = record { so = crowd-start (cutsBy easts norths) }
 
-module _ {easts norths : CutList} (w : Waiting) {i : ℕ} {crowd : List ℕ} (c : Crowding easts norths w i crowd) (size : length (w .rows) ≡ fullMemory) (fits : w .n ≤ fullMemory) where
+module _ {easts norths : CutList} (w : Waiting) {i : ℕ} {crowd : List ℕ} (c : Crowding easts norths w i crowd) (size : length (everyReport (w .words)) ≡ fullMemory) (fits : w .n ≤ fullMemory) where
   module _ (east-cuts : easts .n ≤ maxCuts) (north-cuts : norths .n ≤ maxCuts) (more : i < w .n) {k : ℕ}
-      (said : k ≡ boxAt (boxOf (cutsBy easts norths) (record { east = getD (w .rows) i noReport .east; north = getD (w .rows) i noReport .north }))) where
+      (said : k ≡ boxAt (boxOf (cutsBy easts norths) (record { east = getD (everyReport (w .words)) i noReport .east; north = getD (everyReport (w .words)) i noReport .north }))) where
     pub crowding-room : getD crowd k 0 < fullMemory
-    crowding-room = omega (arith, crowd-most (c .so) (few-cuts easts east-cuts) (few-cuts norths north-cuts) (rowOf (getD (w .rows) i noReport)) said, length-take i (reportsOf w))
+    crowding-room = omega (arith, crowd-most (c .so) (few-cuts easts east-cuts) (few-cuts norths north-cuts) (rowOf (getD (everyReport (w .words)) i noReport)) said, length-take i (reportsOf w))
 
     pub crowding-turn : Crowding easts norths w (i + 1) (set crowd k (getD crowd k 0 + 1))
     crowding-turn = record {
-      so = rw (reports-next w size fits i more) (crowd-turn (c .so) (few-cuts easts east-cuts) (few-cuts norths north-cuts) (rowOf (getD (w .rows) i noReport)) said);
+      so = rw (reports-next w size fits i more) (crowd-turn (c .so) (few-cuts easts east-cuts) (few-cuts norths north-cuts) (rowOf (getD (everyReport (w .words)) i noReport)) said);
     }
 
   pub crowding-end : w .n ≤ i → Crowd (cutsBy easts norths) (reportsOf w) crowd

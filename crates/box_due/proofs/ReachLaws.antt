@@ -1,8 +1,8 @@
 -- How far the stripe of a coordinate reaches, cut by cut, in whatever order the cuts stand; and the reports within its reach.
-use mathlib.Core.Bool.{Bool}
+use mathlib.Core.Bool.{Bool, true, false}
 use mathlib.Core.List.{List, [], _∷_, _++_}
 use mathlib.Core.Path.{_≡_, refl, sym, ap, ap₂, _∙_}
-use Prim.Native.Nat.{ℕ, _+_, _-_, _≤_, _<_, min, max}
+use Prim.Native.Nat.{ℕ, _+_, _-_, _*_, _≤_, _<_, min, max}
 use native.Mathlib.Numerals.{add-one}
 use native.Mathlib.Omega.{arith}
 use lib.Dec.{leb, ltb}
@@ -23,13 +23,14 @@ use Rattle.rules.specs.Carry.{waitingIn}
 use Rattle.rules.specs.Store.{Report as StoreReport}
 use Rattle.rules.specs.WellFormed.{InSquare}
 use Rattle.desk.specs.declared.CutList.{CutList}
-use Rattle.desk.specs.declared.Waiting.{Waiting}
-use Rattle.desk.specs.Layout.{noReport}
-use Rattle.desk.specs.Views.{cutsIn, cutsBy}
+use Rattle.desk.specs.Held.{Waiting, waitingWith}
+use Rattle.desk.specs.Layout.{reportFields}
+use Rattle.desk.specs.Views.{reportIn, cutsIn, cutsBy}
+use Rattle.desk.proofs.ReportsLaws.{report-read}
 use Rattle.box_due.specs.declared.Reach.{Reach}
 use Rattle.box_due.specs.Due.{spanIn, boundedBy, Reaches}
-use Rattle.waiting.specs.Waiting.{waits, rowOf, reportsOf}
-use Rattle.waiting.proofs.WaitingLaws.{noRow, length-reports, reports-get}
+use Rattle.waiting.specs.Waiting.{rowOf, reportsOf}
+use Rattle.waiting.proofs.WaitingLaws.{noRow, every-size, length-reports, reports-get}
 use Rattle.boxes.proofs.BoxLaws.{Counted, counted-start, counted-turn, counted-end, length-cuts}
 
 -- ---- one cut after the other
@@ -140,14 +141,33 @@ pub record Near (east-reach north-reach : Reach) (w : Waiting) (i s : ℕ) : Typ
 pub near-start : (east-reach north-reach : Reach) (w : Waiting) → Near east-reach north-reach w 0 0
 near-start east-reach north-reach w = record { so = λ cuts p e n. counted-start _ _ }
 
-module _ (w : Waiting) (size : length (w .rows) ≡ fullMemory) (fits : w .n ≤ fullMemory) {east-reach north-reach : Reach} {i s : ℕ} (c : Near east-reach north-reach w i s) where
-  pub near-turn : {t : ℕ} {b : Bool} → i < w .n → b ≡ inside (area east-reach north-reach) (waits (getD (w .rows) i noReport) .place) → InSquare (waits (getD (w .rows) i noReport) .place) → t ≡ one-if b → t ≤ 1 → Near east-reach north-reach w (i + 1) (s + t)
-  near-turn {t} {b} h e q f g = record {
-    so = λ cuts p u v. counted-turn noRow t (c .so cuts p u v) (rw (length-reports w size fits) h)
-        (f ∙ ap one-if (e ∙ within-box cuts p (rowOf (getD (w .rows) i noReport)) u v q ∙ ap (inBox cuts (boxOf cuts p)) (sym (reports-get w size fits i h)))) g;
+pub one-more : {b : Bool} (s : ℕ) → b ≡ true → s + 1 ≡ s + one-if b
+one-more s e = rw e
+
+pub no-more : {b : Bool} (s : ℕ) → b ≡ false → s ≡ s + one-if b
+no-more s e = omega (arith, ap one-if e)
+
+pub one-more-most : (b : Bool) {r s i : ℕ} → r ≡ s + one-if b → s ≤ i → r ≤ i + 1
+one-more-most b e h = omega (arith, one-if-le b)
+
+module _ {n : ℕ} {ws : List ℕ} (size : length ws ≡ reportFields * fullMemory) (fits : n ≤ fullMemory) {east-reach north-reach : Reach} {i s : ℕ} (c : Near east-reach north-reach (waitingWith n ws) i s) where
+  -- the place of slot i, in its two columns
+  abbrev there : Place
+  there = record { east = getD ws (fullMemory + i) 0; north = getD ws (2 * fullMemory + i) 0 }
+
+  abbrev its : Row StoreReport
+  its = rowOf (reportIn fullMemory ws i)
+
+  its-row : i < n → its ≡ getD (reportsOf (waitingWith n ws)) i noRow
+  its-row h = ap rowOf (report-read ws i (omega arith) size) ∙ sym (reports-get (waitingWith n ws) (every-size ws size) fits i h)
+
+  pub near-turn : {r : ℕ} {b : Bool} → i < n → b ≡ inside (area east-reach north-reach) there → InSquare there → r ≡ s + one-if b → Near east-reach north-reach (waitingWith n ws) (i + 1) r
+  near-turn {r} {b} h e q f = record {
+    so = λ cuts p u v. rw f (counted-turn noRow (one-if b) (c .so cuts p u v) (rw (length-reports (waitingWith n ws) (every-size ws size) fits) h)
+        (ap one-if (e ∙ within-box cuts p its u v q ∙ ap (inBox cuts (boxOf cuts p)) (its-row h))) (one-if-le b));
   }
 
-  pub near-end : (easts norths : CutList) (x y : ℕ) → Reaches (cutsIn easts) x (spanIn east-reach) → Reaches (cutsIn norths) y (spanIn north-reach) → w .n ≤ i
-      → s ≡ waitingIn (cutsBy easts norths) (reportsOf w) (boxOf (cutsBy easts norths) (record { east = x; north = y }))
+  pub near-end : (easts norths : CutList) (x y : ℕ) → Reaches (cutsIn easts) x (spanIn east-reach) → Reaches (cutsIn norths) y (spanIn north-reach) → n ≤ i
+      → s ≡ waitingIn (cutsBy easts norths) (reportsOf (waitingWith n ws)) (boxOf (cutsBy easts norths) (record { east = x; north = y }))
   unfolding waitingIn
-  near-end easts norths x y u v h = counted-end (c .so (cutsBy easts norths) (record { east = x; north = y }) u v) (rw (length-reports w size fits) h)
+  near-end easts norths x y u v h = counted-end (c .so (cutsBy easts norths) (record { east = x; north = y }) u v) (rw (length-reports (waitingWith n ws) (every-size ws size) fits) h)

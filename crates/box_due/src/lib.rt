@@ -2,28 +2,30 @@
 ghost use mathlib.Core.Bool.{cond};
 ghost use mathlib.Core.Option.{some};
 ghost use mathlib.Core.Path.{_≡_};
-ghost use Prim.Native.Nat.{_<_, _≤_, min, max};
+ghost use Prim.Native.Nat.{_+_, _*_, _<_, _≤_, min, max};
 ghost use lib.Dec.{ltb};
 ghost use lib.ListN.{length};
 ghost use Rattle.lists.specs.Parts.{tab};
 ghost use Rattle.lists.specs.Sums.{concat};
-ghost use Rattle.lists.specs.Tests.{best};
+ghost use Rattle.lists.specs.Tests.{best, one-if};
 ghost use Rattle.rules.specs.Limits.{fullMemory, maxCuts};
 ghost use Rattle.rules.specs.Grid.{within, inside, boxOf, boxes};
 ghost use Rattle.rules.specs.WellFormed.{InSquare};
 ghost use Rattle.rules.specs.Carry.{waitingIn, mostOf, boxToFlush};
+ghost use Rattle.desk.specs.Held.{waitingWith};
+ghost use Rattle.desk.specs.Layout.{reportFields};
 ghost use Rattle.desk.specs.Views.{cutsIn, cutsBy};
-ghost use Rattle.waiting.specs.Waiting.{waits, reportsOf};
+ghost use Rattle.waiting.specs.Waiting.{reportsOf};
 ghost use Rattle.boxes.specs.Boxes.{boxIn, maxStripes, tableSize, Crowd};
 ghost use Rattle.box_due.specs.Due.{spanIn, boundedBy, Reaches, Leads, fullerOf, boxRow, dueOf};
 use boxes::BOXES;
 use boxes::BoxAt;
+use boxes::EASTS;
 use boxes::FULL_MEMORY;
+use boxes::NORTHS;
 use boxes::STRIPES;
 use desk::CutList;
 use desk::Desk;
-use desk::Report;
-use desk::Waiting;
 
 // ---- how far a stripe reaches
 
@@ -89,27 +91,45 @@ fn reaches_to(reach: Reach, y: u16) -> bool
     (reach.low <= y) & (y <= reach.high)
 }
 
-// Whether a report's place lies within the reach of both stripes. It lies in the square, for its fields have 16 bits.
-fn lies_within(easts: Reach, norths: Reach, report: Report) -> bool
-    ensures { λ r. ⌜ (r ≡ inside (record { easts = spanIn easts; norths = spanIn norths }) (waits report .place)) × InSquare (waits report .place) ⌝ }
+// Whether a place lies within the reach of both stripes. It lies in the square, for its fields have 16 bits.
+fn lies_within(easts: Reach, norths: Reach, east: u16, north: u16) -> bool
+    ensures { λ r. ⌜ (r ≡ inside (record { easts = spanIn easts; norths = spanIn norths }) (record { east = east; north = north }))
+        × InSquare (record { east = east; north = north }) ⌝ }
 {
-    reaches_to(easts, report.east) & reaches_to(norths, report.north)
+    reaches_to(easts, east) & reaches_to(norths, north)
 }
 
-// How many wait in the memory cell of a place.
-fn waiting_at(easts: CutList, norths: CutList, waiting: Waiting, east: u16, north: u16) -> usize
-    requires { ⌜ (waiting .n ≤ fullMemory) × (easts .n ≤ maxCuts) × (norths .n ≤ maxCuts) ⌝ }
-    ensures { λ r. ⌜ r ≡ waitingIn (cutsBy easts norths) (reportsOf waiting) (boxOf (cutsBy easts norths) (record { east = east; north = north })) ⌝ }
+// One more where the test holds. A count of 16 bits, as wide as the places, so that eight reports are counted at once.
+fn one_more(found: u16, here: bool) -> u16
+    requires { ⌜ found ≤ fullMemory ⌝ }
+    ensures { λ r. ⌜ r ≡ found + one-if here ⌝ }
+{
+    if here { found + 1 } else { found }
+}
+
+// How many wait in the memory cell of a place. The columns of places are read, and no other.
+fn waiting_at<'a>(
+    easts: CutList,
+    norths: CutList,
+    waiting: &'a [u16; Desk::WAITING_WORDS],
+    n: u16,
+    east: u16,
+    north: u16,
+) -> u16
+    requires { ⌜ (n ≤ fullMemory) × (length (now waiting) ≡ reportFields * fullMemory) × (easts .n ≤ maxCuts) × (norths .n ≤ maxCuts) ⌝ }
+    ensures { λ r. ⌜ r ≡ waitingIn (cutsBy easts norths) (reportsOf (waitingWith n (now (waiting .entry))))
+        (boxOf (cutsBy easts norths) (record { east = east; north = north })) ⌝ }
 {
     let east_reach = reach_of(easts, east);
     let north_reach = reach_of(norths, north);
-    let n = waiting.n as usize;
-    let mut found: usize = 0;
+    let all = n as usize;
+    let mut found: u16 = 0;
     let mut i: usize = 0;
-    while i < n {
-        let x = waiting.rows[i];
-        let step = lists::one_if(lies_within(east_reach, north_reach, x));
-        found = found + step;
+    while i < all {
+        let x = waiting[EASTS + i];
+        let y = waiting[NORTHS + i];
+        let here = lies_within(east_reach, north_reach, x, y);
+        found = one_more(found, here);
         i = i + 1;
     }
     found
@@ -118,15 +138,20 @@ fn waiting_at(easts: CutList, norths: CutList, waiting: Waiting, east: u16, nort
 // ---- how many wait in each
 
 // How many wait in each memory cell: each report counts in its own.
-fn crowd_of(easts: CutList, norths: CutList, waiting: Waiting) -> [u8; BOXES]
-    requires { ⌜ (waiting .n ≤ fullMemory) × (easts .n ≤ maxCuts) × (norths .n ≤ maxCuts) ⌝ }
-    ensures { λ r. ⌜ Crowd (cutsBy easts norths) (reportsOf waiting) r ⌝ }
+fn crowd_of<'a>(
+    easts: CutList,
+    norths: CutList,
+    waiting: &'a [u16; Desk::WAITING_WORDS],
+    n: u16,
+) -> [u8; BOXES]
+    requires { ⌜ (n ≤ fullMemory) × (length (now waiting) ≡ reportFields * fullMemory) × (easts .n ≤ maxCuts) × (norths .n ≤ maxCuts) ⌝ }
+    ensures { λ r. ⌜ Crowd (cutsBy easts norths) (reportsOf (waitingWith n (now (waiting .entry)))) r ⌝ }
 {
-    let n = waiting.n as usize;
+    let all = n as usize;
     let at = boxes::boxes_of(easts, norths, waiting);
     let mut crowd = [0u8; BOXES];
     let mut i: usize = 0;
-    while i < n {
+    while i < all {
         let k = boxes::box_index(at.easts[i], at.norths[i]);
         let others = crowd[k];
         crowd[k] = others + 1;
@@ -197,30 +222,44 @@ fn fullest_in_rows<'a>(crowd: &'a [u8; BOXES], columns: usize, rows: usize) -> B
 }
 
 // "the memory cell with most waiting; ties go to the southern, then the western"
-fn fullest(easts: CutList, norths: CutList, waiting: Waiting) -> BoxAt
-    requires { ⌜ (waiting .n ≤ fullMemory) × (easts .n ≤ maxCuts) × (norths .n ≤ maxCuts) ⌝ }
-    ensures { λ r. ⌜ some (boxIn r) ≡ mostOf (waitingIn (cutsBy easts norths) (reportsOf waiting)) (boxes (cutsBy easts norths)) ⌝ }
+fn fullest<'a>(
+    easts: CutList,
+    norths: CutList,
+    waiting: &'a [u16; Desk::WAITING_WORDS],
+    n: u16,
+) -> BoxAt
+    requires { ⌜ (n ≤ fullMemory) × (length (now waiting) ≡ reportFields * fullMemory) × (easts .n ≤ maxCuts) × (norths .n ≤ maxCuts) ⌝ }
+    ensures { λ r. ⌜ some (boxIn r) ≡ mostOf (waitingIn (cutsBy easts norths) (reportsOf (waitingWith n (now (waiting .entry)))))
+        (boxes (cutsBy easts norths)) ⌝ }
 {
-    let crowd = crowd_of(easts, norths, waiting);
+    let crowd = crowd_of(easts, norths, waiting, n);
     let columns = easts.n as usize + 1;
     let rows = norths.n as usize + 1;
     fullest_in_rows(&crowd, columns, rows)
 }
 
 // "if the memory cell of that place has 8 waiting, flush it. If 128 still wait in all, flush the memory cell with most waiting"
-pub fn box_due(easts: CutList, norths: CutList, waiting: Waiting, east: u16, north: u16) -> BoxDue
-    requires { ⌜ (waiting .n ≤ fullMemory) × (easts .n ≤ maxCuts) × (norths .n ≤ maxCuts) ⌝ }
+pub fn box_due<'a>(
+    easts: CutList,
+    norths: CutList,
+    waiting: &'a [u16; Desk::WAITING_WORDS],
+    n: u16,
+    east: u16,
+    north: u16,
+) -> BoxDue
+    requires { ⌜ (n ≤ fullMemory) × (length (now waiting) ≡ reportFields * fullMemory) × (easts .n ≤ maxCuts) × (norths .n ≤ maxCuts) ⌝ }
     ensures { λ r. ⌜ dueOf r
-        ≡ boxToFlush (cutsBy easts norths) (waitingIn (cutsBy easts norths) (reportsOf waiting)) (length (reportsOf waiting))
-        (record { east = east; north = north }) ⌝ }
+        ≡ boxToFlush (cutsBy easts norths) (waitingIn (cutsBy easts norths) (reportsOf (waitingWith n (now (waiting .entry)))))
+        (length (reportsOf (waitingWith n (now (waiting .entry))))) (record { east = east; north = north }) ⌝ }
 {
-    if Desk::FULL_BOX <= waiting_at(easts, norths, waiting, east, north) {
+    let waits = waiting_at(easts, norths, waiting, n, east, north);
+    if Desk::FULL_BOX <= waits as usize {
         let here = boxes::box_of(easts, norths, east, north);
         return BoxDue::Flush(here);
     }
-    if (waiting.n as usize) < FULL_MEMORY {
+    if (n as usize) < FULL_MEMORY {
         return BoxDue::Nothing;
     }
-    let most = fullest(easts, norths, waiting);
+    let most = fullest(easts, norths, waiting, n);
     BoxDue::Flush(most)
 }

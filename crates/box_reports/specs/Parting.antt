@@ -1,24 +1,23 @@
 -- The waiting reports of a memory cell apart from the others (01, "How a record is carried out").
-use mathlib.Core.Bool.{Bool, not, cond}
-use mathlib.Core.List.{List}
-use lib.ListN.{length, take}
-use Rattle.lists.specs.Rows.{Row}
+use mathlib.Core.Bool.{Bool, not}
+use mathlib.Core.List.{List, _++_}
+use mathlib.Core.Path.{_≡_}
+use Prim.Native.Nat.{ℕ, _-_}
+use lib.ListN.{length, take, drop}
+use Rattle.lists.specs.Sums.{filter}
 use Rattle.rules.specs.Grid.{Cuts, Box}
 use Rattle.rules.specs.Flush.{inBox}
 use Rattle.rules.specs.Limits.{fullMemory}
-use Rattle.rules.specs.Store.{Report as StoreReport}
 use Rattle.desk.specs.declared.Report.{Report}
-use Rattle.desk.specs.declared.Waiting.{Waiting}
 use Rattle.desk.specs.Layout.{slotted, noReport}
+use Rattle.waiting.specs.Waiting.{rowOf}
 
--- the desk's reports as they stand in its slots
-abbrev pub reportsIn : Waiting → List Report
-reportsIn w = take (w .n) (w .rows)
+-- a report of m, as it stands in its slot
+abbrev pub waitsIn : Cuts → Box → Report → Bool
+waitsIn cuts m x = inBox cuts m (rowOf x)
 
--- these reports in the desk's slots, the unused ones zero
-unfoldable pub waitingWith : List Report → Waiting
-waitingWith l = record { n = length l; rows = slotted fullMemory noReport l }
-
--- a report in m where these are wanted, else one that is not
-abbrev pub onSide : Bool → Cuts → Box → Row StoreReport → Bool
-onSide wanted cuts m w = cond wanted (inBox cuts m w) (not (inBox cuts m w))
+-- of the first i reports so many have gone into an array that was blank; the others have moved up over them, and every further slot is as it was
+pub record Parting (goes : Report → Bool) (old : List Report) (i gone : ℕ) (left taken : List Report) : Type 0 where
+  pub count : gone ≡ length (filter goes (take i old))
+  pub rest : left ≡ filter (λ x. not (goes x)) (take i old) ++ drop (i - gone) old
+  pub went : taken ≡ slotted fullMemory noReport (filter goes (take i old))

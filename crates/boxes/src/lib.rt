@@ -1,16 +1,16 @@
 // Memory cells: that of a place, those of all waiting reports at once, and a table with a number for each.
 ghost use mathlib.Core.Path.{_≡_};
-ghost use Prim.Native.Nat.{ℕ, _+_, _<_, _≤_};
+ghost use Prim.Native.Nat.{ℕ, _+_, _*_, _<_, _≤_};
 ghost use lib.Dec.{leb};
 ghost use lib.ListN.{length, getD};
 ghost use Rattle.lists.specs.Tests.{one-if};
 ghost use Rattle.rules.specs.Limits.{fullMemory, maxCuts};
 ghost use Rattle.rules.specs.Grid.{stripe, boxOf};
-ghost use Rattle.desk.specs.Views.{cutsIn, cutsBy};
-ghost use Rattle.boxes.specs.Boxes.{boxIn, Coordinates, Passing, Striped, Boxed, maxStripes, tableSize, boxAt};
+ghost use Rattle.desk.specs.Layout.{reportFields};
+ghost use Rattle.desk.specs.Views.{everyReport, cutsIn, cutsBy};
+ghost use Rattle.boxes.specs.Boxes.{boxIn, Passing, Striped, Boxed, maxStripes, tableSize, boxAt};
 use desk::CutList;
 use desk::Desk;
-use desk::Waiting;
 
 // "If 128 still wait in all": one more than may wait between two calls.
 pub const FULL_MEMORY: usize = Desk::MAX_WAITING + 1;
@@ -53,32 +53,15 @@ pub fn box_of(easts: CutList, norths: CutList, east: u16, north: u16) -> BoxAt
 
 // ---- the memory cells of all waiting reports
 
-// The place of each slot.
-struct Places {
-    easts: [u16; FULL_MEMORY],
-    norths: [u16; FULL_MEMORY],
-}
+// Where the array of those that wait has the column of all easts, and where that of all norths.
+pub const EASTS: usize = Desk::WAITING_SLOTS;
+
+pub const NORTHS: usize = 2 * Desk::WAITING_SLOTS;
 
 // The memory cell of each slot: its stripes, counted from 0.
 pub struct Stripes {
     pub easts: [u16; FULL_MEMORY],
     pub norths: [u16; FULL_MEMORY],
-}
-
-// The places of the slots, one direction apart from the other.
-fn places_of(waiting: Waiting) -> Places
-    ensures { λ r. ⌜ Coordinates (λ x. x .east) (waiting .rows) fullMemory (r .easts) × Coordinates (λ x. x .north) (waiting .rows) fullMemory (r .norths) ⌝ }
-{
-    let mut easts = [0u16; FULL_MEMORY];
-    let mut norths = [0u16; FULL_MEMORY];
-    let mut i: usize = 0;
-    while i < FULL_MEMORY {
-        let x = waiting.rows[i];
-        easts[i] = x.east;
-        norths[i] = x.north;
-        i = i + 1;
-    }
-    Places { easts, norths }
 }
 
 // The stripe of x by one cut more.
@@ -89,43 +72,57 @@ fn further(stripe: u16, cut: u16, x: u16) -> u16
     if cut <= x { stripe + 1 } else { stripe }
 }
 
-// Every coordinate's stripe by one cut more. It never leaves early, so that many coordinates are compared at a time.
-fn pass_cut<'a>(cut: u16, xs: &'a [u16; FULL_MEMORY], stripes: &'a mut [u16; FULL_MEMORY])
-    requires { ⌜ (length (now xs) ≡ fullMemory) × (length (now stripes) ≡ fullMemory) × ((i : ℕ) → i < fullMemory → getD (now stripes) i 0 ≤ maxCuts) ⌝ }
-    ensures { λ _. ⌜ Passing cut (now (xs .entry)) (now (stripes .entry)) fullMemory (now (stripes .exit)) ⌝ }
+// The stripe of every coordinate of a column by one cut more. It never leaves early, so that many coordinates are compared at a time.
+fn pass_cut<'a>(
+    cut: u16,
+    waiting: &'a [u16; Desk::WAITING_WORDS],
+    column: usize,
+    stripes: &'a mut [u16; FULL_MEMORY],
+)
+    requires { ⌜ (column + fullMemory ≤ length (now waiting)) × (length (now waiting) ≡ reportFields * fullMemory) × (length (now stripes) ≡ fullMemory)
+        × ((i : ℕ) → i < fullMemory → getD (now stripes) i 0 ≤ maxCuts) ⌝ }
+    ensures { λ _. ⌜ Passing cut (now (waiting .entry)) column (now (stripes .entry)) fullMemory (now (stripes .exit)) ⌝ }
 {
     let mut i: usize = 0;
     while i < FULL_MEMORY {
         let before = stripes[i];
-        stripes[i] = further(before, cut, xs[i]);
+        let x = waiting[column + i];
+        stripes[i] = further(before, cut, x);
         i = i + 1;
     }
 }
 
-// The stripe of every coordinate, cut by cut.
-fn stripes_of<'a>(cuts: CutList, xs: &'a [u16; FULL_MEMORY]) -> [u16; FULL_MEMORY]
-    requires { ⌜ (cuts .n ≤ maxCuts) × (length (now xs) ≡ fullMemory) ⌝ }
-    ensures { λ r. ⌜ Striped (cutsIn cuts) (now (xs .entry)) r ⌝ }
+// The stripe of every coordinate of a column, cut by cut.
+fn stripes_of<'a>(
+    cuts: CutList,
+    waiting: &'a [u16; Desk::WAITING_WORDS],
+    column: usize,
+) -> [u16; FULL_MEMORY]
+    requires { ⌜ (cuts .n ≤ maxCuts) × (column + fullMemory ≤ length (now waiting)) × (length (now waiting) ≡ reportFields * fullMemory) ⌝ }
+    ensures { λ r. ⌜ Striped (cutsIn cuts) (now (waiting .entry)) column r ⌝ }
 {
     let n = cuts.n as usize;
     let mut stripes = [0u16; FULL_MEMORY];
     let mut i: usize = 0;
     while i < n {
         let cut = cuts.at[i];
-        pass_cut(cut, xs, &mut stripes);
+        pass_cut(cut, waiting, column, &mut stripes);
         i = i + 1;
     }
     stripes
 }
 
-// The memory cells of all slots at once.
-pub fn boxes_of(easts: CutList, norths: CutList, waiting: Waiting) -> Stripes
-    requires { ⌜ (easts .n ≤ maxCuts) × (norths .n ≤ maxCuts) ⌝ }
-    ensures { λ r. ⌜ Boxed (cutsBy easts norths) (waiting .rows) r ⌝ }
+// The memory cells of all slots at once: the columns of places are read, and no other.
+pub fn boxes_of<'a>(
+    easts: CutList,
+    norths: CutList,
+    waiting: &'a [u16; Desk::WAITING_WORDS],
+) -> Stripes
+    requires { ⌜ (easts .n ≤ maxCuts) × (norths .n ≤ maxCuts) × (length (now waiting) ≡ reportFields * fullMemory) ⌝ }
+    ensures { λ r. ⌜ Boxed (cutsBy easts norths) (everyReport (now (waiting .entry))) r ⌝ }
 {
-    let places = places_of(waiting);
-    let columns = stripes_of(easts, &places.easts);
-    let rows = stripes_of(norths, &places.norths);
+    let columns = stripes_of(easts, waiting, EASTS);
+    let rows = stripes_of(norths, waiting, NORTHS);
     Stripes {
         easts: columns,
         norths: rows,

@@ -20,7 +20,8 @@ use Rattle.rules.proofs.StepLaws.{step-well}
 use Rattle.desk.specs.declared.Desk.{Desk}
 use Rattle.desk.specs.declared.Parts.{Parts}
 use Rattle.desk.specs.Layout.{onOf}
-use Rattle.desk.specs.Views.{radiosOf, partsOf, deskWith, rectOf}
+use Rattle.desk.specs.Held.{deskOn, deskWith, directoryIn, waitingWith, memoIn, onWith}
+use Rattle.desk.specs.Views.{radiosOf, rectOf}
 use Rattle.desk.specs.Sound.{Sound}
 use Rattle.desk.specs.Call.{Before, After, turnedDown, laidOut, CarriedOut, Answers, wrong-size, unsound, carried}
 use Rattle.desk.specs.Laid.{LaidDesk}
@@ -48,21 +49,21 @@ laid-out : {desk : Desk} {b : List ℕ} (o : Outcome) → WellFormed (o .store) 
 unfolding laidOut
 laid-out o w x = ap₂ (λ (d : Desk) (p : List ℕ). record { number = o .number; count = o .count; desk = d; pages = p; buffer = o .buffer }) (laid-desk (o .store) x .0) (pages-laid (o .store) (well-once (o .store) w) _ (laid-desk (o .store) x .1))
 
-module _ (parts : Parts) (ws : List ℕ) {b : List ℕ} (x : Sound (deskWith parts ws) b) where
+module _ (parts : Parts) (cs ws ms os : List ℕ) {b : List ℕ} (x : Sound (deskWith parts cs ws ms os) b) where
   abbrev desk : Desk
-  desk = deskWith parts ws
+  desk = deskWith parts cs ws ms os
 
   abbrev s : Store
   s = x .store
 
-  abbrev on-laid : desk .on ≡ onOf (s .on)
+  abbrev on-laid : deskOn desk ≡ onOf (s .on)
   on-laid = on-held s (x .held)
 
   -- what the check of the record asks
-  pub record-asks : (desk .on .n ≤ maxOn) × WholeOn (desk .on) × Rising 0 (radiosOf (desk .on))
-  record-asks = (on-few s (desk .on) on-laid (x .well), whole-on-laid (desk .on) (s .on) on-laid, on-rises s (desk .on) on-laid (x .well))
+  pub record-asks : (deskOn desk .n ≤ maxOn) × WholeOn (deskOn desk) × Rising 0 (radiosOf (deskOn desk))
+  record-asks = (on-few s (deskOn desk) on-laid (x .well), whole-on-laid (deskOn desk) (s .on) on-laid, on-rises s (deskOn desk) on-laid (x .well))
 
-  module _ (bytes buffer : List ℕ) (small : Bytes bytes) {k : Checked} (told : k ≡ checked (refusal (onIn (desk .on)) (length (radiosOf (desk .on))) bytes) (requestOf bytes)) where
+  module _ (bytes buffer : List ℕ) (small : Bytes bytes) {k : Checked} (told : k ≡ checked (refusal (onIn (deskOn desk)) (length (radiosOf (deskOn desk))) bytes) (requestOf bytes)) where
     abbrev before : Before
     before = record { desk = desk; pages = b; bytes = bytes; buffer = buffer }
 
@@ -70,22 +71,22 @@ module _ (parts : Parts) (ws : List ℕ) {b : List ℕ} (x : Sound (deskWith par
 
     pub refused-answers : (n : ℕ) → k ≡ fails n → CarriedOut before x (record { number = n; count = 0; desk = desk; pages = b; buffer = buffer })
     refused-answers n e =
-        laid-out (record { number = n; count = 0; buffer = buffer; store = s }) (x .well) (desk-laid s (x .held) (x .laid)) ∙ ap laidOut (sym (refused-carry s (desk .on) bytes on-laid told e buffer))
+        laid-out (record { number = n; count = 0; buffer = buffer; store = s }) (x .well) (desk-laid s (x .held) (x .laid)) ∙ ap laidOut (sym (refused-carry s (deskOn desk) bytes on-laid told e buffer))
 
     -- ---- carried out
 
     taken : (q : Request) → k ≡ asks q → (y : Outcome) → carriedOut q s buffer ≡ y → {d : Desk} {b′ : List ℕ} → LaidDesk (y .store) d b′
         → CarriedOut before x (record { number = y .number; count = y .count; desk = d; pages = b′; buffer = y .buffer })
     taken q e y g h =
-        let c : carry s bytes buffer ≡ y = taken-carry s (desk .on) bytes on-laid told q e buffer ∙ g in
+        let c : carry s bytes buffer ≡ y = taken-carry s (deskOn desk) bytes on-laid told q e buffer ∙ g in
         laid-out y (subst (λ (z : Outcome). WellFormed (z .store)) c (step-well s bytes buffer small (x .well))) h ∙ ap laidOut (sym c)
 
     module _ (r : ℕ) (p : Place) where
       pub on-asked : k ≡ asks (signOn r p) → BeforeSignOn desk r p b
-      on-asked e = record { sound = x; signs = asks-on s (desk .on) bytes on-laid told small r p e }
+      on-asked e = record { sound = x; signs = asks-on s (deskOn desk) bytes on-laid told small r p e }
 
       pub report-asked : k ≡ asks (report r p) → BeforeReport desk r p b
-      report-asked e = record { sound = x; reports = asks-report s (desk .on) bytes on-laid told small r p e }
+      report-asked e = record { sound = x; reports = asks-report s (deskOn desk) bytes on-laid told small r p e }
 
       pub on-answers : {d : Desk} {b′ : List ℕ} → k ≡ asks (signOn r p) → AfterRequest s (signOn r p) d b′ → CarriedOut before x (record { number = 0; count = 0; desk = d; pages = b′; buffer = buffer })
       unfolding carriedOut
@@ -96,56 +97,56 @@ module _ (parts : Parts) (ws : List ℕ) {b : List ℕ} (x : Sound (deskWith par
       report-answers e c = taken (report r p) e _ refl c
 
     pub off-asked : (r : ℕ) → k ≡ asks (signOff r) → BeforeSignOff desk r b
-    off-asked r e = record { sound = x; signs = asks-off s (desk .on) bytes on-laid told small r e }
+    off-asked r e = record { sound = x; signs = asks-off s (deskOn desk) bytes on-laid told small r e }
 
     pub off-answers : (r : ℕ) {d : Desk} {b′ : List ℕ} → k ≡ asks (signOff r) → AfterRequest s (signOff r) d b′ → CarriedOut before x (record { number = 0; count = 0; desk = d; pages = b′; buffer = buffer })
     unfolding carriedOut
     off-answers r e c = taken (signOff r) e _ refl c
 
     range-answers : (rect : Rect) {r : Told} {after : List ℕ} → k ≡ asks (range rect) → AfterRange s rect parts buffer r after
-        → CarriedOut before x (record { number = r .answer .number; count = r .answer .count; desk = deskWith (r .parts) ws; pages = b; buffer = after })
+        → CarriedOut before x (record { number = r .answer .number; count = r .answer .count; desk = deskWith (r .parts) cs ws ms os; pages = b; buffer = after })
     unfolding carriedOut
     range-answers rect {r = r} {after = after} e l =
-        taken (range rect) e (record { number = r .answer .number; count = r .answer .count; buffer = after; store = s }) (sym (l .told)) (desk-laid s (ap (λ (p : Parts). deskWith p ws) (l .kept) ∙ x .held) (x .laid))
+        taken (range rect) e (record { number = r .answer .number; count = r .answer .count; buffer = after; store = s }) (sym (l .told)) (desk-laid s (ap (λ (p : Parts). deskWith p cs ws ms os) (l .kept) ∙ x .held) (x .laid))
 
     -- ---- the same, in the words of the calls
 
-    abbrev leaves : Told → List ℕ → List ℕ → List ℕ → After
-    leaves r ws′ b′ after = record { number = r .answer .number; count = r .answer .count; desk = deskWith (r .parts) ws′; pages = b′; buffer = after }
+    abbrev leaves : Told → List ℕ → List ℕ → List ℕ → List ℕ → List ℕ → List ℕ → After
+    leaves r cs′ ws′ ms′ os′ b′ after = record { number = r .answer .number; count = r .answer .count; desk = deskWith (r .parts) cs′ ws′ ms′ os′; pages = b′; buffer = after }
 
-    by-result : {r c : Told} {ws′ b′ : List ℕ} → r ≡ c → CarriedOut before x (leaves c ws′ b′ buffer) → CarriedOut before x (leaves r ws′ b′ buffer)
-    by-result {ws′ = ws′} {b′ = b′} e = subst (λ (c : Told). CarriedOut before x (leaves c ws′ b′ buffer)) (sym e)
+    by-result : {r c : Told} {cs′ ws′ ms′ os′ b′ : List ℕ} → r ≡ c → CarriedOut before x (leaves c cs′ ws′ ms′ os′ b′ buffer) → CarriedOut before x (leaves r cs′ ws′ ms′ os′ b′ buffer)
+    by-result {cs′ = cs′} {ws′ = ws′} {ms′ = ms′} {os′ = os′} {b′ = b′} e = subst (λ (c : Told). CarriedOut before x (leaves c cs′ ws′ ms′ os′ b′ buffer)) (sym e)
 
-    pub refused-returns : (n : ℕ) {r : Told} → k ≡ fails n → r ≡ record { parts = parts; answer = record { number = n; count = 0 } } → CarriedOut before x (leaves r ws b buffer)
+    pub refused-returns : (n : ℕ) {r : Told} → k ≡ fails n → r ≡ record { parts = parts; answer = record { number = n; count = 0 } } → CarriedOut before x (leaves r cs ws ms os b buffer)
     refused-returns n e g = by-result g (refused-answers n e)
 
-    pub on-returns : (r : ℕ) (p : Place) {d : Parts} {ws′ b′ : List ℕ} {c : Told} → k ≡ asks (signOn r p) → ((y : BeforeSignOn desk r p b) → AfterRequest (y .sound .store) (signOn r p) (deskWith d ws′) b′)
-        → c ≡ record { parts = d; answer = record { number = 0; count = 0 } } → CarriedOut before x (leaves c ws′ b′ buffer)
+    pub on-returns : (r : ℕ) (p : Place) {d : Parts} {cs′ ws′ ms′ os′ b′ : List ℕ} {c : Told} → k ≡ asks (signOn r p) → ((y : BeforeSignOn desk r p b) → AfterRequest (y .sound .store) (signOn r p) (deskWith d cs′ ws′ ms′ os′) b′)
+        → c ≡ record { parts = d; answer = record { number = 0; count = 0 } } → CarriedOut before x (leaves c cs′ ws′ ms′ os′ b′ buffer)
     unfolding on-asked
     on-returns r p e l g = by-result g (on-answers r p e (l (on-asked r p e)))
 
-    pub report-returns : (r : ℕ) (p : Place) {d : Parts} {ws′ b′ : List ℕ} {c : Told} → k ≡ asks (report r p) → ((y : BeforeReport desk r p b) → AfterRequest (y .sound .store) (report r p) (deskWith d ws′) b′)
-        → c ≡ record { parts = d; answer = record { number = 0; count = 0 } } → CarriedOut before x (leaves c ws′ b′ buffer)
+    pub report-returns : (r : ℕ) (p : Place) {d : Parts} {cs′ ws′ ms′ os′ b′ : List ℕ} {c : Told} → k ≡ asks (report r p) → ((y : BeforeReport desk r p b) → AfterRequest (y .sound .store) (report r p) (deskWith d cs′ ws′ ms′ os′) b′)
+        → c ≡ record { parts = d; answer = record { number = 0; count = 0 } } → CarriedOut before x (leaves c cs′ ws′ ms′ os′ b′ buffer)
     unfolding report-asked
     report-returns r p e l g = by-result g (report-answers r p e (l (report-asked r p e)))
 
-    pub off-returns : (r : ℕ) {d : Parts} {ws′ b′ : List ℕ} {c : Told} → k ≡ asks (signOff r) → ((y : BeforeSignOff desk r b) → AfterRequest (y .sound .store) (signOff r) (deskWith d ws′) b′)
-        → c ≡ record { parts = d; answer = record { number = 0; count = 0 } } → CarriedOut before x (leaves c ws′ b′ buffer)
+    pub off-returns : (r : ℕ) {d : Parts} {cs′ ws′ ms′ os′ b′ : List ℕ} {c : Told} → k ≡ asks (signOff r) → ((y : BeforeSignOff desk r b) → AfterRequest (y .sound .store) (signOff r) (deskWith d cs′ ws′ ms′ os′) b′)
+        → c ≡ record { parts = d; answer = record { number = 0; count = 0 } } → CarriedOut before x (leaves c cs′ ws′ ms′ os′ b′ buffer)
     unfolding off-asked
     off-returns r e l g = by-result g (off-answers r e (l (off-asked r e)))
 
     pub range-returns : (rect : Rect) {c : Told} {after : List ℕ} → k ≡ asks (range rect) → ((y : Sound desk b) → AfterRange (y .store) rect parts buffer c after)
-        → CarriedOut before x (leaves c ws b after)
+        → CarriedOut before x (leaves c cs ws ms os b after)
     range-returns rect g l = range-answers rect g (l x)
 
 -- ---- numbers 1 and 2
 
-module _ (parts : Parts) (ws pages bytes buffer : List ℕ) where
+module _ (parts : Parts) (cs ws ms os pages bytes buffer : List ℕ) where
   abbrev x : Before
-  x = record { desk = deskWith parts ws; pages = pages; bytes = bytes; buffer = buffer }
+  x = record { desk = deskWith parts cs ws ms os; pages = pages; bytes = bytes; buffer = buffer }
 
   abbrev keeps : Told → After
-  keeps r = record { number = r .answer .number; count = r .answer .count; desk = deskWith (r .parts) ws; pages = pages; buffer = buffer }
+  keeps r = record { number = r .answer .number; count = r .answer .count; desk = deskWith (r .parts) cs ws ms os; pages = pages; buffer = buffer }
 
   turned : (n : ℕ) {r : Told} → r ≡ record { parts = parts; answer = record { number = n; count = 0 } } → keeps r ≡ turnedDown n x
   unfolding turnedDown
@@ -163,27 +164,16 @@ module _ (parts : Parts) (ws pages bytes buffer : List ℕ) where
 
 -- ---- the list
 
-pub lists-returns : (parts : Parts) (ws : List ℕ) {b : List ℕ} (x : Sound (deskWith parts ws) b) (area : Rectangle) (buffer : List ℕ) {told : Listed} {after : List ℕ} {r : Told}
-    → record { number = told .number; count = told .count; buffer = after } ≡ toldList (foundIn b (rectOf area) (parts .grid .cells) (parts .waiting) (record { n = parts .lines; words = ws }) (parts .on)) buffer
+pub lists-returns : (parts : Parts) (cs ws ms os : List ℕ) {b : List ℕ} (x : Sound (deskWith parts cs ws ms os) b) (area : Rectangle) (buffer : List ℕ) {told : Listed} {after : List ℕ} {r : Told}
+    → record { number = told .number; count = told .count; buffer = after } ≡ toldList (foundIn b (rectOf area) (directoryIn (parts .frame .cells) cs) (waitingWith (parts .waiting) ws) (memoIn (parts .lines) ms) (onWith (parts .on) os)) buffer
     → r ≡ record { parts = parts; answer = record { number = told .number; count = told .count } }
     → AfterRange (x .store) (rectOf area) parts buffer r after
-lists-returns parts ws {b = b} x area buffer {told = told} {after = after} e g = record {
+lists-returns parts cs ws ms os {b = b} x area buffer {told = told} {after = after} e g = record {
   kept = ap (λ (c : Told). c .parts) g;
   told =
       ap (λ (c : Told). record { number = c .answer .number; count = c .answer .count; buffer = after; store = x .store }) g
-      ∙ range-gives (x .store) b (deskWith parts ws) (x .well) (x .laid) (x .held) (rectOf area) buffer e;
+      ∙ range-gives (x .store) b (deskWith parts cs ws ms os) (x .well) (x .laid) (x .held) (rectOf area) buffer e;
 }
-
--- ---- the desk whole
-
--- from a call on a desk's parts to one on the desk
-pub whole-answers : {parts : Parts} {told : Told} {desk d : Desk} {ws pages bytes buffer pages′ buffer′ : List ℕ} → parts ≡ partsOf desk
-    → Answers (record { desk = deskWith parts (desk .memo .words); pages = pages; bytes = bytes; buffer = buffer }) (record { number = told .answer .number; count = told .answer .count; desk = deskWith (told .parts) ws; pages = pages′; buffer = buffer′ })
-    → d ≡ deskWith (told .parts) ws
-    → Answers (record { desk = desk; pages = pages; bytes = bytes; buffer = buffer }) (record { number = told .answer .number; count = told .answer .count; desk = d; pages = pages′; buffer = buffer′ })
-whole-answers {told = told} {desk = desk} {ws = ws} {pages = pages} {bytes = bytes} {buffer = buffer} {pages′ = pages′} {buffer′ = buffer′} e a g =
-    subst (λ (z : Desk). Answers (record { desk = desk; pages = pages; bytes = bytes; buffer = buffer }) (record { number = told .answer .number; count = told .answer .count; desk = z; pages = pages′; buffer = buffer′ })) (sym g)
-    (subst (λ (p : Parts). Answers (record { desk = deskWith p (desk .memo .words); pages = pages; bytes = bytes; buffer = buffer }) (record { number = told .answer .number; count = told .answer .count; desk = deskWith (told .parts) ws; pages = pages′; buffer = buffer′ })) e a)
 
 -- the test passed
 pub sound-by : {desk : Desk} {b : List ℕ} (t : Bool) → (t ≡ true → Sound desk b) → not t ≡ false → Sound desk b

@@ -1,9 +1,10 @@
-// A record on a store in any condition: carried out, or turned down. The desk comes in its parts, with the memo's array, the pages and the answer buffer lent.
+// A record on a store in any condition: carried out, or turned down. The desk comes in its parts, with its arrays, the pages and the answer buffer lent.
 ghost use mathlib.Core.Path.{_≡_};
 ghost use Rattle.desk.specs.Call.{handed, left, CarriedOut, Answers};
 ghost use Rattle.desk.specs.Sound.{Sound};
-ghost use Rattle.desk.specs.Views.{deskWith, rectOf};
-ghost use Rattle.carry.specs.Carry.{MemoArray, AfterRange};
+ghost use Rattle.desk.specs.Held.{deskWith};
+ghost use Rattle.desk.specs.Views.{rectOf};
+ghost use Rattle.carry.specs.Carry.{DeskArrays, AfterRange};
 use desk::Answer;
 use desk::Desk;
 use desk::Parts;
@@ -45,56 +46,52 @@ fn answered(parts: Parts, number: u16, count: u16) -> Told
 // "Range finds the radios on whose latest place .. lies in the rectangle": it alters the answer buffer alone.
 fn listed(
     parts: Parts,
-    words: &[u16; Desk::MEMO_WORDS],
+    cells: &[u16; Desk::CELL_WORDS],
+    waiting: &[u16; Desk::WAITING_WORDS],
+    memo: &[u16; Desk::MEMO_WORDS],
+    on: &[u16; Desk::MAX_ON],
     pages: &[u8],
     area: Rectangle,
     buffer: &mut [u8],
 ) -> Told
-    requires { ⌜ MemoArray (now words) × Sound (deskWith parts (now words)) (now pages) ⌝ }
-    ensures { λ r. ⌜ ((s : Sound (deskWith parts (now (words .entry))) (now (pages .entry)))
+    requires { ⌜ DeskArrays (now cells) (now waiting) (now memo) (now on) × Sound (deskWith parts (now cells) (now waiting) (now memo) (now on)) (now pages) ⌝ }
+    ensures { λ r. ⌜ ((s : Sound (deskWith parts (now (cells .entry)) (now (waiting .entry)) (now (memo .entry)) (now (on .entry))) (now (pages .entry)))
         → AfterRange (s .store) (rectOf area) parts (now (buffer .entry)) r (now (buffer .exit))) ⌝ }
 {
-    let grid = parts.grid;
-    let cells = grid.cells;
-    let waiting = parts.waiting;
-    let on = parts.on;
-    let told = range::list(
-        pages,
-        area,
-        cells,
-        waiting,
-        words,
-        parts.lines,
-        &on.radios,
-        on.n,
-        buffer,
-    );
+    let told = range::list(pages, area, parts, cells, waiting, memo, on, buffer);
     answered(parts, told.number, told.count)
 }
 
 // ---- a record
 
 // One record on a sound store: carried out, or turned down under 3 to 12.
-fn carry_sound(
+fn carry_sound<'a>(
     parts: Parts,
-    words: &mut [u16; Desk::MEMO_WORDS],
+    cells: &'a mut [u16; Desk::CELL_WORDS],
+    waiting: &'a mut [u16; Desk::WAITING_WORDS],
+    memo: &'a mut [u16; Desk::MEMO_WORDS],
+    on: &'a mut [u16; Desk::MAX_ON],
     pages: &mut [u8],
     bytes: &[u8],
     buffer: &mut [u8],
 ) -> Told
-    requires { ⌜ MemoArray (now words) × Sound (deskWith parts (now words)) (now pages) ⌝ }
-    ensures { λ r. ⌜ ((s : Sound (deskWith parts (now (words .entry))) (now (pages .entry)))
+    requires { ⌜ DeskArrays (now cells) (now waiting) (now memo) (now on) × Sound (deskWith parts (now cells) (now waiting) (now memo) (now on)) (now pages) ⌝ }
+    ensures { λ r. ⌜ ((s : Sound (deskWith parts (now (cells .entry)) (now (waiting .entry)) (now (memo .entry)) (now (on .entry))) (now (pages .entry)))
         → CarriedOut
-        (handed (deskWith parts (now (words .entry))) (now (pages .entry)) (now (bytes .entry)) (now (buffer .entry)))
+        (handed (deskWith parts (now (cells .entry)) (now (waiting .entry)) (now (memo .entry)) (now (on .entry))) (now (pages .entry))
+        (now (bytes .entry)) (now (buffer .entry)))
         s
-        (left (r .answer .number) (r .answer .count) (deskWith (r .parts) (now (words .exit))) (now (pages .exit)) (now (buffer .exit)))) ⌝ }
+        (left (r .answer .number) (r .answer .count) (deskWith (r .parts) (now (cells .exit)) (now (waiting .exit)) (now (memo .exit)) (now (on .exit)))
+        (now (pages .exit)) (now (buffer .exit)))) ⌝ }
 {
-    let on = parts.on;
-    match records::asked_by(bytes, &on.radios, on.n as usize) {
+    match records::asked_by(bytes, on, parts.on as usize) {
         Asked::Refused(number) => answered(parts, number, 0),
         Asked::SignOn(radio, east, north) => accepted(effects::sign_on(
             parts,
-            words,
+            cells,
+            waiting,
+            memo,
+            on,
             pages,
             radio,
             east,
@@ -102,13 +99,24 @@ fn carry_sound(
         )),
         Asked::Report(radio, east, north) => accepted(effects::reported(
             parts,
-            words,
+            cells,
+            waiting,
+            memo,
+            on,
             pages,
             radio,
             east,
             north,
         )),
-        Asked::SignOff(radio) => accepted(effects::sign_off(parts, words, pages, radio)),
+        Asked::SignOff(radio) => accepted(effects::sign_off(
+            parts,
+            cells,
+            waiting,
+            memo,
+            on,
+            pages,
+            radio,
+        )),
         Asked::Range(west, east, south, north) => {
             let area = Rectangle {
                 west,
@@ -116,7 +124,7 @@ fn carry_sound(
                 south,
                 north,
             };
-            listed(parts, words, pages, area, buffer)
+            listed(parts, cells, waiting, memo, on, pages, area, buffer)
         }
     }
 }
@@ -124,23 +132,28 @@ fn carry_sound(
 // One record, well formed or not, with a store in any condition: carried out, or turned down under one of twelve numbers with every byte kept.
 pub fn carry_lent<'a>(
     parts: Parts,
-    words: &'a mut [u16; Desk::MEMO_WORDS],
+    cells: &'a mut [u16; Desk::CELL_WORDS],
+    waiting: &'a mut [u16; Desk::WAITING_WORDS],
+    memo: &'a mut [u16; Desk::MEMO_WORDS],
+    on: &'a mut [u16; Desk::MAX_ON],
     pages: &mut [u8],
     bytes: &[u8],
     buffer: &mut [u8],
 ) -> Told
-    requires { ⌜ MemoArray (now words) ⌝ }
+    requires { ⌜ DeskArrays (now cells) (now waiting) (now memo) (now on) ⌝ }
     ensures { λ r. ⌜ Answers
-        (handed (deskWith parts (now (words .entry))) (now (pages .entry)) (now (bytes .entry)) (now (buffer .entry)))
-        (left (r .answer .number) (r .answer .count) (deskWith (r .parts) (now (words .exit))) (now (pages .exit)) (now (buffer .exit))) ⌝ }
+        (handed (deskWith parts (now (cells .entry)) (now (waiting .entry)) (now (memo .entry)) (now (on .entry))) (now (pages .entry))
+        (now (bytes .entry)) (now (buffer .entry)))
+        (left (r .answer .number) (r .answer .count) (deskWith (r .parts) (now (cells .exit)) (now (waiting .exit)) (now (memo .exit)) (now (on .exit)))
+        (now (pages .exit)) (now (buffer .exit))) ⌝ }
 {
     if pages.len() != BUFFER_BYTES {
         return answered(parts, WRONG_SIZE, 0);
     }
-    if !sound::parts_sound(parts, words, pages) {
+    if !sound::parts_sound(parts, cells, waiting, memo, on, pages) {
         return answered(parts, UNSOUND, 0);
     }
-    carry_sound(parts, words, pages, bytes, buffer)
+    carry_sound(parts, cells, waiting, memo, on, pages, bytes, buffer)
 }
 
 // What a call answers, and the desk that it leaves.
@@ -155,13 +168,30 @@ pub fn carry(desk: Desk, pages: &mut [u8], bytes: &[u8], buffer: &mut [u8]) -> C
         (handed desk (now (pages .entry)) (now (bytes .entry)) (now (buffer .entry)))
         (left (r .answer .number) (r .answer .count) (r .desk) (now (pages .exit)) (now (buffer .exit))) ⌝ }
 {
-    let memo = desk.memo;
-    let mut words = memo.words;
-    let told = carry_lent(desk.parts(), &mut words, pages, bytes, buffer);
+    let mut cells = desk.cells;
+    let mut waiting = desk.waiting;
+    let mut memo = desk.memo;
+    let mut on = desk.on;
+    let told = carry_lent(
+        desk.parts,
+        &mut cells,
+        &mut waiting,
+        &mut memo,
+        &mut on,
+        pages,
+        bytes,
+        buffer,
+    );
     let parts = told.parts;
     let answer = told.answer;
     Carried {
-        desk: parts.whole(&words),
+        desk: Desk {
+            parts,
+            cells,
+            waiting,
+            memo,
+            on,
+        },
         answer,
     }
 }

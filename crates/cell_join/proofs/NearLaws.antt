@@ -2,7 +2,7 @@
 use mathlib.Core.Bool.{true, not}
 use mathlib.Core.List.{List, [], _∷_, _++_, map, map-append}
 use mathlib.Core.Path.{_≡_, refl, sym, ap, ap₂, subst, _∙_}
-use Prim.Native.Nat.{ℕ, suc, _+_, _≤_, _<_}
+use Prim.Native.Nat.{ℕ, suc, _+_, _-_, _*_, _≤_, _<_}
 use native.Mathlib.Omega.{arith}
 use lib.ListN.{length, take, drop, getD}
 use Rattle.terms.specs.Terms.{Fix, maxOn, pages, noPage}
@@ -28,28 +28,27 @@ use Rattle.rules.specs.Parts.{Rowed}
 use Rattle.rules.proofs.BooksLaws.{memo-total}
 use Rattle.rules.proofs.RoundLaws.{bounded-total}
 use Rattle.desk.specs.declared.Slot.{Slot}
-use Rattle.desk.specs.declared.Directory.{Directory}
-use Rattle.desk.specs.declared.Grid.{Grid}
-use Rattle.desk.specs.declared.Memo.{Memo}
-use Rattle.desk.specs.Layout.{noSlot, lineSlots, slotOf, directoryOf, gridOf, memoOf}
+use Rattle.desk.specs.declared.Frame.{Frame}
+use Rattle.desk.specs.Held.{Directory, Grid, Memo, directoryIn, gridIn}
+use Rattle.desk.specs.Layout.{noSlot, slotFields, lineSlots, cutListOf, slotOf, directoryOf, gridOf, memoOf}
 use Rattle.desk.specs.Laid.{LaidMemo}
-use Rattle.desk.specs.Views.{slotsIn, directoryWith}
+use Rattle.desk.specs.Views.{everySlot, slotsIn, directoryWith}
 use Rattle.desk.proofs.ReadLaws.{CellRead, cells-read}
 use Rattle.memo.specs.Memo.{linesOf, Whole}
 use Rattle.directory.specs.Directory.{WholeDirectory}
-use Rattle.directory.proofs.CellLaws.{slots-at}
+use Rattle.directory.proofs.CellLaws.{whole-size}
 use Rattle.directory.proofs.DirectoryLaws.{directory-whole, directory-count, directory-slots, directory-removed}
 use Rattle.settle.specs.declared.Settled.{Settled}
 use Rattle.sweep.proofs.CellLaws.{Sweepable, sweepable, cell-asks, cell-gives}
 use Rattle.join.specs.Join.{joinedSlot}
 use Rattle.join.proofs.JoinLaws.{joined-slot-cell}
-use Rattle.cell_last.specs.Grids.{withDirectory}
+use Rattle.cell_last.specs.Frames.{withCount}
 use Rattle.cell_last.specs.Settling.{BeforeReshape}
 use Rattle.cell_join.specs.Joining.{BeforeJoin, BeforeJoinPages, AfterJoinPages}
-use Rattle.cell_last.proofs.MidwayLaws.{store-once, midway-loose, midway-slot}
+use Rattle.cell_last.proofs.MidwayLaws.{store-once, midway-loose}
 use Rattle.cell_join.proofs.LaidLaws.{few-joined, cells-joined}
 use Rattle.cell_last.proofs.CellsLaws.{slots-with}
-use Rattle.cell_last.proofs.MovedLaws.{with-slots, loose-in, loose-in-slots, loose-free, loose-slot}
+use Rattle.cell_last.proofs.MovedLaws.{with-slots, slot-same, loose-in, loose-free}
 
 -- ---- the memo in the middle of a flush
 
@@ -71,7 +70,10 @@ module _ {grid : Grid} {at : ℕ} {chain : List ℕ} {rows : Rows Fix} {memo : M
 
 -- ---- the neighbour
 
-module _ {grid : Grid} {at : ℕ} {rest : Directory} {k : ℕ} {chain : List ℕ} {rows : Rows Fix} {memo : Memo} {b : List ℕ} (x : BeforeJoin grid at rest k chain rows memo b) where
+module _ {frame : Frame} {rest : List ℕ} {d : Slot} {k : ℕ} {chain : List ℕ} {rows : Rows Fix} {memo : Memo} {b : List ℕ} (x : BeforeJoin frame rest d k chain rows memo b) where
+  abbrev others : Directory
+  others = directoryIn (frame .cells - 1) rest
+
   abbrev f : Flushed
   f = x .midway .flushed
 
@@ -87,11 +89,17 @@ module _ {grid : Grid} {at : ℕ} {rest : Directory} {k : ℕ} {chain : List ℕ
   cells-few : length cells < maxCells
   cells-few = omega (arith, x .midway .mid .tiled .few-cells, length-middle (x .midway .before) (x .midway .d) (x .midway .after))
 
-  pub near-d : at < maxCells
-  near-d = loose-in-slots (midway-loose (x .midway))
+  -- one of them is d
+  pub near-some : 1 ≤ frame .cells
+  near-some = omega (arith, loose-in (midway-loose (x .midway)))
 
-  pub near-m : k < maxCells
-  near-m = omega (arith, x .stands .inside, cells-few)
+  pub near-puts : WholeDirectory (directoryIn (frame .cells - 1) rest) × (k < frame .cells - 1) × (frame .cells - 1 ≤ maxCells)
+  near-puts =
+      let n = directory-count cells (x .out .rest-is) in
+      (directory-whole cells (x .out .rest-is), omega (arith, n, x .stands .inside), omega (arith, n, cells-few))
+
+  pub near-reads : (k < maxCells) × (length rest ≡ slotFields * maxCells)
+  near-reads = (omega (arith, x .stands .inside, cells-few), whole-size (near-puts .0) (near-puts .2))
 
   paged : length (m .chain) ≡ pagesFor (length (m .entries))
   paged =
@@ -115,12 +123,12 @@ module _ {grid : Grid} {at : ℕ} {rest : Directory} {k : ℕ} {chain : List ℕ
   near-swept = sweepable b (f .store .memo) m read paged (rowed .rising) (omega (arith, few-stay, x .small))
 
   -- its slot
-  slot-first : getD (rest .slots) k noSlot .first ≡ firstOf noPage (m .chain)
-  slot-first = ap (λ (s : Slot). s .first) (x .stands .element)
+  module _ {s : Slot} (is-slot : s ≡ getD (everySlot rest) k noSlot) (other : Chain) (read-first : pagesOf other ≡ chainFrom pages b (s .first)) where
+    pub slot-m : s ≡ slotOf m
+    slot-m = is-slot ∙ x .stands .element
 
-  module _ (other : Chain) (read-first : pagesOf other ≡ chainFrom pages b (getD (rest .slots) k noSlot .first)) where
     from-first : pagesOf other ≡ chainFrom pages b (firstOf noPage (m .chain))
-    from-first = read-first ∙ ap (chainFrom pages b) slot-first
+    from-first = read-first ∙ ap (λ (y : Slot). chainFrom pages b (y .first)) slot-m
 
     pub near-asks : other .n ≤ pages
         → (other .n ≤ pages) × Each (λ p. there b p ≡ true) (pagesOf other) × Rising 0 (entriesOn b (pagesOf other)) × Whole memo × (memo .n ≤ lineSlots) × Rising 0 (linesOf memo) × (length (sweptEntries (linesOf memo) (entriesOn b (pagesOf other))) ≤ maxOn)
@@ -150,7 +158,7 @@ module _ {grid : Grid} {at : ℕ} {rest : Directory} {k : ℕ} {chain : List ℕ
         omega (arith, count-stays, x .small, n, ap length e, ap length (x .midway .entered)),
       )
 
-      abbrev pub near-joins : (all : Rows Fix) → all ≡ merge (rowsOf stay) rows → BeforeJoinPages (grid .free) (getD (grid .cells .slots) at noSlot) chain (getD (rest .slots) k noSlot) (pagesOf other) all b
+      abbrev pub near-joins : (all : Rows Fix) → all ≡ merge (rowsOf stay) rows → BeforeJoinPages (frame .free) d chain s (pagesOf other) all b
       near-joins all e = record {
         flushed = f;
         old = x .midway .d;
@@ -164,9 +172,9 @@ module _ {grid : Grid} {at : ℕ} {rest : Directory} {k : ℕ} {chain : List ℕ
         among = among;
         small = x .small;
         free-is = loose-free (midway-loose (x .midway));
-        d-is = sym (slots-at (grid .cells) at (loose-in (midway-loose (x .midway)))) ∙ loose-slot (midway-loose (x .midway));
+        d-is = x .out .slot-is;
         chained = x .midway .chained;
-        m-is = x .stands .element;
+        m-is = slot-m;
         other-is = other-is;
         all-is = e ∙ ap₂ merge stays (x .midway .entered);
         laid = x .midway .laid .in-grid .laid;
@@ -178,30 +186,29 @@ module _ {grid : Grid} {at : ℕ} {rest : Directory} {k : ℕ} {chain : List ℕ
       noted : after ≡ memoOf (sweptMemo (f .store .memo) (m .entries))
       noted = gives .2
 
-      pub near-returns : {ends : Settled} {b′ : List ℕ} {cells′ : Directory} {g : Grid} → AfterJoinPages f m ends b′
-          → cells′ ≡ directoryWith (removeAt (slotsIn rest) k ++ (joinedSlot (getD (grid .cells .slots) at noSlot) (getD (rest .slots) k noSlot) (ends .first) ∷ []))
-          → g ≡ withDirectory cells′ (ends .free) grid
-          → LaidMemo (joinedWith f m) g after b′
+      pub near-returns : {ends : Settled} {b′ : List ℕ} {vs : List ℕ} {r : Frame} → AfterJoinPages f m ends b′
+          → directoryIn (frame .cells - 1) vs ≡ directoryWith (removeAt (slotsIn (directoryIn (frame .cells - 1) rest)) k ++ (joinedSlot d s (ends .first) ∷ []))
+          → r ≡ withCount (frame .cells - 1) (ends .free) frame
+          → LaidMemo (joinedWith f m) (gridIn r vs) after b′
       unfolding gridOf joinedWith
-      near-returns {ends = ends} {cells′ = cells′} {g = g} laid is-cells is-g =
-          let d-slot : getD (grid .cells .slots) at noSlot ≡ slotOf (f .cell) = sym (slots-at (grid .cells) at (loose-in (midway-loose (x .midway)))) ∙ midway-slot (x .midway) in
-          let last : joinedSlot (getD (grid .cells .slots) at noSlot) (getD (rest .slots) k noSlot) (ends .first) ≡ slotOf (joined f m) =
-          ap₂ (λ (s : Slot) (p : Slot × ℕ). joinedSlot s (p .0) (p .1)) d-slot (ap₂ (λ (s : Slot) (n : ℕ). (s, n)) (x .stands .element) (laid .first)) ∙ joined-slot-cell f m in
-          let left : removeAt (slotsIn rest) k ≡ map slotOf (take k cells ++ drop (suc k) cells) =
-          sym (slots-with (removeAt (slotsIn rest) k)) ∙ ap slotsIn (directory-removed cells (x .rest-is) k) ∙ directory-slots (take k cells ++ drop (suc k) cells) refl in
-          let all : cells′ ≡ directoryOf (joinedWith f m .cells) =
-          is-cells ∙ ap₂ (λ (l : List Slot) (s : Slot). directoryWith (l ++ (s ∷ []))) left last
+      near-returns {ends = ends} {vs = vs} {r = r} laid is-cells is-r =
+          let mid = x .midway .mid in
+          let d-slot : d ≡ slotOf (f .cell) = x .out .slot-is ∙ sym (slot-same (f .cell) (x .midway .d) (mid .number) (mid .edges) (mid .chain)) in
+          let last : joinedSlot d s (ends .first) ≡ slotOf (joined f m) =
+          ap₂ (λ (y : Slot) (p : Slot × ℕ). joinedSlot y (p .0) (p .1)) d-slot (ap₂ (λ (y : Slot) (n : ℕ). (y, n)) slot-m (laid .first)) ∙ joined-slot-cell f m in
+          let left : removeAt (slotsIn others) k ≡ map slotOf (take k cells ++ drop (suc k) cells) =
+          sym (slots-with (removeAt (slotsIn others) k)) ∙ ap slotsIn (directory-removed cells (x .out .rest-is) k) ∙ directory-slots (take k cells ++ drop (suc k) cells) refl in
+          let all : directoryIn (frame .cells - 1) vs ≡ directoryOf (joinedWith f m .cells) =
+          is-cells ∙ ap₂ (λ (l : List Slot) (y : Slot). directoryWith (l ++ (y ∷ []))) left last
           ∙ ap directoryWith (sym (map-append slotOf (take k cells ++ drop (suc k) cells) (joined f m ∷ []))) ∙ with-slots ((take k cells ++ drop (suc k) cells) ++ (joined f m ∷ []))
-          ∙ ap directoryOf (sym (cells-joined (x .midway .mid) b (x .midway .laid .in-grid .laid) m among (x .small) refl)) in
+          ∙ ap directoryOf (sym (cells-joined mid b (x .midway .laid .in-grid .laid) m among (x .small) refl)) in
+          let easts : frame .easts ≡ cutListOf (f .store .cuts .easts) = ap (λ (g : Grid). g .easts) (x .midway .laid .in-grid .grid-is) in
+          let norths : frame .norths ≡ cutListOf (f .store .cuts .norths) = ap (λ (g : Grid). g .norths) (x .midway .laid .in-grid .grid-is) in
+          let front = laid .free in
           record {
             in-grid = record {
-              grid-is = is-g ∙ ap₂ (λ (h : Grid) (p : Directory × ℕ). withDirectory (p .0) (p .1) h) (x .midway .laid .in-grid .grid-is) (ap₂ (λ (d : Directory) (n : ℕ). (d, n)) all (laid .free));
+              grid-is = ap (λ (y : Frame). gridIn y vs) is-r ∙ (λ t. record { easts = easts t; norths = norths t; cells = all t; free = front t });
               laid = laid .laid;
             };
             memo-is = noted;
           }
-
-  pub near-puts : WholeDirectory rest × (k < rest .n) × (rest .n < maxCells)
-  near-puts =
-      let n = directory-count cells (x .rest-is) in
-      (directory-whole cells (x .rest-is), omega (arith, n, x .stands .inside), omega (arith, n, cells-few))

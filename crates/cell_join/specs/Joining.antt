@@ -1,7 +1,7 @@
 -- A join under way (01, "Join"), and its pages at its end.
 use mathlib.Core.List.{List, _++_}
 use mathlib.Core.Path.{_≡_}
-use Prim.Native.Nat.{ℕ, _+_, _≤_}
+use Prim.Native.Nat.{ℕ, _+_, _-_, _≤_}
 use lib.ListN.{length}
 use Rattle.terms.specs.Terms.{Fix, noPage}
 use Rattle.lists.specs.Chains.{firstOf}
@@ -12,14 +12,13 @@ use Rattle.rules.specs.Store.{Line, Cell}
 use Rattle.rules.specs.Sweep.{sweptEntries}
 use Rattle.rules.specs.Flush.{Flushed, joined, joinedWith}
 use Rattle.rules.specs.Midway.{MidFlush}
+use Rattle.desk.specs.declared.Frame.{Frame}
 use Rattle.desk.specs.declared.Slot.{Slot}
-use Rattle.desk.specs.declared.Directory.{Directory}
-use Rattle.desk.specs.declared.Grid.{Grid}
-use Rattle.desk.specs.declared.Memo.{Memo}
-use Rattle.desk.specs.Layout.{slotOf, directoryOf, Laid}
+use Rattle.desk.specs.Held.{Memo, directoryIn, gridIn}
+use Rattle.desk.specs.Layout.{slotOf, Laid}
 use Rattle.directory.specs.Directory.{Stands}
 use Rattle.settle.specs.declared.Settled.{Settled}
-use Rattle.cell_last.specs.Settling.{BeforeReshape}
+use Rattle.cell_last.specs.Settling.{SlotOut, BeforeReshape}
 
 -- d and a neighbour m are to be joined: d's slot, its old pages, m's slot, its pages, and all entries that the joined cell has
 pub record BeforeJoinPages (free : ℕ) (d : Slot) (chain : List ℕ) (m : Slot) (other : List ℕ) (all : Rows Fix) (bytes : List ℕ) : Type 0 where
@@ -48,10 +47,13 @@ pub record AfterJoinPages (f : Flushed) (m : Cell) (ends : Settled) (bytes : Lis
   pub free : ends .free ≡ firstOf noPage (joinedWith f m .free)
   pub laid : Laid (joinedWith f m) bytes
 
--- the cell at place k of the others is to be joined with d: few are together
-pub record BeforeJoin (grid : Grid) (at : ℕ) (rest : Directory) (k : ℕ) (chain : List ℕ) (rows : Rows Fix) (memo : Memo) (bytes : List ℕ) : Type 0 where
-  pub midway : BeforeReshape grid at chain rows memo bytes
+-- d's slot is taken out of the round, and the cell at place k of the others is to be joined with it: few are together
+pub record BeforeJoin (frame : Frame) (rest : List ℕ) (d : Slot) (k : ℕ) (chain : List ℕ) (rows : Rows Fix) (memo : Memo) (bytes : List ℕ) : Type 0 where
+  -- the directory's array as it was, with d at this place of the round
+  pub words : List ℕ
+  pub at : ℕ
+  pub midway : BeforeReshape (gridIn frame words) at chain rows memo bytes
+  pub out : SlotOut frame rest d (midway .d) (midway .before ++ midway .after)
   pub neighbour : Cell
-  pub rest-is : rest ≡ directoryOf (midway .before ++ midway .after)
-  pub stands : Stands rest (midway .before ++ midway .after) neighbour k
+  pub stands : Stands (directoryIn (frame .cells - 1) rest) (midway .before ++ midway .after) neighbour k
   pub small : length (midway .flushed .cell .entries) + length (neighbour .entries) ≤ joinEntries

@@ -13,13 +13,12 @@ ghost use Rattle.desk.specs.Laid.{LaidMemo};
 ghost use Rattle.desk.specs.Views.{slotsIn, directoryWith};
 ghost use Rattle.directory.specs.Directory.{WholeDirectory};
 ghost use Rattle.join.specs.Join.{joinedSlot};
-ghost use Rattle.memo.specs.Memo.{memoIn};
+ghost use Rattle.desk.specs.Held.{directoryIn, gridIn, memoIn};
 ghost use Rattle.cell_last.specs.Settling.{HandFits};
 ghost use Rattle.cell_join.specs.Joining.{BeforeJoinPages, AfterJoinPages, BeforeJoin};
 use cell_last::Reshaped;
 use desk::Desk;
-use desk::Directory;
-use desk::Grid;
+use desk::Frame;
 use desk::Slot;
 use entries::Entries;
 use page::Chain;
@@ -88,21 +87,30 @@ fn join_pages(
     join_onto_m(buffer, free, d, chain, m, other, all)
 }
 
-// The directory without the neighbour at place k, and the joined cell last.
-fn joined_cells(rest: Directory, k: usize, d: Slot, m: Slot, first: u16) -> Directory
-    requires { ⌜ WholeDirectory rest × (k < rest .n) × (rest .n < maxCells) ⌝ }
-    ensures { λ r. ⌜ r ≡ directoryWith (removeAt (slotsIn rest) k ++ (joinedSlot d m first ∷ [])) ⌝ }
+// The others without the neighbour at place k, and the joined cell last: as many as before.
+fn joined_cells<'a>(
+    rest: &'a mut [u16; Desk::CELL_WORDS],
+    n: u16,
+    k: usize,
+    d: Slot,
+    m: Slot,
+    first: u16,
+)
+    requires { ⌜ WholeDirectory (directoryIn n (now rest)) × (k < n) × (n ≤ maxCells) ⌝ }
+    ensures { λ _. ⌜ directoryIn n (now (rest .exit))
+        ≡ directoryWith (removeAt (slotsIn (directoryIn n (now (rest .entry)))) k ++ (joinedSlot d m first ∷ [])) ⌝ }
 {
-    let left = directory::taken_out(rest, k);
-    directory::put_last(left, join::joined_slot(d, m, first))
+    directory::take_out(rest, n, k);
+    let joined = join::joined_slot(d, m, first);
+    directory::put_last(rest, n - 1, joined);
 }
 
-// "sweep that cell and join it": the neighbour at place k of the other cells.
+// "sweep that cell and join it": d's slot is taken out of the round, and the neighbour stands at place k of the others. The frame still counts d.
 pub fn join(
     buffer: &mut [u8],
-    grid: Grid,
-    at: usize,
-    rest: Directory,
+    frame: Frame,
+    rest: &mut [u16; Desk::CELL_WORDS],
+    d: Slot,
     k: usize,
     chain: Chain,
     table: Entries,
@@ -110,21 +118,21 @@ pub fn join(
     lines: u16,
 ) -> Reshaped
     requires { ⌜ (chain .n ≤ pages) × (table .n ≡ length (rowsOf table))
-        × BeforeJoin grid at rest k (pagesOf chain) (rowsOf table) (memoIn lines (now words)) (now buffer) ⌝ }
-    ensures { λ r. ⌜ ((x : BeforeJoin grid at rest k (pagesOf chain) (rowsOf table) (memoIn lines (now (words .entry))) (now (buffer .entry)))
-        → LaidMemo (joinedWith (x .midway .flushed) (x .neighbour)) (r .grid) (memoIn (r .lines) (now (words .exit))) (now (buffer .exit))) ⌝ }
+        × BeforeJoin frame (now rest) d k (pagesOf chain) (rowsOf table) (memoIn lines (now words)) (now buffer) ⌝ }
+    ensures { λ r. ⌜ ((x : BeforeJoin frame (now (rest .entry)) d k (pagesOf chain) (rowsOf table) (memoIn lines (now (words .entry))) (now (buffer .entry)))
+        → LaidMemo (joinedWith (x .midway .flushed) (x .neighbour)) (gridIn (r .frame) (now (rest .exit))) (memoIn (r .lines) (now (words .exit)))
+        (now (buffer .exit))) ⌝ }
 {
-    let cells = grid.cells;
-    let d = cells.slots[at];
-    let m = rest.slots[k];
+    let m = desk::slot_at(rest, k);
     let other = page_chain::read_chain(buffer, m.first);
     let swept = sweep::sweep_chain(buffer, other, words, lines);
     let stays = swept.table;
     let all = join::merged(stays, table);
-    let ends = join_pages(buffer, grid.free, d, chain, m, other, all);
-    let joined = joined_cells(rest, k, d, m, ends.first);
+    let ends = join_pages(buffer, frame.free, d, chain, m, other, all);
+    let n = frame.cells - 1;
+    joined_cells(rest, n, k, d, m, ends.first);
     Reshaped {
-        grid: cell_last::with_cells(grid, joined, ends.free),
+        frame: cell_last::with_cells(frame, n, ends.free),
         lines: swept.lines,
     }
 }

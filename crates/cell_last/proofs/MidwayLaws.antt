@@ -14,8 +14,7 @@ use Rattle.rules.specs.WellFormed.{chains, PagesOnce}
 use Rattle.rules.specs.Parts.{Paged}
 use Rattle.rules.specs.Midway.{MidFlush, size}
 use Rattle.rules.proofs.PagedLaws.{needed, pages-few, room-pages}
-use Rattle.desk.specs.declared.Grid.{Grid}
-use Rattle.desk.specs.declared.Memo.{Memo}
+use Rattle.desk.specs.Held.{Grid, Memo}
 use Rattle.desk.specs.Layout.{noSlot, slotOf, Laid}
 use Rattle.desk.specs.Views.{slotsIn}
 use Rattle.desk.specs.Laid.{LaidGrid}

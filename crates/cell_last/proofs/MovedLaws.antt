@@ -1,9 +1,9 @@
 -- A cell whose entries are at hand is settled and goes to the end of the round: what the code asks for that, and what it leaves.
 use mathlib.Core.List.{List, [], _∷_, _++_, map, append-nil, map-append}
 use mathlib.Core.Path.{_≡_, refl, sym, ap, ap₂, subst, _∙_}
-use Prim.Native.Nat.{ℕ, suc, _+_, _≤_, _<_}
+use Prim.Native.Nat.{ℕ, suc, _+_, _-_, _*_, _≤_, _<_}
 use native.Mathlib.Omega.{arith}
-use lib.ListN.{length, getD, take, drop, length-map, length-append}
+use lib.ListN.{length, getD, drop, length-map, length-append}
 use lib.Seq.{take-at}
 use Rattle.terms.specs.Terms.{Fix, maxOn, pages, noPage}
 use Rattle.lists.specs.Chains.{firstOf}
@@ -18,20 +18,20 @@ use Rattle.rules.specs.Limits.{maxCells}
 use Rattle.rules.specs.Grid.{Rect, Cuts}
 use Rattle.rules.specs.Store.{Cell, Store, withCuts, withCells, withFree, pagesFor, settled}
 use Rattle.desk.specs.declared.Slot.{Slot}
-use Rattle.desk.specs.declared.Directory.{Directory}
-use Rattle.desk.specs.declared.Grid.{Grid}
-use Rattle.desk.specs.Layout.{slotted, noSlot, slotOf, directoryOf, gridOf, At, cellsLeaves, freeLeaves, storeLeaves}
-use Rattle.desk.specs.Views.{slotsIn, directoryWith}
+use Rattle.desk.specs.declared.Frame.{Frame}
+use Rattle.desk.specs.Held.{Directory, Grid, directoryIn, gridIn}
+use Rattle.desk.specs.Layout.{slotted, slotFields, slotWords, noSlot, cutListOf, slotOf, directoryOf, gridOf, At, cellsLeaves, freeLeaves, storeLeaves}
+use Rattle.desk.specs.Views.{everySlot, slotsIn, directoryWith, edgesOf}
 use Rattle.desk.specs.Laid.{LaidGrid}
-use Rattle.desk.proofs.UniqueLaws.{take-slotted}
+use Rattle.desk.proofs.UniqueLaws.{take-slots}
 use Rattle.directory.specs.Directory.{WholeDirectory}
-use Rattle.directory.proofs.CellLaws.{slots-at}
+use Rattle.directory.proofs.CellLaws.{slots-at, whole-size}
 use Rattle.settle.specs.declared.Settled.{Settled}
 use Rattle.settle.specs.Settle.{written, settledLeaves, settledEnds}
 use Rattle.settle.proofs.SettleLaws.{Apart, apart-cell, settled-laid, settle-asks, settle-says}
 use Rattle.cell_last.proofs.CellsLaws.{slots-with}
-use Rattle.cell_last.specs.Grids.{withDirectory}
-use Rattle.cell_last.specs.Settling.{BeforeSettle, movedLast}
+use Rattle.cell_last.specs.Frames.{withCount}
+use Rattle.cell_last.specs.Settling.{BeforeSettle, SlotOut, BeforeLast, movedLast}
 
 -- a grid and pages that lay out a store lay out any other with the same cuts, cells and free chain
 pub grid-same : {g : Grid} {b : List ℕ} (s t : Store) → s .cuts ≡ t .cuts → s .cells ≡ t .cells → s .free ≡ t .free → LaidGrid s g b → LaidGrid t g b
@@ -44,12 +44,12 @@ grid-same {g = g} {b = b} s t e f h l = record {
 -- ---- the directory of a list of cells
 
 slots-of : (cells : List Cell) → slotsIn (directoryOf cells) ≡ map slotOf cells
-unfolding slotsIn directoryOf
-slots-of cells = ap (λ (n : ℕ). take n (slotted maxCells noSlot (map slotOf cells))) (sym (length-map cells slotOf)) ∙ take-slotted maxCells noSlot (map slotOf cells)
+unfolding slotsIn
+slots-of cells = take-slots cells
 
 pub with-slots : (cells : List Cell) → directoryWith (map slotOf cells) ≡ directoryOf cells
 unfolding directoryWith directoryOf
-with-slots cells = ap (λ (n : ℕ). record { n = n; slots = slotted maxCells noSlot (map slotOf cells) }) (length-map cells slotOf)
+with-slots cells = ap (λ (n : ℕ). directoryIn n (slotWords (slotted maxCells noSlot (map slotOf cells)))) (length-map cells slotOf)
 
 whole-of : (cells : List Cell) → WholeDirectory (directoryOf cells)
 whole-of cells = sym (with-slots cells) ∙ ap directoryWith (sym (slots-of cells))
@@ -110,25 +110,6 @@ module _ {grid : Grid} {at : ℕ} {chain : List ℕ} {rows : Rows Fix} {b : List
   pub loose-asks : Each (λ p. p < pages) chain × (endFrom pages b (grid .free) ≡ atNone) × (pagesFor (length rows) ≤ length chain + length (chainFrom pages b (grid .free)))
   loose-asks = settle-asks (x .cell) loose-apart (x .chained) loose-free (x .entered) (x .room)
 
-  -- what it leaves, once the cell is taken out of the directory and put last
-  pub moved-laid : (d : Slot) {b′ : List ℕ} {e : Settled} {out cells : Directory} → d ≡ getD (slotsIn (grid .cells)) at noSlot
-      → b′ ≡ written b (settledLeaves (d .number) chain (chainFrom pages b (grid .free)) rows) → e ≡ settledEnds chain (chainFrom pages b (grid .free)) rows
-      → out ≡ directoryWith (removeAt (slotsIn (grid .cells)) at)
-      → cells ≡ directoryWith (slotsIn out ++ (record { number = d .number; west = d .west; east = d .east; south = d .south; north = d .north; first = e .first } ∷ []))
-      → LaidGrid (movedLast (x .store) rest (x .cell)) (withDirectory cells (e .free) grid) b′
-  unfolding movedLast gridOf settled
-  moved-laid d {b′ = b′} {e = e} {out = out} {cells = cells} is-d wrote ends is-out is-cells =
-      let slot : d ≡ slotOf (x .old) = is-d ∙ loose-slot in
-      let says = settle-says (x .cell) loose-apart (x .chained) loose-free (x .entered) (ap (λ (s : Slot). s .number) slot ∙ sym (x .number)) wrote ends in
-      let last : record { number = d .number; west = d .west; east = d .east; south = d .south; north = d .north; first = e .first } ≡ slotOf (settled (x .store .free) (x .cell)) = rw (slot, says .1, x .number, x .edges) in
-      let all : cells ≡ directoryOf (rest ++ (settled (x .store .free) (x .cell) ∷ [])) =
-      is-cells ∙ ap₂ (λ (l : List Slot) (s : Slot). directoryWith (l ++ (s ∷ []))) (ap slotsIn (is-out ∙ loose-rest) ∙ slots-of rest) last
-      ∙ ap directoryWith (sym (map-append slotOf rest (settled (x .store .free) (x .cell) ∷ []))) ∙ with-slots (rest ++ (settled (x .store .free) (x .cell) ∷ [])) in
-      record {
-        grid-is = rw (x .laid .grid-is, all, says .1);
-        laid = rw (says .0) (settled-laid (x .cell) loose-apart (movedLast (x .store) rest (x .cell)) rest [] (append-nil rest) refl refl);
-      }
-
   -- ---- in the words of the calls
 
   loose-length : length (x .before ++ (x .old ∷ x .after)) ≤ maxCells
@@ -147,24 +128,73 @@ module _ {grid : Grid} {at : ℕ} {chain : List ℕ} {rows : Rows Fix} {b : List
   pub loose-takes : WholeDirectory (grid .cells) × (at < grid .cells .n) × (grid .cells .n ≤ maxCells)
   loose-takes = (rw loose-cells (whole-of (x .before ++ (x .old ∷ x .after))), loose-in, omega (arith, loose-count, loose-length))
 
-  pub loose-puts : {out : Directory} → out ≡ directoryWith (removeAt (slotsIn (grid .cells)) at) → WholeDirectory out × (out .n < maxCells)
-  unfolding directoryOf
-  loose-puts {out = out} e =
-      let g : out ≡ directoryOf rest = e ∙ loose-rest in
-      (subst WholeDirectory (sym g) (whole-of rest), omega (arith, ap (λ (d : Directory). d .n) g, loose-length, length-append (x .before) (x .old ∷ x .after), length-append (x .before) (x .after)))
+  -- the array that is lent
+  pub loose-reads : (at < maxCells) × (length (grid .cells .words) ≡ slotFields * maxCells)
+  loose-reads = (loose-in-slots, whole-size (loose-takes .0) (loose-takes .2))
+
+  -- its slot taken out
+  pub slot-out : {d : Slot} {vs : List ℕ} (frame : Frame) → frame .cells ≡ grid .cells .n → d ≡ getD (everySlot (grid .cells .words)) at noSlot
+      → directoryIn (grid .cells .n - 1) vs ≡ directoryWith (removeAt (slotsIn (grid .cells)) at) → SlotOut frame vs d (x .old) rest
+  slot-out {vs = vs} frame n e f = record {
+    slot-is = e ∙ sym (slots-at (grid .cells) at loose-in) ∙ loose-slot;
+    rest-is = ap (λ (k : ℕ). directoryIn (k - 1) vs) n ∙ f ∙ loose-rest;
+  }
+
+abbrev pub settles-out : {frame : Frame} {ws : List ℕ} {at : ℕ} {chain : List ℕ} {rows : Rows Fix} {b : List ℕ} (x : BeforeSettle (gridIn frame ws) at chain rows b) {d : Slot} {vs : List ℕ}
+    → d ≡ getD (everySlot ws) at noSlot → directoryIn (frame .cells - 1) vs ≡ directoryWith (removeAt (slotsIn (directoryIn (frame .cells) ws)) at) → BeforeLast frame vs d chain rows b
+settles-out {frame} {ws} {at} x e f = record { words = ws; at = at; settles = x; out = slot-out x frame refl e f }
 
 pub loose-settles : (chain : Chain) (table : Entries) {grid : Grid} {at : ℕ} {b : List ℕ} → BeforeSettle grid at (pagesOf chain) (rowsOf table) b → chain .n ≤ pages → table .n ≤ maxOn
     → (length b ≡ bufferBytes) × (table .n ≤ maxOn) × (chain .n ≤ pages) × Each (λ p. p < pages) (pagesOf chain) × (endFrom pages b (grid .free) ≡ atNone)
     × (pagesFor (length (rowsOf table)) ≤ length (pagesOf chain) + length (chainFrom pages b (grid .free)))
 loose-settles chain table x n t = let q = loose-asks x in (x .laid .laid .size, t, n, q .0, q .1, q .2)
 
-pub moved-returns : {grid : Grid} {at : ℕ} {chain : List ℕ} {rows : Rows Fix} {b : List ℕ} (x : BeforeSettle grid at chain rows b) {b′ : List ℕ} {e : Settled} {out last : Directory} {moved : Slot} {r : Grid}
-    → b′ ≡ written b (settledLeaves (getD (grid .cells .slots) at noSlot .number) chain (chainFrom pages b (grid .free)) rows) → e ≡ settledEnds chain (chainFrom pages b (grid .free)) rows
-    → out ≡ directoryWith (removeAt (slotsIn (grid .cells)) at)
-    → moved ≡ record { number = getD (grid .cells .slots) at noSlot .number; west = getD (grid .cells .slots) at noSlot .west; east = getD (grid .cells .slots) at noSlot .east; south = getD (grid .cells .slots) at noSlot .south; north = getD (grid .cells .slots) at noSlot .north; first = e .first }
-    → last ≡ directoryWith (slotsIn out ++ (moved ∷ []))
-    → r ≡ withDirectory last (e .free) grid
-    → LaidGrid (movedLast (x .store) (x .before ++ x .after) (x .cell)) r b′
-moved-returns {grid = grid} {at = at} x {b′ = b′} {out = out} wrote ends is-out is-moved is-last is-r =
-    subst (λ (g : Grid). LaidGrid (movedLast (x .store) (x .before ++ x .after) (x .cell)) g b′) (sym is-r)
-    (moved-laid x (getD (grid .cells .slots) at noSlot) (sym (slots-at (grid .cells) at (loose-in x))) wrote ends is-out (is-last ∙ ap (λ (s : Slot). directoryWith (slotsIn out ++ (s ∷ []))) is-moved))
+-- a cell that is taken out, and then put last
+module _ {frame : Frame} {rest : List ℕ} {d : Slot} {chain : List ℕ} {rows : Rows Fix} {b : List ℕ} (x : BeforeLast frame rest d chain rows b) where
+  abbrev s : Store
+  s = x .settles .store
+
+  abbrev cell : Cell
+  cell = x .settles .cell
+
+  abbrev others : List Cell
+  others = x .settles .before ++ x .settles .after
+
+  pub hand-some : 1 ≤ frame .cells
+  hand-some = omega (arith, loose-in (x .settles))
+
+  pub hand-puts : WholeDirectory (directoryIn (frame .cells - 1) rest) × (frame .cells - 1 < maxCells)
+  hand-puts = (subst WholeDirectory (sym (x .out .rest-is)) (whole-of others), omega (arith, hand-some, loose-takes (x .settles) .2))
+
+  pub hand-laid : {b′ : List ℕ} {e : Settled} {moved : Slot} {vs : List ℕ} {r : Frame}
+      → b′ ≡ written b (settledLeaves (d .number) chain (chainFrom pages b (frame .free)) rows) → e ≡ settledEnds chain (chainFrom pages b (frame .free)) rows
+      → moved ≡ record { number = d .number; west = d .west; east = d .east; south = d .south; north = d .north; first = e .first }
+      → directoryIn (frame .cells - 1 + 1) vs ≡ directoryWith (slotsIn (directoryIn (frame .cells - 1) rest) ++ (moved ∷ []))
+      → r ≡ withCount (frame .cells) (e .free) frame
+      → LaidGrid (movedLast s others cell) (gridIn r vs) b′
+  unfolding movedLast gridOf settled
+  hand-laid {b′ = b′} {e = e} {moved = moved} {vs = vs} {r = r} wrote ends is-moved is-cells is-r =
+      let slot : d ≡ slotOf (x .settles .old) = x .out .slot-is in
+      let apart = loose-apart (x .settles) in
+      let says = settle-says cell apart (x .settles .chained) (loose-free (x .settles)) (x .settles .entered) (ap (λ (y : Slot). y .number) slot ∙ sym (x .settles .number)) wrote ends in
+      let edges : edgesOf d ≡ cell .edges = ap edgesOf slot ∙ sym (x .settles .edges) in
+      let number : d .number ≡ cell .number = ap (λ (y : Slot). y .number) slot ∙ sym (x .settles .number) in
+      let first : e .first ≡ firstOf noPage (settled (s .free) cell .chain) = ap (λ (y : Settled). y .first) (says .1) in
+      let last : moved ≡ slotOf (settled (s .free) cell) =
+      is-moved ∙ (λ t. record { number = number t; west = edges t .easts .low; east = edges t .easts .high; south = edges t .norths .low; north = edges t .norths .high; first = first t }) in
+      let n : frame .cells - 1 + 1 ≡ frame .cells = omega (arith, hand-some) in
+      let all : directoryIn (frame .cells) vs ≡ directoryOf (others ++ (settled (s .free) cell ∷ [])) =
+      ap (λ (k : ℕ). directoryIn k vs) (sym n) ∙ is-cells ∙ ap₂ (λ (l : List Slot) (y : Slot). directoryWith (l ++ (y ∷ []))) (ap slotsIn (x .out .rest-is) ∙ slots-of others) last
+      ∙ ap directoryWith (sym (map-append slotOf others (settled (s .free) cell ∷ []))) ∙ with-slots (others ++ (settled (s .free) cell ∷ [])) in
+      let easts : frame .easts ≡ cutListOf (s .cuts .easts) = ap (λ (g : Grid). g .easts) (x .settles .laid .grid-is) in
+      let norths : frame .norths ≡ cutListOf (s .cuts .norths) = ap (λ (g : Grid). g .norths) (x .settles .laid .grid-is) in
+      let front : e .free ≡ firstOf noPage (movedLast s others cell .free) = ap (λ (y : Settled). y .free) (says .1) in
+      record {
+        grid-is = ap (λ (y : Frame). gridIn y vs) is-r ∙ (λ t. record { easts = easts t; norths = norths t; cells = all t; free = front t });
+        laid = rw (says .0) (settled-laid cell apart (movedLast s others cell) others [] (append-nil others) refl refl);
+      }
+
+pub hand-settles : (chain : Chain) (table : Entries) {frame : Frame} {rest : List ℕ} {d : Slot} {b : List ℕ} → BeforeLast frame rest d (pagesOf chain) (rowsOf table) b → chain .n ≤ pages → table .n ≤ maxOn
+    → (length b ≡ bufferBytes) × (table .n ≤ maxOn) × (chain .n ≤ pages) × Each (λ p. p < pages) (pagesOf chain) × (endFrom pages b (frame .free) ≡ atNone)
+    × (pagesFor (length (rowsOf table)) ≤ length (pagesOf chain) + length (chainFrom pages b (frame .free)))
+hand-settles chain table x = loose-settles chain table (x .settles)

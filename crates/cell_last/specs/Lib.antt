@@ -1,2 +1,2 @@
-pub mod Grids
+pub mod Frames
 pub mod Settling

@@ -1,7 +1,7 @@
 -- A cell whose entries are at hand, and the middle of a flush, as the desk's parts and the pages have it (01, "Flush").
 use mathlib.Core.List.{List, [], _∷_, _++_}
 use mathlib.Core.Path.{_≡_}
-use Prim.Native.Nat.{ℕ, _+_, _≤_}
+use Prim.Native.Nat.{ℕ, _+_, _-_, _≤_}
 use lib.ListN.{length}
 use Rattle.terms.specs.Terms.{Fix, maxOn, pages}
 use Rattle.lists.specs.Rows.{Rows}
@@ -12,8 +12,10 @@ use Rattle.rules.specs.Store.{Line, Cell, Store, withCells, withFree, pagesFor,
 use Rattle.rules.specs.Flush.{Flushed}
 use Rattle.rules.specs.Midway.{MidFlush}
 use Rattle.rules.specs.WellFormed.{PagesOnce}
-use Rattle.desk.specs.declared.Grid.{Grid}
-use Rattle.desk.specs.declared.Memo.{Memo}
+use Rattle.desk.specs.declared.Frame.{Frame}
+use Rattle.desk.specs.declared.Slot.{Slot}
+use Rattle.desk.specs.Held.{Grid, Memo, directoryIn, gridIn}
+use Rattle.desk.specs.Layout.{slotOf, directoryOf}
 use Rattle.desk.specs.Laid.{LaidGrid, LaidMemo}
 
 -- ---- a cell whose entries are at hand
@@ -42,6 +44,19 @@ pub record BeforeSettle (grid : Grid) (at : ℕ) (chain : List ℕ) (rows : Rows
   pub chained : chain ≡ cell .chain
   pub entered : rows ≡ cell .entries
   pub laid : LaidGrid store grid bytes
+
+-- a cell's slot is taken out of the directory's array, which has the others of the round; the frame still counts it
+pub record SlotOut (frame : Frame) (rest : List ℕ) (d : Slot) (old : Cell) (others : List Cell) : Type 0 where
+  pub slot-is : d ≡ slotOf old
+  pub rest-is : directoryIn (frame .cells - 1) rest ≡ directoryOf others
+
+-- the same cell once its slot is taken out: it is to be settled and to go last
+pub record BeforeLast (frame : Frame) (rest : List ℕ) (d : Slot) (chain : List ℕ) (rows : Rows Fix) (bytes : List ℕ) : Type 0 where
+  -- the directory's array as it was, with d at this place of the round
+  pub words : List ℕ
+  pub at : ℕ
+  pub settles : BeforeSettle (gridIn frame words) at chain rows bytes
+  pub out : SlotOut frame rest d (settles .old) (settles .before ++ settles .after)
 
 -- the cell goes "to the end of the round", with the pages that it needs
 unfoldable pub movedLast : Store → List Cell → Cell → Store

@@ -3,18 +3,19 @@ ghost use mathlib.Core.Path.{_≡_};
 ghost use mathlib.Core.List.{_++_};
 ghost use Rattle.entries.specs.Entries.{rowsOf};
 ghost use Rattle.page.specs.Buffer.{pagesOf};
+ghost use Rattle.desk.specs.Held.{gridIn};
 ghost use Rattle.desk.specs.Laid.{LaidGrid};
-ghost use Rattle.cell_last.specs.Grids.{withDirectory};
-ghost use Rattle.cell_last.specs.Settling.{HandFits, BeforeSettle, movedLast};
-use desk::Directory;
-use desk::Grid;
+ghost use Rattle.cell_last.specs.Frames.{withCount};
+ghost use Rattle.cell_last.specs.Settling.{HandFits, BeforeSettle, BeforeLast, movedLast};
+use desk::Desk;
+use desk::Frame;
 use desk::Slot;
 use entries::Entries;
 use page::Chain;
 
-// The grid once d is settled, split or joined, and how many lines the memo then has.
+// The grid's frame once d is settled, split or joined, and how many lines the memo then has.
 pub struct Reshaped {
-    pub grid: Grid,
+    pub frame: Frame,
     pub lines: u16,
 }
 
@@ -27,27 +28,51 @@ fn begun_at(d: Slot, first: u16) -> Slot
     moved
 }
 
-// The grid with another directory and another front of the free chain.
-pub fn with_cells(grid: Grid, cells: Directory, free: u16) -> Grid
-    ensures { λ r. ⌜ r ≡ withDirectory cells free grid ⌝ }
+// The frame with another number of cells and another front of the free chain.
+pub fn with_cells(frame: Frame, n: u16, free: u16) -> Frame
+    ensures { λ r. ⌜ r ≡ withCount n free frame ⌝ }
 {
-    let mut g = grid;
-    g.cells = cells;
-    g.free = free;
-    g
+    let mut f = frame;
+    f.cells = n;
+    f.free = free;
+    f
+}
+
+// d, whose slot is taken out of the round, with these entries: on the pages that they need, and last. The frame still counts d.
+pub fn hand_last(
+    buffer: &mut [u8],
+    frame: Frame,
+    cells: &mut [u16; Desk::CELL_WORDS],
+    d: Slot,
+    chain: Chain,
+    table: Entries,
+) -> Frame
+    requires { ⌜ HandFits chain table × BeforeLast frame (now cells) d (pagesOf chain) (rowsOf table) (now buffer) ⌝ }
+    ensures { λ r. ⌜ ((x : BeforeLast frame (now (cells .entry)) d (pagesOf chain) (rowsOf table) (now (buffer .entry)))
+        → LaidGrid (movedLast (x .settles .store) (x .settles .before ++ x .settles .after) (x .settles .cell))
+        (gridIn r (now (cells .exit))) (now (buffer .exit))) ⌝ }
+{
+    let settled = settle::settle(buffer, chain, frame.free, d.number, table);
+    let moved = begun_at(d, settled.first);
+    let n = frame.cells;
+    directory::put_last(cells, n - 1, moved);
+    with_cells(frame, n, settled.free)
 }
 
 // The cell at place `at` with these entries: on the pages that they need, and last in the round.
-pub fn settled_last(buffer: &mut [u8], grid: Grid, at: usize, chain: Chain, table: Entries) -> Grid
-    requires { ⌜ HandFits chain table × BeforeSettle grid at (pagesOf chain) (rowsOf table) (now buffer) ⌝ }
-    ensures { λ r. ⌜ ((x : BeforeSettle grid at (pagesOf chain) (rowsOf table) (now (buffer .entry)))
-        → LaidGrid (movedLast (x .store) (x .before ++ x .after) (x .cell)) r (now (buffer .exit))) ⌝ }
+pub fn settled_last(
+    buffer: &mut [u8],
+    frame: Frame,
+    cells: &mut [u16; Desk::CELL_WORDS],
+    at: usize,
+    chain: Chain,
+    table: Entries,
+) -> Frame
+    requires { ⌜ HandFits chain table × BeforeSettle (gridIn frame (now cells)) at (pagesOf chain) (rowsOf table) (now buffer) ⌝ }
+    ensures { λ r. ⌜ ((x : BeforeSettle (gridIn frame (now (cells .entry))) at (pagesOf chain) (rowsOf table) (now (buffer .entry)))
+        → LaidGrid (movedLast (x .store) (x .before ++ x .after) (x .cell)) (gridIn r (now (cells .exit))) (now (buffer .exit))) ⌝ }
 {
-    let cells = grid.cells;
-    let d = cells.slots[at];
-    let settled = settle::settle(buffer, chain, grid.free, d.number, table);
-    let rest = directory::taken_out(cells, at);
-    let moved = begun_at(d, settled.first);
-    let last = directory::put_last(rest, moved);
-    with_cells(grid, last, settled.free)
+    let d = desk::slot_at(cells, at);
+    directory::take_out(cells, frame.cells, at);
+    hand_last(buffer, frame, cells, d, chain, table)
 }

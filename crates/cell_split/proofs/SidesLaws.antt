@@ -2,7 +2,7 @@
 use mathlib.Core.Bool.{Bool, not, cond}
 use mathlib.Core.List.{List, [], _∷_, _++_, map, map-append, append-assoc}
 use mathlib.Core.Path.{_≡_, refl, sym, ap, ap₂, subst, _∙_}
-use Prim.Native.Nat.{ℕ, _+_, _≤_, _<_}
+use Prim.Native.Nat.{ℕ, _+_, _*_, _≤_, _<_}
 use native.Mathlib.Omega.{arith}
 use lib.Dec.{eqb}
 use lib.ListN.{length, getD}
@@ -25,10 +25,10 @@ use Rattle.rules.proofs.TilingLaws.{GoodCut}
 use Rattle.rules.proofs.CutLaws.{chosen-good}
 use Rattle.desk.specs.declared.CutList.{CutList}
 use Rattle.desk.specs.declared.Slot.{Slot}
-use Rattle.desk.specs.declared.Directory.{Directory}
-use Rattle.desk.specs.declared.Grid.{Grid}
-use Rattle.desk.specs.Layout.{noSlot, cutListOf, slotOf, directoryOf, gridOf}
-use Rattle.desk.specs.Views.{slotsIn, directoryWith, axisOf}
+use Rattle.desk.specs.declared.Frame.{Frame}
+use Rattle.desk.specs.Held.{Grid, directoryIn, gridIn}
+use Rattle.desk.specs.Layout.{noSlot, slotFields, cutListOf, slotOf, directoryOf, gridOf}
+use Rattle.desk.specs.Views.{everySlot, slotsIn, directoryWith, axisOf}
 use Rattle.desk.proofs.UniqueLaws.{cuts-laid}
 use Rattle.cut.specs.Choice.{cutAt}
 use Rattle.desk.specs.Laid.{LaidGrid}
@@ -41,9 +41,9 @@ use Rattle.settle.specs.Settle.{written, settledLeaves, settledEnds}
 use Rattle.split.specs.Split.{lowSlot, highSlot}
 use Rattle.split.proofs.SplitLaws.{low-slot-settled, high-slot-settled}
 use Rattle.cell_split.specs.declared.Sides.{Sides}
-use Rattle.cell_split.specs.Splitting.{BeforeSplit, AfterSides, Cuttable, cutGrid}
-use Rattle.cell_last.specs.Grids.{withDirectory}
-use Rattle.cell_last.proofs.MovedLaws.{with-slots, rest-slots, loose-in, loose-in-slots, loose-slot}
+use Rattle.cell_split.specs.Splitting.{BeforeSplit, AfterSides, Cuttable, cutFrame}
+use Rattle.cell_last.specs.Frames.{withCount}
+use Rattle.cell_last.proofs.MovedLaws.{with-slots, rest-slots, loose-in, loose-reads, loose-slot}
 use Rattle.cell_last.proofs.MidwayLaws.{midway-loose, midway-slot}
 use Rattle.cell_split.proofs.SplitLaws.{low-asks, low-size, high-asks, sides-laid, sides-end}
 
@@ -60,16 +60,16 @@ module _ {grid : Grid} {at : ℕ} {chain : List ℕ} {rows : Rows Fix} {axis at-
   few : length (x .midway .before ++ (x .midway .d ∷ x .midway .after)) < maxCells
   few = subst (λ (l : List Cell). length l < maxCells) (x .midway .mid .cells) (x .few)
 
-  pub split-in-slots : at < maxCells
-  split-in-slots = loose-in-slots (midway-loose (x .midway))
+  pub split-reads : (at < maxCells) × (length (grid .cells .words) ≡ slotFields * maxCells)
+  split-reads = loose-reads (midway-loose (x .midway))
 
   pub number-is : {n : ℕ} → n ≡ unusedOf (slotsIn (grid .cells)) → n ≡ number
   unfolding gridOf
   number-is e = e ∙ unused-laid (f .store .cells) (ap (λ (g : Grid). g .cells) (x .midway .laid .in-grid .grid-is))
 
-  d-number : getD (grid .cells .slots) at noSlot .number ≡ x .midway .d .number
-  d-number =
-      ap (λ (s : Slot). s .number) (sym (slots-at (grid .cells) at (loose-in (midway-loose (x .midway)))) ∙ loose-slot (midway-loose (x .midway)))
+  d-number : {d : Slot} → d ≡ getD (everySlot (grid .cells .words)) at noSlot → d .number ≡ x .midway .d .number
+  d-number e =
+      ap (λ (s : Slot). s .number) (e ∙ sym (slots-at (grid .cells) at (loose-in (midway-loose (x .midway)))) ∙ loose-slot (midway-loose (x .midway)))
 
   -- the low side
   pub low-settles : (part : Rows Fix) → part ≡ filter (lowSide cut) rows
@@ -77,16 +77,16 @@ module _ {grid : Grid} {at : ℕ} {chain : List ℕ} {rows : Rows Fix} {axis at-
       × (pagesFor (length part) ≤ length chain + length (chainFrom pages b (grid .free)))
   low-settles part e = low-asks (x .midway) cut number few e
 
-  module _ (part : Rows Fix) (is-low : part ≡ filter (lowSide cut) rows) {b₁ : List ℕ} {e₁ : Settled}
-      (wrote : b₁ ≡ written b (settledLeaves (getD (grid .cells .slots) at noSlot .number) chain (chainFrom pages b (grid .free)) part))
+  module _ {d : Slot} (read : d ≡ getD (everySlot (grid .cells .words)) at noSlot) (part : Rows Fix) (is-low : part ≡ filter (lowSide cut) rows) {b₁ : List ℕ} {e₁ : Settled}
+      (wrote : b₁ ≡ written b (settledLeaves (d .number) chain (chainFrom pages b (grid .free)) part))
       (ends : e₁ ≡ settledEnds chain (chainFrom pages b (grid .free)) part) where
     -- the other side
     pub high-settles : (none : List ℕ) (part′ : Rows Fix) → none ≡ [] → part′ ≡ filter (λ e. not (lowSide cut e)) rows
         → Each (λ p. p < pages) none × (endFrom pages b₁ (e₁ .free) ≡ atNone) × (pagesFor (length part′) ≤ length none + length (chainFrom pages b₁ (e₁ .free)))
-    high-settles none part′ n e = high-asks (x .midway) cut number few is-low d-number wrote ends n e
+    high-settles none part′ n e = high-asks (x .midway) cut number few is-low (d-number read) wrote ends n e
 
     pub high-size : length b₁ ≡ bufferBytes
-    high-size = low-size (x .midway) cut number few is-low d-number wrote ends
+    high-size = low-size (x .midway) cut number few is-low (d-number read) wrote ends
 
     pub sides-return : (none : List ℕ) (part′ : Rows Fix) {n : ℕ} {b₂ : List ℕ} {e₂ : Settled} → n ≡ unusedOf (slotsIn (grid .cells)) → none ≡ [] → part′ ≡ filter (λ e. not (lowSide cut e)) rows
         → b₂ ≡ written b₁ (settledLeaves n none (chainFrom pages b₁ (e₁ .free)) part′) → e₂ ≡ settledEnds none (chainFrom pages b₁ (e₁ .free)) part′
@@ -94,13 +94,13 @@ module _ {grid : Grid} {at : ℕ} {chain : List ℕ} {rows : Rows Fix} {axis at-
     unfolding splitAt
     sides-return none part′ {b₂ = b₂} {e₂ = e₂} is-n is-none is-high wrote-high ends-high =
         let w : b₂ ≡ written b₁ (settledLeaves number none (chainFrom pages b₁ (e₁ .free)) part′) = wrote-high ∙ ap (λ (k : ℕ). written b₁ (settledLeaves k none (chainFrom pages b₁ (e₁ .free)) part′)) (number-is is-n) in
-        let q = sides-end (x .midway) cut number few is-low d-number wrote ends is-none is-high w ends-high in
+        let q = sides-end (x .midway) cut number few is-low (d-number read) wrote ends is-none is-high w ends-high in
         record {
           low = q .0;
           high = q .1;
           free = q .2;
           laid =
-              sides-laid (x .midway) cut number few is-low d-number wrote ends is-none is-high w ends-high (splitAt cut f)
+              sides-laid (x .midway) cut number few is-low (d-number read) wrote ends is-none is-high w ends-high (splitAt cut f)
               (ap (λ (l : List Cell). l ++ (settled (f .store .free) (lowCell cut (f .cell)) ∷ settled (freeAfter (f .store .free) (lowCell cut (f .cell))) (highCell cut number (f .cell)) ∷ [])) (x .midway .mid .rest))
               refl;
         }
@@ -117,8 +117,8 @@ module _ {grid : Grid} {at : ℕ} {chain : List ℕ} {rows : Rows Fix} {axis at-
   unfolding gridOf
   cells-held = ap (λ (g : Grid). g .cells) (x .midway .laid .in-grid .grid-is)
 
-  pub split-numbers : (grid .cells .n ≤ maxCells) × Numbered (slotsIn (grid .cells))
-  split-numbers = (directory-few (f .store .cells) cells-held (omega (arith, x .few)), directory-numbered (f .store .cells) cells-held tiling)
+  pub split-numbers : (grid .cells .n ≤ maxCells) × (length (grid .cells .words) ≡ slotFields * maxCells) × Numbered (slotsIn (grid .cells))
+  split-numbers = (directory-few (f .store .cells) cells-held (omega (arith, x .few)), split-reads .1, directory-numbered (f .store .cells) cells-held tiling)
 
   -- the cuts of a direction, laid out
   cuts-held : (a : ℕ) {l : CutList} → axis ≡ a → l ≡ cutListOf (cutsOf (axisOf a) (f .store .cuts)) → CutReady l at-cut
@@ -131,14 +131,14 @@ module _ {grid : Grid} {at : ℕ} {chain : List ℕ} {rows : Rows Fix} {axis at-
   split-asks =
       (directory-whole (f .store .cells) cells-held, loose-in (midway-loose (x .midway)), omega (arith, directory-count (f .store .cells) cells-held, x .few), above)
 
-  module _ {cells : Directory} {free : ℕ} {moved : Grid} (is-moved : moved ≡ withDirectory cells free grid) where
+  module _ {n free : ℕ} {frame moved : Frame} {ws : List ℕ} (lent : gridIn frame ws ≡ grid) (is-moved : moved ≡ withCount n free frame) where
     easts-held : moved .easts ≡ cutListOf (f .store .cuts .easts)
     unfolding gridOf
-    easts-held = ap (λ (g : Grid). g .easts) is-moved ∙ ap (λ (g : Grid). g .easts) (x .midway .laid .in-grid .grid-is)
+    easts-held = ap (λ (g : Frame). g .easts) is-moved ∙ ap (λ (g : Grid). g .easts) (lent ∙ x .midway .laid .in-grid .grid-is)
 
     norths-held : moved .norths ≡ cutListOf (f .store .cuts .norths)
     unfolding gridOf
-    norths-held = ap (λ (g : Grid). g .norths) is-moved ∙ ap (λ (g : Grid). g .norths) (x .midway .laid .in-grid .grid-is)
+    norths-held = ap (λ (g : Frame). g .norths) is-moved ∙ ap (λ (g : Grid). g .norths) (lent ∙ x .midway .laid .in-grid .grid-is)
 
     pub split-cuts : Cuttable moved axis at-cut
     unfolding axisOf
@@ -147,8 +147,8 @@ module _ {grid : Grid} {at : ℕ} {chain : List ℕ} {rows : Rows Fix} {axis at-
       north = λ e. cuts-held axis refl (norths-held ∙ ap (λ (t : Bool). cutListOf (cutsOf (cond t eastward northward) (f .store .cuts))) (sym (ne-eqb axis 0 e)));
     }
 
-    cut-by : (a : Axis) → cutGrid moved (record { axis = a; at = at-cut }) ≡ record { easts = cutListOf (withCutsOf a (addCut at-cut (cutsOf a (f .store .cuts))) (f .store .cuts) .easts); norths = cutListOf (withCutsOf a (addCut at-cut (cutsOf a (f .store .cuts))) (f .store .cuts) .norths); cells = moved .cells; free = moved .free }
-    unfolding cutGrid
+    cut-by : (a : Axis) → cutFrame moved (record { axis = a; at = at-cut }) ≡ record { easts = cutListOf (withCutsOf a (addCut at-cut (cutsOf a (f .store .cuts))) (f .store .cuts) .easts); norths = cutListOf (withCutsOf a (addCut at-cut (cutsOf a (f .store .cuts))) (f .store .cuts) .norths); cells = moved .cells; free = moved .free }
+    unfolding cutFrame
     cut-by eastward = ap₂ (λ (l m : CutList). record { easts = l; norths = m; cells = moved .cells; free = moved .free }) (ap (λ (l : List ℕ). cutListOf (addCut at-cut l)) (cuts-laid easts-held)) norths-held
     cut-by northward = ap₂ (λ (l m : CutList). record { easts = l; norths = m; cells = moved .cells; free = moved .free }) easts-held (ap (λ (l : List ℕ). cutListOf (addCut at-cut l)) (cuts-laid norths-held))
 
@@ -166,26 +166,21 @@ module _ {grid : Grid} {at : ℕ} {chain : List ℕ} {rows : Rows Fix} {axis at-
         ap₂ (λ (s : Slot) (p : ℕ × ℕ). highSlot cut s (p .0) (p .1)) (midway-slot (x .midway)) (ap₂ (λ (a b : ℕ). (a, b)) (number-is e) g)
         ∙ high-slot-settled cut (f .cell) number (freeAfter (f .store .free) (lowCell cut (f .cell)))
 
-    pub split-laid : {n : ℕ} (sides : Sides) {b′ : List ℕ} {r : Grid} → n ≡ unusedOf (slotsIn (grid .cells)) → AfterSides f cut sides b′
-        → cells ≡ directoryWith ((removeAt (slotsIn (grid .cells)) at ++ (lowSlot cut (getD (slotsIn (grid .cells)) at noSlot) (sides .low) ∷ [])) ++ (highSlot cut (getD (slotsIn (grid .cells)) at noSlot) n (sides .high) ∷ []))
-        → free ≡ sides .free → r ≡ cutGrid moved cut → LaidGrid (splitAt cut f) r b′
+    pub split-laid : {k : ℕ} (sides : Sides) {b′ : List ℕ} {r : Frame} {vs : List ℕ} → k ≡ unusedOf (slotsIn (grid .cells)) → AfterSides f cut sides b′
+        → directoryIn n vs ≡ directoryWith ((removeAt (slotsIn (grid .cells)) at ++ (lowSlot cut (getD (slotsIn (grid .cells)) at noSlot) (sides .low) ∷ [])) ++ (highSlot cut (getD (slotsIn (grid .cells)) at noSlot) k (sides .high) ∷ []))
+        → free ≡ sides .free → r ≡ cutFrame moved cut → LaidGrid (splitAt cut f) (gridIn r vs) b′
     unfolding gridOf splitAt
-    split-laid sides is-n laid is-cells is-free is-r =
+    split-laid sides {r = r} {vs = vs} is-n laid is-cells is-free is-r =
         let rest : List Cell = x .midway .before ++ x .midway .after in
-        let slots : cells ≡ directoryWith ((map slotOf rest ++ (slotOf low ∷ [])) ++ (slotOf high ∷ [])) =
+        let slots : directoryIn n vs ≡ directoryWith ((map slotOf rest ++ (slotOf low ∷ [])) ++ (slotOf high ∷ [])) =
         is-cells ∙ ap₂ (λ (l : List Slot) (p : Slot × Slot). directoryWith ((l ++ (p .0 ∷ [])) ++ (p .1 ∷ []))) (rest-slots (midway-loose (x .midway))) (ap₂ (λ (s t : Slot). (s, t)) (low-slot (laid .low)) (high-slot is-n (laid .high))) in
-        let all : cells ≡ directoryOf (rest ++ (low ∷ high ∷ [])) =
+        let all : directoryIn n vs ≡ directoryOf (rest ++ (low ∷ high ∷ [])) =
         slots ∙ ap directoryWith (append-assoc (map slotOf rest) (slotOf low ∷ []) (slotOf high ∷ []) ∙ sym (map-append slotOf rest (low ∷ high ∷ []))) ∙ with-slots (rest ++ (low ∷ high ∷ [])) in
-        record {
-          grid-is =
-              is-r ∙ cut-by (axisOf axis)
-              ∙ ap₂ (λ (d : Directory) (k : ℕ). record {
-                easts = cutListOf (withCutsOf (axisOf axis) (addCut at-cut (cutsOf (axisOf axis) (f .store .cuts))) (f .store .cuts) .easts);
-                norths = cutListOf (withCutsOf (axisOf axis) (addCut at-cut (cutsOf (axisOf axis) (f .store .cuts))) (f .store .cuts) .norths);
-                cells = d;
-                free = k;
-              })
-              (ap (λ (g : Grid). g .cells) is-moved ∙ all ∙ ap (λ (l : List Cell). directoryOf (l ++ (low ∷ high ∷ []))) (sym (x .midway .mid .rest)))
-              (ap (λ (g : Grid). g .free) is-moved ∙ is-free ∙ laid .free);
-          laid = laid .laid;
-        }
+        let cuts = cut-by (axisOf axis) in
+        let count : r .cells ≡ n = ap (λ (g : Frame). g .cells) (is-r ∙ cuts) ∙ ap (λ (g : Frame). g .cells) is-moved in
+        let front : r .free ≡ firstOf noPage (splitAt cut f .free) = ap (λ (g : Frame). g .free) (is-r ∙ cuts) ∙ ap (λ (g : Frame). g .free) is-moved ∙ is-free ∙ laid .free in
+        let easts = ap (λ (g : Frame). g .easts) (is-r ∙ cuts) in
+        let norths = ap (λ (g : Frame). g .norths) (is-r ∙ cuts) in
+        let held : directoryIn (r .cells) vs ≡ directoryOf (splitAt cut f .cells) =
+        ap (λ (m : ℕ). directoryIn m vs) count ∙ all ∙ ap (λ (l : List Cell). directoryOf (l ++ (low ∷ high ∷ []))) (sym (x .midway .mid .rest)) in
+        record { grid-is = λ t. record { easts = easts t; norths = norths t; cells = held t; free = front t }; laid = laid .laid }

@@ -14,8 +14,7 @@ use Rattle.rules.specs.Limits.{maxCells}
 use Rattle.rules.specs.Store.{Cell, Store, pagesFor, settled, freeAfter}
 use Rattle.rules.specs.Cut.{Cut, lowSide}
 use Rattle.rules.specs.Flush.{Flushed, lowCell, highCell}
-use Rattle.desk.specs.declared.Grid.{Grid}
-use Rattle.desk.specs.declared.Memo.{Memo}
+use Rattle.desk.specs.Held.{Grid, Memo}
 use Rattle.desk.specs.Layout.{Laid}
 use Rattle.settle.specs.declared.Settled.{Settled}
 use Rattle.settle.specs.Settle.{written, settledLeaves, settledEnds}

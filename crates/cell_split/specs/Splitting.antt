@@ -13,13 +13,13 @@ use Rattle.rules.specs.Grid.{Axis, eastward, northward}
 use Rattle.rules.specs.Store.{settled, freeAfter}
 use Rattle.rules.specs.Cut.{Cut, chosenCut}
 use Rattle.rules.specs.Flush.{Flushed, addCut, unusedNumber, lowCell, highCell, splitAt}
-use Rattle.desk.specs.declared.Grid.{Grid}
-use Rattle.desk.specs.declared.Memo.{Memo}
+use Rattle.desk.specs.declared.Frame.{Frame}
+use Rattle.desk.specs.Held.{Grid, Memo}
 use Rattle.desk.specs.Layout.{cutListOf, Laid}
 use Rattle.desk.specs.Views.{cutsIn}
 use Rattle.cut.specs.Choice.{cutAt}
 use Rattle.directory.specs.Cuts.{CutReady}
-use Rattle.cell_last.specs.Grids.{withEasts, withNorths}
+use Rattle.cell_last.specs.Frames.{withEasts, withNorths}
 use Rattle.cell_last.specs.Settling.{BeforeReshape}
 use Rattle.cell_split.specs.declared.Sides.{Sides}
 
@@ -28,13 +28,13 @@ isEast eastward = true
 isEast northward = false
 
 -- the cut may be made in its direction
-pub record Cuttable (grid : Grid) (axis cut : ℕ) : Type 0 where
-  pub east : axis ≡ 0 → CutReady (grid .easts) cut
-  pub north : (axis ≡ 0 → ⊥) → CutReady (grid .norths) cut
+pub record Cuttable (frame : Frame) (axis cut : ℕ) : Type 0 where
+  pub east : axis ≡ 0 → CutReady (frame .easts) cut
+  pub north : (axis ≡ 0 → ⊥) → CutReady (frame .norths) cut
 
--- the grid with the cut among those of its direction
-unfoldable pub cutGrid : Grid → Cut → Grid
-cutGrid g c =
+-- the frame with the cut among those of its direction
+unfoldable pub cutFrame : Frame → Cut → Frame
+cutFrame g c =
     withEasts (cond (isEast (c .axis)) (cutListOf (addCut (c .at) (cutsIn (g .easts)))) (g .easts))
     (withNorths (cond (isEast (c .axis)) (g .norths) (cutListOf (addCut (c .at) (cutsIn (g .norths))))) g)
 

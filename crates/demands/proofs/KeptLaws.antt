@@ -1,5 +1,6 @@
 -- A desk and bytes laid out as a well-formed store says keep what Demand 3 asks of them, where the plain rule stands as the store does.
 use mathlib.Core.Bool.{Bool, true, not}
+use Rattle.desk.specs.Views.{everyReport}
 use mathlib.Core.List.{List, [], _∷_, _++_, map}
 use mathlib.Core.Option.{Option, none, some}
 use mathlib.Core.Path.{_≡_, refl, sym, ap, ap₂, _∙_}
@@ -91,15 +92,15 @@ unfolding waitingPlace find
 waiting-found [] r = refl
 waiting-found (x ∷ xs) r = by-cases (eqb r (x .key)) (λ t. rw t) (λ t. rw t (waiting-found xs r))
 
-pub waiting-place : (s : Store) (r : ℕ) → waitingPlace (take (deskOf s .waiting .n) (deskOf s .waiting .rows)) r ≡ placeOf (find (s .waiting) r)
+pub waiting-place : (s : Store) (r : ℕ) → waitingPlace (take (deskOf s .parts .waiting) (everyReport (deskOf s .waiting))) r ≡ placeOf (find (s .waiting) r)
 unfolding deskOf
 waiting-place s r = ap (λ l. waitingPlace l r) (take-waiting (s .waiting)) ∙ waiting-found (s .waiting) r
 
-pub waiting-number : (s : Store) → deskOf s .waiting .n ≡ length (s .waiting)
+pub waiting-number : (s : Store) → deskOf s .parts .waiting ≡ length (s .waiting)
 unfolding deskOf waitingOf
 waiting-number s = refl
 
-pub exactly-waiting : (s : Store) (x : Plain) → WellFormed s → Link s x → deskOf s .waiting .n ≡ sumTo (suc maxRadio) (λ r. one-if (x .waits r))
+pub exactly-waiting : (s : Store) (x : Plain) → WellFormed s → Link s x → deskOf s .parts .waiting ≡ sumTo (suc maxRadio) (λ r. one-if (x .waits r))
 exactly-waiting s x w k = waiting-number s ∙ length-waiting s x k (well-core s w .waits)
 
 -- ---- the chains
@@ -204,7 +205,7 @@ pub stale-missed : (s : Store) (x : Plain) (b : List ℕ) → WellFormed s → L
 stale-missed s x b w l k r = stale-cells s x b w l r ∙ stale-flushed s x w k r
 
 -- 16 × 63 + 15 + 127 = 1,150: the inequality at the front of the round, with the tally at its greatest
-stale-bounded : (s : Store) (x : Plain) (b : List ℕ) → WellFormed s → Laid s b → Link s x → sumTo (suc maxRadio) (staleEntries x b) + deskOf s .waiting .n ≤ staleBound
+stale-bounded : (s : Store) (x : Plain) (b : List ℕ) → WellFormed s → Laid s b → Link s x → sumTo (suc maxRadio) (staleEntries x b) + deskOf s .parts .waiting ≤ staleBound
 stale-bounded s x b w l k =
     omega (
       arith,

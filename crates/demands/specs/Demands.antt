@@ -20,7 +20,7 @@ use Rattle.rules.specs.Told.{told}
 use Rattle.desk.specs.declared.Desk.{Desk}
 use Rattle.desk.specs.declared.Line.{Line}
 use Rattle.desk.specs.declared.Report.{Report}
-use Rattle.desk.specs.Views.{linesIn}
+use Rattle.desk.specs.Views.{everyReport, everySlot, linesIn}
 use Rattle.desk.specs.Call.{After}
 use Rattle.demands.specs.Trace.{Trace, EveryState, EveryCall}
 
@@ -46,7 +46,7 @@ chainAt b p = walk noPage (λ q. next (pageAt b q)) (suc pages) p
 
 unfoldable pub allChains : Desk → List ℕ → List ℕ
 allChains d b =
-    concat (map (λ c. chainAt b (c .first)) (take (d .grid .cells .n) (d .grid .cells .slots))) ++ chainAt b (d .grid .free)
+    concat (map (λ c. chainAt b (c .first)) (take (d .parts .frame .cells) (everySlot (d .cells)))) ++ chainAt b (d .parts .frame .free)
 
 -- "a stored entry is stale unless its place is the last place flushed for its radio, by the plain rule .., and the radio has not signed off since"
 unfoldable pub staleEntry : Plain → ℕ → Row Fix → Bool
@@ -62,11 +62,11 @@ missedIn [] r = 0
 missedIn (l ∷ ls) r = cond (eqb r (l .radio)) (l .missed) (missedIn ls r)
 
 unfoldable pub missedCount : Desk → ℕ → ℕ
-missedCount d r = missedIn (take (d .memo .n) (linesIn (d .memo .words))) r
+missedCount d r = missedIn (take (d .parts .lines) (linesIn (d .memo))) r
 
 -- how many memo lines a radio has
 unfoldable pub memoLines : Desk → ℕ → ℕ
-memoLines d r = sumBy (λ l. one-if (eqb r (l .radio))) (take (d .memo .n) (linesIn (d .memo .words)))
+memoLines d r = sumBy (λ l. one-if (eqb r (l .radio))) (take (d .parts .lines) (linesIn (d .memo)))
 
 -- "A radio number is 1 to 4,095."
 unfoldable pub isRadio : ℕ → Bool
@@ -91,13 +91,13 @@ pub record Kept (d : Desk) (b : List ℕ) (x : Plain) : Type 0 where
   -- a radio has one memo line at most, and what is no radio has none: each line is the one that the missed count is read from
   pub one-line : (r : ℕ) → memoLines d r ≤ one-if (isRadio r)
   -- "stale and waiting together are at most 1,150"
-  pub bounded : sumTo (suc maxRadio) (staleEntries x b) + d .waiting .n ≤ staleBound
+  pub bounded : sumTo (suc maxRadio) (staleEntries x b) + d .parts .waiting ≤ staleBound
   -- "each of the 128 pages stands once in one chain"
   pub once : (p : ℕ) → count p (allChains d b) ≡ one-if (ltb p pages)
   -- "the reports waiting in the desk are exactly its waiting radios with their latest places"
-  pub waiting : (r : ℕ) → waitingPlace (take (d .waiting .n) (d .waiting .rows)) r ≡ placeIf (x .waits r) (x .latest r)
+  pub waiting : (r : ℕ) → waitingPlace (take (d .parts .waiting) (everyReport (d .waiting))) r ≡ placeIf (x .waits r) (x .latest r)
   -- "exactly": as many reports as there are radios that wait, so none of a radio twice
-  pub exactly : d .waiting .n ≡ sumTo (suc maxRadio) (λ r. one-if (x .waits r))
+  pub exactly : d .parts .waiting ≡ sumTo (suc maxRadio) (λ r. one-if (x .waits r))
 
 -- what holds of each call
 pub record NotRefused (x : Plain) (bytes buffer : List ℕ) (y : After) : Type 0 where

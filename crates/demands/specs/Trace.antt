@@ -17,7 +17,10 @@ freshDesk = deskOf fresh
 
 -- the cuts that a call finds in the desk
 unfoldable pub deskCuts : Desk → Cuts
-deskCuts d = record { easts = take (d .grid .easts .n) (d .grid .easts .at); norths = take (d .grid .norths .n) (d .grid .norths .at) }
+deskCuts d = record {
+  easts = take (d .parts .frame .easts .n) (d .parts .frame .easts .at);
+  norths = take (d .parts .frame .norths .n) (d .parts .frame .norths .at);
+}
 
 -- a list of calls: the desk and the pages that it leaves, and where the plain rule stands
 pub data Trace : Desk → List ℕ → Plain → Type 0 where

@@ -5,9 +5,9 @@ use mathlib.Core.List.{List, [], _∷_}
 use Prim.Native.Nat.{ℕ, zero, suc, _+_, _-_, _*_, _<_}
 use native.Mathlib.Omega.{arith}
 use lib.Dec.{eqb}
-use lib.ListN.{length, drop}
+use lib.ListN.{length, drop, set, replicate}
 use borrow.Author.Tests.{eq-eqb, ne-eqb}
-use Rattle.terms.specs.Terms.{pages, noPage, noCell}
+use Rattle.terms.specs.Terms.{pages, noPage, noCell, maxOn}
 use Rattle.lists.specs.Chains.{firstOf}
 use Rattle.lists.specs.Parts.{part, tab}
 use Rattle.lists.specs.Rows.{find}
@@ -20,11 +20,15 @@ use Rattle.page.specs.Page.{pageBytes, kindFree, kindFirst, pageOf, freePageOf}
 use Rattle.page.specs.Buffer.{pageAt}
 use Rattle.page.proofs.PageLaws.{length-pageOf}
 use Rattle.rules.specs.Grid.{square}
+use Rattle.rules.specs.Limits.{maxCells, maxCuts, fullMemory}
 use Rattle.rules.specs.Store.{Cell, fresh, pagesFor}
 use Rattle.rules.specs.Carry.{isOn, waitingIn}
 use Rattle.rules.specs.WellFormed.{liveOf, staleIn, chains, GoodCell, WellFormed, PagesOnce}
-use Rattle.desk.specs.Layout.{deskOf, leaves, cellLeaves, cellsLeaves, freeLeaves, storeLeaves, At, Laid, pagesOf, freshPages}
+use Rattle.desk.specs.Layout.{deskOf, gridOf, cutListOf, slotOf, slotFields, slotted, directoryOf, reportFields, reportWords, waitingOf, lineFields, lineSlots, memoOf, onOf, leaves, cellLeaves, cellsLeaves, freeLeaves, storeLeaves, At, Laid, pagesOf, freshPages}
 use Rattle.desk.specs.Sound.{Sound}
+use Rattle.desk.specs.Views.{everySlot}
+use Rattle.desk.specs.declared.Desk.{Desk}
+use Rattle.desk.proofs.SlotsLaws.{slot-alone}
 use Rattle.desk.proofs.PagesLaws.{pages-laid}
 use Rattle.rules.proofs.TilingLaws.{tiling-fresh}
 
@@ -120,3 +124,26 @@ fresh-well = record {
 
 pub fresh-sound : Sound (deskOf fresh) freshPages
 fresh-sound = record { store = fresh; well = fresh-well; held = refl; laid = fresh-laid }
+
+-- ---- its desk
+
+-- what `Desk::fresh` makes, cell 0 being written in a blank array
+abbrev freshWith : List ℕ → Desk
+freshWith cells = record {
+  parts = record {
+    frame = record { easts = record { n = 0; at = replicate maxCuts 0 }; norths = record { n = 0; at = replicate maxCuts 0 }; cells = 1; free = 1 };
+    waiting = 0;
+    lines = 0;
+    on = 0;
+    tally = 0;
+  };
+  cells = cells;
+  waiting = replicate (reportFields * fullMemory) 0;
+  memo = replicate (lineFields * lineSlots) 0;
+  on = replicate maxOn 0;
+}
+
+pub fresh-desk : (cells : List ℕ) → everySlot cells ≡ set (everySlot (replicate (slotFields * maxCells) 0)) 0 (slotOf freshCell) → length cells ≡ slotFields * maxCells
+    → freshWith cells ≡ deskOf fresh
+unfolding fresh deskOf gridOf cutListOf directoryOf waitingOf memoOf onOf slotted tab concat reportWords
+fresh-desk cells e l = ap freshWith (slot-alone cells (slotOf freshCell) e l)

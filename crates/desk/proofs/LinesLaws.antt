@@ -72,7 +72,7 @@ set-line (r ∷ m ∷ p ∷ e ∷ n ∷ rest) (suc i) x h =
 
 -- ---- the array from its lines
 
-words-lines : (k : ℕ) (ws : List ℕ) → length ws ≡ lineFields * k → concat (map fieldsOf (linesIn ws)) ≡ ws
+pub words-lines : (k : ℕ) (ws : List ℕ) → length ws ≡ lineFields * k → concat (map fieldsOf (linesIn ws)) ≡ ws
 unfolding linesIn concat
 words-lines k [] h = refl
 words-lines zero (r ∷ ws) h = absurd (omega arith)

@@ -20,9 +20,11 @@ use Rattle.rules.specs.WellFormed.{WellFormed, PagesOnce}
 use Rattle.desk.specs.declared.CutList.{CutList}
 use Rattle.desk.specs.declared.Desk.{Desk}
 use Rattle.desk.specs.Layout.{slotted, cutListOf, slotOf, directoryOf, gridOf, reportOf, waitingOf, lineWith, lineOf, memoOf, onOf, deskOf, Laid}
-use Rattle.desk.specs.Views.{cutsIn, linesIn}
+use Rattle.desk.specs.Views.{cutsIn, everySlot, everyReport, linesIn}
 use Rattle.desk.specs.Sound.{Sound}
 use Rattle.desk.proofs.LinesLaws.{lines-laid}
+use Rattle.desk.proofs.SlotsLaws.{slots-of-words}
+use Rattle.desk.proofs.ReportsLaws.{reports-of-words}
 use Rattle.desk.proofs.ReadLaws.{CellRead, cells-read, free-read, Paged, pages-enough}
 
 -- ---- the desk's lists, by their counts
@@ -40,13 +42,13 @@ pub cuts-laid : {c : CutList} {l : List ℕ} → c ≡ cutListOf l → cutsIn c 
 unfolding cutsIn
 cuts-laid {c} {l} e = ap (λ (x : CutList). take (x .n) (x .at)) e ∙ take-cuts l
 
-pub take-slots : (l : List Cell) → take (directoryOf l .n) (directoryOf l .slots) ≡ map slotOf l
+pub take-slots : (l : List Cell) → take (directoryOf l .n) (everySlot (directoryOf l .words)) ≡ map slotOf l
 unfolding directoryOf
-take-slots l = rw (← length-map l slotOf) (take-slotted _ _ (map slotOf l))
+take-slots l = rw (slots-of-words, ← length-map l slotOf) (take-slotted _ _ (map slotOf l))
 
-pub take-waiting : (l : Rows StoreReport) → take (waitingOf l .n) (waitingOf l .rows) ≡ map reportOf l
+pub take-waiting : (l : Rows StoreReport) → take (waitingOf l .n) (everyReport (waitingOf l .words)) ≡ map reportOf l
 unfolding waitingOf
-take-waiting l = rw (← length-map l reportOf) (take-slotted _ _ (map reportOf l))
+take-waiting l = rw (reports-of-words, ← length-map l reportOf) (take-slotted _ _ (map reportOf l))
 
 pub take-memo : (l : Rows StoreLine) → take (memoOf l .n) (linesIn (memoOf l .words)) ≡ map lineOf l
 take-memo l = rw lines-laid (unfold memoOf in rw (← length-map l lineOf) (take-slotted _ _ (map lineOf l)))
@@ -88,34 +90,34 @@ module _ (s t : Store) (e : deskOf s ≡ deskOf t) where
   pub same-cuts : s .cuts ≡ t .cuts
   unfolding deskOf gridOf
   same-cuts =
-      let a = sym (take-cuts (s .cuts .easts)) ∙ ap (λ d. take (d .grid .easts .n) (d .grid .easts .at)) e ∙ take-cuts (t .cuts .easts) in
-      let o = sym (take-cuts (s .cuts .norths)) ∙ ap (λ d. take (d .grid .norths .n) (d .grid .norths .at)) e ∙ take-cuts (t .cuts .norths) in
+      let a = sym (take-cuts (s .cuts .easts)) ∙ ap (λ d. take (d .parts .frame .easts .n) (d .parts .frame .easts .at)) e ∙ take-cuts (t .cuts .easts) in
+      let o = sym (take-cuts (s .cuts .norths)) ∙ ap (λ d. take (d .parts .frame .norths .n) (d .parts .frame .norths .at)) e ∙ take-cuts (t .cuts .norths) in
       λ i. record { easts = a i; norths = o i }
 
   pub same-slots : map slotOf (s .cells) ≡ map slotOf (t .cells)
   unfolding deskOf gridOf
-  same-slots = sym (take-slots (s .cells)) ∙ ap (λ d. take (d .grid .cells .n) (d .grid .cells .slots)) e ∙ take-slots (t .cells)
+  same-slots = sym (take-slots (s .cells)) ∙ ap (λ d. take (d .parts .frame .cells) (everySlot (d .cells))) e ∙ take-slots (t .cells)
 
   pub same-front : firstOf noPage (s .free) ≡ firstOf noPage (t .free)
   unfolding deskOf gridOf
-  same-front = ap (λ d. d .grid .free) e
+  same-front = ap (λ d. d .parts .frame .free) e
 
   pub same-waiting : s .waiting ≡ t .waiting
   unfolding deskOf
   same-waiting =
-      map-injective reportOf report-injective (s .waiting) (t .waiting) (sym (take-waiting (s .waiting)) ∙ ap (λ d. take (d .waiting .n) (d .waiting .rows)) e ∙ take-waiting (t .waiting))
+      map-injective reportOf report-injective (s .waiting) (t .waiting) (sym (take-waiting (s .waiting)) ∙ ap (λ d. take (d .parts .waiting) (everyReport (d .waiting))) e ∙ take-waiting (t .waiting))
 
   pub same-memo : s .memo ≡ t .memo
   unfolding deskOf
-  same-memo = map-injective lineOf line-injective (s .memo) (t .memo) (sym (take-memo (s .memo)) ∙ ap (λ d. take (d .memo .n) (linesIn (d .memo .words))) e ∙ take-memo (t .memo))
+  same-memo = map-injective lineOf line-injective (s .memo) (t .memo) (sym (take-memo (s .memo)) ∙ ap (λ d. take (d .parts .lines) (linesIn (d .memo))) e ∙ take-memo (t .memo))
 
   pub same-on : s .on ≡ t .on
   unfolding deskOf
-  same-on = map-injective (λ x. x .key) radio-injective (s .on) (t .on) (sym (take-on (s .on)) ∙ ap (λ d. take (d .on .n) (d .on .radios)) e ∙ take-on (t .on))
+  same-on = map-injective (λ x. x .key) radio-injective (s .on) (t .on) (sym (take-on (s .on)) ∙ ap (λ d. take (d .parts .on) (d .on)) e ∙ take-on (t .on))
 
   pub same-tally : s .tally ≡ t .tally
   unfolding deskOf
-  same-tally = ap (λ d. d .tally) e
+  same-tally = ap (λ d. d .parts .tally) e
 
 -- ---- cells, with the bytes
 

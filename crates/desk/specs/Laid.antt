@@ -4,10 +4,8 @@ use mathlib.Core.List.{List}
 use mathlib.Core.Path.{_≡_}
 use Prim.Native.Nat.{ℕ}
 use Rattle.rules.specs.Store.{Store}
-use Rattle.desk.specs.declared.Grid.{Grid}
-use Rattle.desk.specs.declared.Waiting.{Waiting}
-use Rattle.desk.specs.declared.Memo.{Memo}
 use Rattle.desk.specs.declared.Desk.{Desk}
+use Rattle.desk.specs.Held.{Grid, Waiting, Memo, deskGrid, deskWaiting, deskMemo, deskOn}
 use Rattle.desk.specs.Layout.{gridOf, waitingOf, memoOf, onOf, Laid}
 
 -- cuts, directory and free chain
@@ -27,6 +25,6 @@ pub record LaidWaiting (s : Store) (grid : Grid) (waiting : Waiting) (memo : Mem
 
 -- the whole desk: who is on, and the tally
 pub record LaidDesk (s : Store) (desk : Desk) (bytes : List ℕ) : Type 0 where
-  pub in-waiting : LaidWaiting s (desk .grid) (desk .waiting) (desk .memo) bytes
-  pub on-is : desk .on ≡ onOf (s .on)
-  pub tally-is : desk .tally ≡ s .tally
+  pub in-waiting : LaidWaiting s (deskGrid desk) (deskWaiting desk) (deskMemo desk) bytes
+  pub on-is : deskOn desk ≡ onOf (s .on)
+  pub tally-is : desk .parts .tally ≡ s .tally

@@ -18,14 +18,10 @@ use Rattle.rules.specs.Limits.{maxCells, maxCuts, fullMemory}
 use Rattle.rules.specs.Store.{Store, Cell, Report as StoreReport, Line as StoreLine}
 use Rattle.desk.specs.declared.CutList.{CutList}
 use Rattle.desk.specs.declared.Slot.{Slot}
-use Rattle.desk.specs.declared.Directory.{Directory}
-use Rattle.desk.specs.declared.Grid.{Grid}
 use Rattle.desk.specs.declared.Report.{Report}
-use Rattle.desk.specs.declared.Waiting.{Waiting}
 use Rattle.desk.specs.declared.Line.{Line}
-use Rattle.desk.specs.declared.Memo.{Memo}
-use Rattle.desk.specs.declared.On.{On}
 use Rattle.desk.specs.declared.Desk.{Desk}
+use Rattle.desk.specs.Held.{Directory, Grid, Waiting, Memo, On}
 
 -- ---- the desk
 
@@ -53,8 +49,19 @@ slotOf c = record {
 abbrev pub noSlot : Slot
 noSlot = record { number = 0; west = 0; east = 0; south = 0; north = 0; first = 0 }
 
+abbrev pub slotFields : ℕ
+slotFields = 6
+
+-- a cell's fields, as the directory's array has them one after the other
+abbrev pub slotFieldsOf : Slot → List ℕ
+slotFieldsOf s = s .number ∷ s .west ∷ s .east ∷ s .south ∷ s .north ∷ s .first ∷ []
+
+-- an array's numbers, from what its slots hold
+unfoldable pub slotWords : List Slot → List ℕ
+slotWords l = concat (map slotFieldsOf l)
+
 unfoldable pub directoryOf : List Cell → Directory
-directoryOf cells = record { n = length cells; slots = slotted maxCells noSlot (map slotOf cells) }
+directoryOf cells = record { n = length cells; words = slotWords (slotted maxCells noSlot (map slotOf cells)) }
 
 unfoldable pub gridOf : Store → Grid
 gridOf s = record {
@@ -70,8 +77,15 @@ reportOf w = record { radio = w .key; east = w .val .place .east; north = w .val
 abbrev pub noReport : Report
 noReport = record { radio = 0; east = 0; north = 0; new = 0 }
 
+abbrev pub reportFields : ℕ
+reportFields = 4
+
+-- an array's numbers, from what its slots hold: all radios, then all easts, all norths and all marks
+unfoldable pub reportWords : List Report → List ℕ
+reportWords l = map (λ w. w .radio) l ++ (map (λ w. w .east) l ++ (map (λ w. w .north) l ++ map (λ w. w .new) l))
+
 unfoldable pub waitingOf : Rows StoreReport → Waiting
-waitingOf l = record { n = length l; rows = slotted fullMemory noReport (map reportOf l) }
+waitingOf l = record { n = length l; words = reportWords (slotted fullMemory noReport (map reportOf l)) }
 
 -- a line with a place, and one with none
 abbrev pub lineWith : ℕ → ℕ → Option Place → Line
@@ -97,9 +111,25 @@ memoOf l = record { n = length l; words = slotted (lineFields * lineSlots) 0 (co
 unfoldable pub onOf : Rows (Unit {0}) → On
 onOf l = record { n = length l; radios = slotted maxOn 0 (map (λ x. x .key) l) }
 
+-- the desk that holds these
+abbrev pub deskHolding : Grid → Waiting → Memo → On → ℕ → Desk
+deskHolding grid waiting memo on tally = record {
+  parts = record {
+    frame = record { easts = grid .easts; norths = grid .norths; cells = grid .cells .n; free = grid .free };
+    waiting = waiting .n;
+    lines = memo .n;
+    on = on .n;
+    tally = tally;
+  };
+  cells = grid .cells .words;
+  waiting = waiting .words;
+  memo = memo .words;
+  on = on .radios;
+}
+
 -- "The desk has cuts, directory, the front of the free chain, waiting reports, memo, who is signed on, the round, and the tally c."
 unfoldable pub deskOf : Store → Desk
-deskOf s = record { grid = gridOf s; waiting = waitingOf (s .waiting); memo = memoOf (s .memo); on = onOf (s .on); tally = s .tally }
+deskOf s = deskHolding (gridOf s) (waitingOf (s .waiting)) (memoOf (s .memo)) (onOf (s .on)) (s .tally)
 
 -- ---- the pages
 

@@ -1,4 +1,5 @@
 pub mod Call
+pub mod Held
 pub mod Laid
 pub mod Layout
 pub mod Sound

@@ -1,21 +1,20 @@
 -- The parts of a desk in any condition, each as far as its count says: what a store would have there.
 use mathlib.Core.Bool.{cond}
 use mathlib.Core.List.{List, [], _∷_, map}
-use Prim.Native.Nat.{ℕ, _+_, _*_}
+use Prim.Native.Nat.{ℕ, _+_, _*_, _/_}
 use lib.Dec.{eqb}
 use lib.ListN.{length, getD, take}
+use Rattle.lists.specs.Parts.{tab}
 use Rattle.lists.specs.Rows.{Row, Rows}
 use Rattle.rules.specs.Limits.{maxCells}
 use Rattle.rules.specs.Grid.{Axis, eastward, northward, Rect, Cuts}
 use Rattle.desk.specs.declared.CutList.{CutList}
 use Rattle.desk.specs.declared.Slot.{Slot}
-use Rattle.desk.specs.declared.Directory.{Directory}
+use Rattle.desk.specs.declared.Report.{Report}
 use Rattle.desk.specs.declared.Line.{Line}
-use Rattle.desk.specs.declared.On.{On}
-use Rattle.desk.specs.declared.Desk.{Desk}
-use Rattle.desk.specs.declared.Parts.{Parts}
 use Rattle.desk.specs.declared.Rectangle.{Rectangle}
-use Rattle.desk.specs.Layout.{slotted, noSlot, lineFields}
+use Rattle.desk.specs.Held.{Directory, On}
+use Rattle.desk.specs.Layout.{slotted, noSlot, slotFields, slotWords, reportFields, lineFields}
 
 -- the cuts of one direction, and of both
 unfoldable pub cutsIn : CutList → List ℕ
@@ -24,12 +23,27 @@ cutsIn c = take (c .n) (c .at)
 abbrev pub cutsBy : CutList → CutList → Cuts
 cutsBy easts norths = record { easts = cutsIn easts; norths = cutsIn norths }
 
--- the directory's slots, in the order of the round, and the directory that has these
+-- the cell at its place in the directory's array
+abbrev pub slotIn : List ℕ → ℕ → Slot
+slotIn ws i = record {
+  number = getD ws (slotFields * i) 0;
+  west = getD ws (slotFields * i + 1) 0;
+  east = getD ws (slotFields * i + 2) 0;
+  south = getD ws (slotFields * i + 3) 0;
+  north = getD ws (slotFields * i + 4) 0;
+  first = getD ws (slotFields * i + 5) 0;
+}
+
+-- all slots whose fields the array has one after the other, in use or not
+unfoldable pub everySlot : List ℕ → List Slot
+everySlot ws = tab (length ws / slotFields) (slotIn ws)
+
+-- the directory's slots in use, in the order of the round, and the directory that has these
 unfoldable pub slotsIn : Directory → List Slot
-slotsIn d = take (d .n) (d .slots)
+slotsIn d = take (d .n) (everySlot (d .words))
 
 unfoldable pub directoryWith : List Slot → Directory
-directoryWith l = record { n = length l; slots = slotted maxCells noSlot l }
+directoryWith l = record { n = length l; words = slotWords (slotted maxCells noSlot l) }
 
 -- a slot's edges as a rectangle
 abbrev pub edgesOf : Slot → Rect
@@ -42,6 +56,19 @@ rectOf a = record { easts = record { low = a .west; high = a .east }; norths = r
 -- a direction as a number: 0 east, else north
 unfoldable pub axisOf : ℕ → Axis
 axisOf a = cond (eqb a 0) eastward northward
+
+-- the report at its place in the array of those that wait, whose columns have so many slots each
+abbrev pub reportIn : ℕ → List ℕ → ℕ → Report
+reportIn slots ws i = record {
+  radio = getD ws i 0;
+  east = getD ws (slots + i) 0;
+  north = getD ws (2 * slots + i) 0;
+  new = getD ws (3 * slots + i) 0;
+}
+
+-- all reports whose fields the array has column after column, waiting or not
+unfoldable pub everyReport : List ℕ → List Report
+everyReport ws = tab (length ws / reportFields) (reportIn (length ws / reportFields) ws)
 
 -- the line at its place in the memo's array
 abbrev pub lineIn : List ℕ → ℕ → Line
@@ -68,10 +95,3 @@ radioRow r = record { key = r; val = tt }
 
 unfoldable pub radiosOf : On → Rows (Unit {0})
 radiosOf on = map radioRow (take (on .n) (on .radios))
-
--- a desk's parts but for the memo's array, and the desk of such parts and that array
-abbrev pub partsOf : Desk → Parts
-partsOf d = record { grid = d .grid; waiting = d .waiting; lines = d .memo .n; on = d .on; tally = d .tally }
-
-abbrev pub deskWith : Parts → List ℕ → Desk
-deskWith p ws = record { grid = p .grid; waiting = p .waiting; memo = record { n = p .lines; words = ws }; on = p .on; tally = p .tally }

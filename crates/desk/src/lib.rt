@@ -1,10 +1,11 @@
-// The desk as the serving program holds it, and a fresh one. Counts come first in each part; slots past the count are zero.
+// The desk as the serving program holds it, and a fresh one. What its arrays hold past the counts is zero.
 ghost use mathlib.Core.Path.{_≡_};
 ghost use Prim.Native.Nat.{_*_, _<_};
 ghost use lib.ListN.{length, getD, set};
 ghost use Rattle.rules.specs.Store.{fresh};
-ghost use Rattle.desk.specs.Layout.{deskOf, lineSlots, lineFields, noLine};
-ghost use Rattle.desk.specs.Views.{linesIn, partsOf, deskWith};
+ghost use Rattle.rules.specs.Limits.{maxCells, fullMemory};
+ghost use Rattle.desk.specs.Layout.{deskOf, slotFields, noSlot, reportFields, noReport, lineSlots, lineFields, noLine};
+ghost use Rattle.desk.specs.Views.{everySlot, everyReport, linesIn};
 
 // The cuts of one direction, rising.
 #[repr(C)]
@@ -14,7 +15,6 @@ pub struct CutList {
 }
 
 // A cell of the directory: its number, its edges and the first page of its chain.
-#[repr(C)]
 pub struct Slot {
     pub number: u16,
     pub west: u16,
@@ -24,37 +24,12 @@ pub struct Slot {
     pub first: u16,
 }
 
-// The directory, in the order of the round, its front first.
-#[repr(C)]
-pub struct Directory {
-    pub n: u16,
-    pub slots: [Slot; Desk::MAX_CELLS],
-}
-
-// What a split or a join changes.
-#[repr(C)]
-pub struct Grid {
-    pub easts: CutList,
-    pub norths: CutList,
-    pub cells: Directory,
-    // the front of the free chain
-    pub free: u16,
-}
-
 // A waiting report; `new` is 1 where it is marked new, else 0.
-#[repr(C)]
 pub struct Report {
     pub radio: u16,
     pub east: u16,
     pub north: u16,
     pub new: u16,
-}
-
-// The waiting reports, by rising radio: one more than may wait between two calls.
-#[repr(C)]
-pub struct Waiting {
-    pub n: u16,
-    pub rows: [Report; Desk::WAITING_SLOTS],
 }
 
 // A memo line; `placed` is 1 where it has a place, and 0, with the place zero, where it has none.
@@ -66,38 +41,37 @@ pub struct Line {
     pub north: u16,
 }
 
-// The memo, by rising radio: the fields of its lines one after the other, for an array of numbers can be lent and one of lines cannot. One line more than there
-// may be between two calls.
+// The grid but for the directory's array: the cuts, how many cells there are, and the front of the free chain.
 #[repr(C)]
-pub struct Memo {
-    pub n: u16,
-    pub words: [u16; Desk::MEMO_WORDS],
+pub struct Frame {
+    pub easts: CutList,
+    pub norths: CutList,
+    pub cells: u16,
+    pub free: u16,
 }
 
-// The radios on, rising.
+// The desk but for its arrays: the grid's frame, how many reports wait, memo lines there are and radios are on, and the tally.
 #[repr(C)]
-pub struct On {
-    pub n: u16,
-    pub radios: [u16; Desk::MAX_ON],
+pub struct Parts {
+    pub frame: Frame,
+    pub waiting: u16,
+    pub lines: u16,
+    pub on: u16,
+    pub tally: u16,
 }
 
+// Whoever gets a struct by value copies it, and an array of structs cannot be lent: so what is small goes by value, and the rest is arrays of numbers.
 #[repr(C)]
 pub struct Desk {
-    pub grid: Grid,
-    pub waiting: Waiting,
-    pub memo: Memo,
-    pub on: On,
-    pub tally: u16,
-}
-
-// The desk but for the memo's array, which is lent beside it: that is four fifths of the desk, and whoever gets the desk by value copies it.
-pub struct Parts {
-    pub grid: Grid,
-    pub waiting: Waiting,
-    // how many lines the memo has
-    pub lines: u16,
-    pub on: On,
-    pub tally: u16,
+    pub parts: Parts,
+    // the directory, in the order of the round, its front first: the fields of one cell after the other
+    pub cells: [u16; Desk::CELL_WORDS],
+    // the waiting reports, by rising radio: all radios, then all easts, all norths and all marks, so that a test of places reads these alone
+    pub waiting: [u16; Desk::WAITING_WORDS],
+    // the memo, by rising radio: the fields of one line after the other
+    pub memo: [u16; Desk::MEMO_WORDS],
+    // the radios on, rising
+    pub on: [u16; Desk::MAX_ON],
 }
 
 // What a call answers: 0 or the number of the check that turned it down, and what it counted.
@@ -122,30 +96,12 @@ pub const NORTH: u8 = 1;
 
 pub const DIRECTIONS: u8 = 2;
 
-impl Parts {
-    // The desk of these parts and the memo's array.
-    pub fn whole<'a>(self, words: &'a [u16; Desk::MEMO_WORDS]) -> Desk
-        ensures { λ r. ⌜ r ≡ deskWith self (now (words .entry)) ⌝ }
-    {
-        let grid = self.grid;
-        let waiting = self.waiting;
-        let on = self.on;
-        let words = *words;
-        Desk {
-            grid,
-            waiting,
-            memo: Memo {
-                n: self.lines,
-                words,
-            },
-            on,
-            tally: self.tally,
-        }
-    }
-}
-
 impl Desk {
     pub const MAX_CELLS: usize = 64;
+
+    pub const CELL_FIELDS: usize = 6;
+
+    pub const CELL_WORDS: usize = Desk::CELL_FIELDS * Desk::MAX_CELLS;
 
     pub const MAX_CUTS: usize = 15;
 
@@ -155,6 +111,10 @@ impl Desk {
 
     // One more than may wait between two calls: the report that a call brings.
     pub const WAITING_SLOTS: usize = Desk::MAX_WAITING + 1;
+
+    pub const REPORT_FIELDS: usize = 4;
+
+    pub const WAITING_WORDS: usize = Desk::REPORT_FIELDS * Desk::WAITING_SLOTS;
 
     pub const MAX_LINES: usize = 1150;
 
@@ -175,72 +135,102 @@ impl Desk {
     pub fn fresh() -> Desk
         ensures { λ r. ⌜ r ≡ deskOf fresh ⌝ }
     {
-        let no_slot = Slot {
-            number: 0,
-            west: 0,
-            east: 0,
-            south: 0,
-            north: 0,
-            first: 0,
-        };
-        let mut slots = [no_slot; Desk::MAX_CELLS];
-        slots[0] = Slot {
-            number: 0,
-            west: 0,
-            east: Desk::LAST_METRE,
-            south: 0,
-            north: Desk::LAST_METRE,
-            first: 0,
-        };
+        let mut cells = [0u16; Desk::CELL_WORDS];
+        put_slot(
+            &mut cells,
+            0,
+            Slot {
+                number: 0,
+                west: 0,
+                east: Desk::LAST_METRE,
+                south: 0,
+                north: Desk::LAST_METRE,
+                first: 0,
+            },
+        );
         Desk {
-            grid: Grid {
-                easts: CutList {
-                    n: 0,
-                    at: [0; Desk::MAX_CUTS],
+            parts: Parts {
+                frame: Frame {
+                    easts: CutList {
+                        n: 0,
+                        at: [0; Desk::MAX_CUTS],
+                    },
+                    norths: CutList {
+                        n: 0,
+                        at: [0; Desk::MAX_CUTS],
+                    },
+                    cells: 1,
+                    free: 1,
                 },
-                norths: CutList {
-                    n: 0,
-                    at: [0; Desk::MAX_CUTS],
-                },
-                cells: Directory { n: 1, slots },
-                free: 1,
+                waiting: 0,
+                lines: 0,
+                on: 0,
+                tally: 0,
             },
-            waiting: Waiting {
-                n: 0,
-                rows: [Report {
-                    radio: 0,
-                    east: 0,
-                    north: 0,
-                    new: 0,
-                }; Desk::WAITING_SLOTS],
-            },
-            memo: Memo {
-                n: 0,
-                words: [0; Desk::MEMO_WORDS],
-            },
-            on: On {
-                n: 0,
-                radios: [0; Desk::MAX_ON],
-            },
-            tally: 0,
+            cells,
+            waiting: [0; Desk::WAITING_WORDS],
+            memo: [0; Desk::MEMO_WORDS],
+            on: [0; Desk::MAX_ON],
         }
     }
+}
 
-    // The desk's parts but for the memo's array.
-    pub fn parts(self) -> Parts
-        ensures { λ r. ⌜ r ≡ partsOf self ⌝ }
-    {
-        let grid = self.grid;
-        let waiting = self.waiting;
-        let on = self.on;
-        Parts {
-            grid,
-            waiting,
-            lines: self.memo.n,
-            on,
-            tally: self.tally,
-        }
+// ---- a cell in the directory's array
+
+pub fn slot_at<'a>(cells: &'a [u16; Desk::CELL_WORDS], i: usize) -> Slot
+    requires { ⌜ (i < maxCells) × (length (now cells) ≡ slotFields * maxCells) ⌝ }
+    ensures { λ r. ⌜ r ≡ getD (everySlot (now (cells .entry))) i noSlot ⌝ }
+{
+    let at = Desk::CELL_FIELDS * i;
+    Slot {
+        number: cells[at],
+        west: cells[at + 1],
+        east: cells[at + 2],
+        south: cells[at + 3],
+        north: cells[at + 4],
+        first: cells[at + 5],
     }
+}
+
+// Every other cell is kept.
+pub fn put_slot<'a>(cells: &'a mut [u16; Desk::CELL_WORDS], i: usize, slot: Slot)
+    requires { ⌜ (i < maxCells) × (length (now cells) ≡ slotFields * maxCells) ⌝ }
+    ensures { λ _. ⌜ (everySlot (now (cells .exit)) ≡ set (everySlot (now (cells .entry))) i slot)
+        × (length (now (cells .exit)) ≡ slotFields * maxCells) ⌝ }
+{
+    let at = Desk::CELL_FIELDS * i;
+    cells[at] = slot.number;
+    cells[at + 1] = slot.west;
+    cells[at + 2] = slot.east;
+    cells[at + 3] = slot.south;
+    cells[at + 4] = slot.north;
+    cells[at + 5] = slot.first;
+}
+
+// ---- a report in the array of those that wait
+
+pub fn report_at<'a>(waiting: &'a [u16; Desk::WAITING_WORDS], i: usize) -> Report
+    requires { ⌜ (i < fullMemory) × (length (now waiting) ≡ reportFields * fullMemory) ⌝ }
+    ensures { λ r. ⌜ r ≡ getD (everyReport (now (waiting .entry))) i noReport ⌝ }
+{
+    Report {
+        radio: waiting[i],
+        east: waiting[Desk::WAITING_SLOTS + i],
+        north: waiting[2 * Desk::WAITING_SLOTS + i],
+        new: waiting[3 * Desk::WAITING_SLOTS + i],
+    }
+}
+
+// Every other report is kept.
+pub fn put_report<'a>(waiting: &'a mut [u16; Desk::WAITING_WORDS], i: usize, report: Report)
+    requires { ⌜ (i < fullMemory) × (length (now waiting) ≡ reportFields * fullMemory) ⌝ }
+    ensures { λ _. ⌜ (everyReport (now (waiting .exit)) ≡ set (everyReport (now (waiting .entry))) i report)
+        × (length (now (waiting .exit)) ≡ reportFields * fullMemory) ⌝ }
+{
+    waiting[i] = report.radio;
+    waiting[Desk::WAITING_SLOTS + i] = report.east;
+    waiting[2 * Desk::WAITING_SLOTS + i] = report.north;
+    waiting[3 * Desk::WAITING_SLOTS + i] = report.new;
 }
 
 // ---- a line in the memo's array

@@ -3,7 +3,7 @@ use mathlib.Core.Bool.{Bool, true, false}
 use mathlib.Core.List.{List, [], _∷_, _++_}
 use mathlib.Core.Option.{none, some}
 use mathlib.Core.Path.{_≡_, refl, sym, ap, ap₂, _∙_}
-use Prim.Native.Nat.{ℕ, _+_, _-_, _≤_, _<_}
+use Prim.Native.Nat.{ℕ, _+_, _-_, _*_, _/_, _≤_, _<_}
 use native.Mathlib.Nat.{not-suc-le-zero}
 use native.Mathlib.Omega.{arith}
 use lib.Dec.{eqb, leb}
@@ -14,15 +14,17 @@ use Rattle.terms.specs.Terms.{Place}
 use Rattle.lists.specs.Parts.{removeAt}
 use Rattle.lists.specs.Tests.{both}
 use Rattle.lists.proofs.Cases.{by-cases}
-use Rattle.lists.proofs.ShiftLaws.{Closed}
+use Rattle.lists.proofs.PartsLaws.{length-tab}
+use Rattle.lists.proofs.ShiftLaws.{Closed, close-turn}
 use Rattle.lists.proofs.TestsLaws.{firstAt-found, firstAt-absent}
 use Rattle.rules.specs.Limits.{maxCells}
 use Rattle.rules.specs.Grid.{within, inside}
 use Rattle.desk.specs.declared.Slot.{Slot}
-use Rattle.desk.specs.declared.Directory.{Directory}
-use Rattle.desk.specs.Layout.{slotted, noSlot}
-use Rattle.desk.specs.Views.{slotsIn, directoryWith, edgesOf}
-use Rattle.waiting.proofs.SlotsLaws.{length-removeAt, close-slotted, push-slotted}
+use Rattle.desk.specs.Held.{Directory, directoryIn}
+use Rattle.desk.specs.Layout.{slotted, slotFields, noSlot}
+use Rattle.desk.specs.Views.{slotIn, everySlot, slotsIn, directoryWith, edgesOf}
+use Rattle.desk.proofs.SlotsLaws.{length-slot-words, slots-of-words, directory-is}
+use Rattle.waiting.proofs.SlotsLaws.{length-slotted, length-removeAt, close-slotted, push-slotted}
 use Rattle.directory.specs.Directory.{WholeDirectory, slotAt}
 
 -- ---- a place in a cell
@@ -45,67 +47,86 @@ module _ (s : Slot) (east north : ℕ) {a : Bool} (span : a ≡ within (record {
 
 -- ---- the search
 
-pub length-slots : (d : Directory) → length (d .slots) ≡ maxCells → d .n ≤ maxCells → length (slotsIn d) ≡ d .n
+pub every-size : (ws : List ℕ) → length ws ≡ slotFields * maxCells → length (everySlot ws) ≡ maxCells
+unfolding everySlot
+every-size ws h = let e : length ws / slotFields ≡ maxCells = omega arith in length-tab (length ws / slotFields) (slotIn ws) ∙ e
+
+pub length-slots : (n : ℕ) (ws : List ℕ) → length ws ≡ slotFields * maxCells → n ≤ maxCells → length (slotsIn (directoryIn n ws)) ≡ n
 unfolding slotsIn
-length-slots d l h = length-take-le (d .n) (d .slots) (omega arith)
+length-slots n ws l h = length-take-le n (everySlot ws) (omega (arith, every-size ws l))
 
 -- the slot that an index below the count reads
-pub slots-at : (d : Directory) (i : ℕ) → i < d .n → getD (slotsIn d) i noSlot ≡ getD (d .slots) i noSlot
+pub slots-at : (d : Directory) (i : ℕ) → i < d .n → getD (slotsIn d) i noSlot ≡ getD (everySlot (d .words)) i noSlot
 unfolding slotsIn
-slots-at d i h = getD-take (d .n) (d .slots) i noSlot h
+slots-at d i h = getD-take (d .n) (everySlot (d .words)) i noSlot h
 
 -- none of the first i cells holds the place
-pub record Passed (d : Directory) (p : Place) (i : ℕ) : Type 0 where
-  pub size : length (slotsIn d) ≡ d .n
-  pub others : (k : ℕ) → k < i → inside (edgesOf (getD (slotsIn d) k noSlot)) p ≡ false
+pub record Passed (n : ℕ) (ws : List ℕ) (p : Place) (i : ℕ) : Type 0 where
+  pub size : length (slotsIn (directoryIn n ws)) ≡ n
+  pub others : (k : ℕ) → k < i → inside (edgesOf (getD (slotsIn (directoryIn n ws)) k noSlot)) p ≡ false
 
-pub pass-start : (d : Directory) (p : Place) → length (d .slots) ≡ maxCells → d .n ≤ maxCells → Passed d p 0
-pass-start d p l h = record { size = length-slots d l h; others = λ k b. absurd (not-suc-le-zero b) }
+pub pass-start : (n : ℕ) (ws : List ℕ) (p : Place) → length ws ≡ slotFields * maxCells → n ≤ maxCells → Passed n ws p 0
+pass-start n ws p l h = record { size = length-slots n ws l h; others = λ k b. absurd (not-suc-le-zero b) }
 
-module _ {d : Directory} {p : Place} {i : ℕ} (m : Passed d p i) where
-  pub pass-found : {t : Bool} → i < d .n → t ≡ inside (edgesOf (getD (d .slots) i noSlot)) p → t ≡ true → some i ≡ slotAt (slotsIn d) p
+module _ {n : ℕ} {ws : List ℕ} {p : Place} {i : ℕ} (m : Passed n ws p i) where
+  pub pass-found : {x : Slot} {t : Bool} → i < n → x ≡ getD (everySlot ws) i noSlot → t ≡ inside (edgesOf x) p → t ≡ true → some i ≡ slotAt (slotsIn (directoryIn n ws)) p
   unfolding slotAt
-  pass-found h e t =
-      sym (firstAt-found (λ s. inside (edgesOf s) p) (slotsIn d) i noSlot (omega (arith, m .size)) (ap (λ (s : Slot). inside (edgesOf s) p) (slots-at d i h) ∙ sym e ∙ t) (m .others))
+  pass-found h q e t =
+      sym (firstAt-found (λ s. inside (edgesOf s) p) (slotsIn (directoryIn n ws)) i noSlot (omega (arith, m .size))
+      (ap (λ (s : Slot). inside (edgesOf s) p) (slots-at (directoryIn n ws) i h ∙ sym q) ∙ sym e ∙ t) (m .others))
 
-  pub pass-turn : {t : Bool} → i < d .n → t ≡ inside (edgesOf (getD (d .slots) i noSlot)) p → t ≡ false → Passed d p (i + 1)
-  pass-turn h e f = record {
+  pub pass-turn : {x : Slot} {t : Bool} → i < n → x ≡ getD (everySlot ws) i noSlot → t ≡ inside (edgesOf x) p → t ≡ false → Passed n ws p (i + 1)
+  pass-turn h q e f = record {
     size = m .size;
     others = λ k b. by-cases (eqb k i)
-        (λ q. rw (eqb-true k i q, slots-at d i h) (sym e ∙ f))
-        (λ q. m .others k (omega (arith, eqb-false k i q)));
+        (λ u. rw (eqb-true k i u, slots-at (directoryIn n ws) i h, ← q) (sym e ∙ f))
+        (λ u. m .others k (omega (arith, eqb-false k i u)));
   }
 
-  pub pass-end : d .n ≤ i → none ≡ slotAt (slotsIn d) p
+  pub pass-end : n ≤ i → none ≡ slotAt (slotsIn (directoryIn n ws)) p
   unfolding slotAt
-  pass-end h = sym (firstAt-absent (λ s. inside (edgesOf s) p) (slotsIn d) noSlot (λ k b. m .others k (omega (arith, m .size))))
+  pass-end h = sym (firstAt-absent (λ s. inside (edgesOf s) p) (slotsIn (directoryIn n ws)) noSlot (λ k b. m .others k (omega (arith, m .size))))
 
 -- ---- stores
 
-directory-is : (l : List Slot) {n : ℕ} {xs : List Slot} → n ≡ length l → xs ≡ slotted maxCells noSlot l → record { n = n; slots = xs } ≡ directoryWith l
-unfolding directoryWith
-directory-is l a b = λ i. record { n = a i; slots = b i }
+-- a cell moved one place down
+pub close-slot : {xs : List Slot} {a i : ℕ} (vs us : List ℕ) {r : Slot} → Closed xs a i (everySlot vs) → i + 1 < length xs
+    → r ≡ getD (everySlot vs) (i + 1) noSlot → everySlot us ≡ set (everySlot vs) i r → Closed xs a (i + 1) (everySlot us)
+close-slot vs us o h e f = rw (f, e) (close-turn noSlot o h)
 
-module _ (d : Directory) (whole : WholeDirectory d) where
-  whole-count : d .n ≡ length (slotsIn d)
+module _ {n : ℕ} {ws : List ℕ} (whole : WholeDirectory (directoryIn n ws)) where
+  whole-count : n ≡ length (slotsIn (directoryIn n ws))
   unfolding directoryWith
   whole-count = ap (λ (x : Directory). x .n) whole
 
-  whole-slots : d .slots ≡ slotted maxCells noSlot (slotsIn d)
+  whole-slots : everySlot ws ≡ slotted maxCells noSlot (slotsIn (directoryIn n ws))
   unfolding directoryWith
-  whole-slots = ap (λ (x : Directory). x .slots) whole
+  whole-slots = ap (λ (x : Directory). everySlot (x .words)) whole ∙ slots-of-words (slotted maxCells noSlot (slotsIn (directoryIn n ws)))
 
-  pub close-directory : (k : ℕ) {i : ℕ} {ys : List Slot} → Closed (d .slots) k i ys → i ≤ d .n - 1 → d .n - 1 ≤ i → k < d .n → d .n ≤ maxCells → record { n = d .n - 1; slots = set ys (d .n - 1) noSlot } ≡ directoryWith (removeAt (slotsIn d) k)
-  close-directory k {i} {ys} c g h b f =
+  -- the array has room for as many cells as there may be
+  pub whole-size : n ≤ maxCells → length ws ≡ slotFields * maxCells
+  unfolding directoryWith
+  whole-size h =
       let e = whole-count in
-      let z : i ≡ length (slotsIn d) - 1 = omega arith in
-      directory-is (removeAt (slotsIn d) k)
-      (omega (arith, length-removeAt (slotsIn d) k (omega arith)))
-      (ap (λ (j : ℕ). set ys (j - 1) noSlot) e ∙ close-slotted maxCells noSlot (slotsIn d) k {ys = ys} (omega arith) (omega arith) (rw (whole-slots, z) at c))
+      let l = slotsIn (directoryIn n ws) in
+      ap (λ (x : Directory). length (x .words)) whole ∙ length-slot-words (slotted maxCells noSlot l) ∙ ap (λ (k : ℕ). slotFields * k) (length-slotted maxCells noSlot l (omega arith))
 
-  pub push-directory : (s : Slot) → d .n < maxCells → record { n = d .n + 1; slots = set (d .slots) (d .n) s } ≡ directoryWith (slotsIn d ++ (s ∷ []))
-  push-directory s f =
-      let e = whole-count in
-      directory-is (slotsIn d ++ (s ∷ []))
-      (omega (arith, length-append (slotsIn d) (s ∷ [])))
-      (ap₂ (λ (xs : List Slot) (j : ℕ). set xs j s) whole-slots e ∙ push-slotted maxCells noSlot (slotsIn d) s (omega arith))
+  module _ {vs : List ℕ} (size : length vs ≡ slotFields * maxCells) where
+    pub close-directory : (k : ℕ) {i : ℕ} {ys : List Slot} → Closed (everySlot ws) k i ys → i ≤ n - 1 → n - 1 ≤ i → k < n → n ≤ maxCells
+        → everySlot vs ≡ set ys (n - 1) noSlot → directoryIn (n - 1) vs ≡ directoryWith (removeAt (slotsIn (directoryIn n ws)) k)
+    close-directory k {i} {ys} c g h b f wrote =
+        let e = whole-count in
+        let l = slotsIn (directoryIn n ws) in
+        let z : i ≡ length l - 1 = omega arith in
+        let q : n - 1 ≡ length l - 1 = omega arith in
+        directory-is vs (n - 1) (removeAt l k) size
+        (omega (arith, length-removeAt l k (omega arith)))
+        (wrote ∙ ap (λ (j : ℕ). set ys j noSlot) q ∙ close-slotted maxCells noSlot l k {ys = ys} (omega arith) (omega arith) (rw (whole-slots, z) at c))
+
+    pub push-directory : (s : Slot) → n < maxCells → everySlot vs ≡ set (everySlot ws) n s → directoryIn (n + 1) vs ≡ directoryWith (slotsIn (directoryIn n ws) ++ (s ∷ []))
+    push-directory s f wrote =
+        let e = whole-count in
+        let l = slotsIn (directoryIn n ws) in
+        directory-is vs (n + 1) (l ++ (s ∷ [])) size
+        (omega (arith, length-append l (s ∷ [])))
+        (wrote ∙ ap₂ (λ (xs : List Slot) (j : ℕ). set xs j s) whole-slots e ∙ push-slotted maxCells noSlot l s (omega arith))

@@ -27,9 +27,9 @@ use Rattle.rules.proofs.TilingLaws.{GoodCut}
 use Rattle.rules.proofs.CutLaws.{due-some}
 use Rattle.desk.specs.declared.CutList.{CutList}
 use Rattle.desk.specs.declared.Slot.{Slot}
-use Rattle.desk.specs.declared.Directory.{Directory}
-use Rattle.desk.specs.Layout.{slotted, noSlot, slotOf, directoryOf, cutListOf}
-use Rattle.desk.specs.Views.{slotsIn, directoryWith, edgesOf}
+use Rattle.desk.specs.Held.{Directory}
+use Rattle.desk.specs.Layout.{slotted, slotWords, noSlot, slotOf, directoryOf, cutListOf}
+use Rattle.desk.specs.Views.{everySlot, slotsIn, directoryWith, edgesOf}
 use Rattle.desk.proofs.UniqueLaws.{take-slots, cuts-laid}
 use Rattle.boxes.proofs.BoxLaws.{Boxed, boxed-place, each-boxed}
 use Rattle.waiting.proofs.SlotsLaws.{getD-mapped}
@@ -50,7 +50,7 @@ split-index (y ∷ l) (suc k) h = let r = split-index l k (le-of-suc-le-suc h) i
 
 laid-with : (cells : List Cell) → directoryOf cells ≡ directoryWith (map slotOf cells)
 unfolding directoryOf directoryWith
-laid-with cells = let e = length-map cells slotOf in λ i. record { n = sym e i; slots = slotted maxCells noSlot (map slotOf cells) }
+laid-with cells = let e = length-map cells slotOf in λ i. record { n = sym e i; words = slotWords (slotted maxCells noSlot (map slotOf cells)) }
 
 numbers-laid : (cells : List Cell) → map (λ s. s .number) (map slotOf cells) ≡ map (λ c. c .number) cells
 numbers-laid [] = refl
@@ -59,7 +59,7 @@ numbers-laid (c ∷ cs) = ap (_∷_ (c .number)) (numbers-laid cs)
 module _ {d : Directory} (cells : List Cell) (laid : d ≡ directoryOf cells) where
   pub directory-slots : slotsIn d ≡ map slotOf cells
   unfolding slotsIn
-  directory-slots = ap (λ (x : Directory). take (x .n) (x .slots)) laid ∙ take-slots cells
+  directory-slots = ap (λ (x : Directory). take (x .n) (everySlot (x .words))) laid ∙ take-slots cells
 
   pub directory-count : d .n ≡ length cells
   unfolding directoryOf
@@ -98,7 +98,7 @@ module _ {o : FoundCell} {at : Option ℕ} (told : foundAt o ≡ at) where
 pub found-inside : (d : Directory) (p : Place) {o : FoundCell} {k : ℕ} → foundAt o ≡ slotAt (slotsIn d) p → o ≡ At k → k < d .n
 unfolding slotAt slotsIn
 found-inside d p {k = k} told e =
-    omega (arith, firstAt-some (λ s. inside (edgesOf s) p) (take (d .n) (d .slots)) k noSlot (means-at told e) .0, length-take (d .n) (d .slots))
+    omega (arith, firstAt-some (λ s. inside (edgesOf s) p) (take (d .n) (everySlot (d .words))) k noSlot (means-at told e) .0, length-take (d .n) (everySlot (d .words)))
 
 found-split : (cells : List Cell) (p : Place) (c : Cell) → cellAt cells p ≡ some c → (k : ℕ) × (slotAt (map slotOf cells) p ≡ some k) × (k < length cells) × (cells ≡ take k cells ++ (c ∷ drop (suc k) cells))
 unfolding cellAt slotAt firstAt

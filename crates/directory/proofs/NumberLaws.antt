@@ -3,7 +3,7 @@ use mathlib.Core.Bool.{Bool, true, false, not}
 use mathlib.Core.List.{List, [], _∷_, _++_, map, map-append}
 use mathlib.Core.Option.{none, some}
 use mathlib.Core.Path.{_≡_, refl, sym, ap, _∙_}
-use Prim.Native.Nat.{ℕ, _+_, _≤_, _<_}
+use Prim.Native.Nat.{ℕ, _+_, _*_, _≤_, _<_}
 use native.Mathlib.Nat.{not-suc-le-zero}
 use native.Mathlib.Numerals.{add-one}
 use native.Mathlib.Omega.{arith}
@@ -20,9 +20,9 @@ use Rattle.lists.proofs.SumsLaws.{sum-last}
 use Rattle.lists.proofs.TestsLaws.{firstAt-found, firstAt-absent, each-getD, not-true, not-false}
 use Rattle.rules.specs.Limits.{maxCells}
 use Rattle.desk.specs.declared.Slot.{Slot}
-use Rattle.desk.specs.declared.Directory.{Directory}
-use Rattle.desk.specs.Layout.{noSlot}
-use Rattle.desk.specs.Views.{slotsIn}
+use Rattle.desk.specs.Held.{directoryIn}
+use Rattle.desk.specs.Layout.{slotFields, noSlot}
+use Rattle.desk.specs.Views.{everySlot, slotsIn}
 use Rattle.directory.specs.Directory.{Numbered, usedNumbers, unusedOf}
 use Rattle.directory.proofs.CellLaws.{length-slots, slots-at}
 
@@ -40,35 +40,36 @@ used-last l x h =
     (λ n d. let e : count n (map (λ s. s .number) (l ++ (x ∷ []))) ≡ count n (map (λ s. s .number) l) = omega (arith, number-last n l x, ap one-if (ne-eqb n (x .number) d)) in rw e)
 
 -- the numbers of the first i cells are marked
-pub record Marked (d : Directory) (i : ℕ) (marks : List Bool) : Type 0 where
-  pub size : length (slotsIn d) ≡ d .n
-  pub list : marks ≡ usedNumbers (take i (slotsIn d))
+pub record Marked (n : ℕ) (ws : List ℕ) (i : ℕ) (marks : List Bool) : Type 0 where
+  pub size : length (slotsIn (directoryIn n ws)) ≡ n
+  pub list : marks ≡ usedNumbers (take i (slotsIn (directoryIn n ws)))
 
-pub mark-start : (d : Directory) → length (d .slots) ≡ maxCells → d .n ≤ maxCells → Marked d 0 (replicate maxCells false)
+pub mark-start : (n : ℕ) (ws : List ℕ) → length ws ≡ slotFields * maxCells → n ≤ maxCells → Marked n ws 0 (replicate maxCells false)
 unfolding usedNumbers tab sumBy
-mark-start d l h = record { size = length-slots d l h; list = refl }
+mark-start n ws l h = record { size = length-slots n ws l h; list = refl }
 
-module _ (d : Directory) {i k : ℕ} (numbered : Numbered (slotsIn d)) (said : k ≡ getD (d .slots) i noSlot .number) (more : i < d .n) where
-  number-at : k ≡ getD (slotsIn d) i noSlot .number
-  number-at = said ∙ ap (λ (s : Slot). s .number) (sym (slots-at d i more))
+module _ (n : ℕ) (ws : List ℕ) {i k : ℕ} {x : Slot} (numbered : Numbered (slotsIn (directoryIn n ws))) (read : x ≡ getD (everySlot ws) i noSlot) (said : k ≡ x .number) (more : i < n) where
+  number-at : k ≡ getD (slotsIn (directoryIn n ws)) i noSlot .number
+  number-at = said ∙ ap (λ (s : Slot). s .number) (read ∙ sym (slots-at (directoryIn n ws) i more))
 
-  pub number-below : length (d .slots) ≡ maxCells → d .n ≤ maxCells → k < maxCells
-  number-below l h = rw number-at (each-getD (λ s. s .number < maxCells) (slotsIn d) i noSlot numbered (omega (arith, length-slots d l h)))
+  pub number-below : length ws ≡ slotFields * maxCells → n ≤ maxCells → k < maxCells
+  number-below l h = rw number-at (each-getD (λ s. s .number < maxCells) (slotsIn (directoryIn n ws)) i noSlot numbered (omega (arith, length-slots n ws l h)))
 
-  pub mark-turn : {marks : List Bool} → Marked d i marks → Marked d (i + 1) (set marks k true)
+  pub mark-turn : {marks : List Bool} → Marked n ws i marks → Marked n ws (i + 1) (set marks k true)
   mark-turn m =
-      let h : i < length (slotsIn d) = omega (arith, m .size) in
+      let l = slotsIn (directoryIn n ws) in
+      let h : i < length l = omega (arith, m .size) in
       record {
         size = m .size;
         list =
-            ap (λ (l : List Bool). set l k true) (m .list)
-            ∙ ap (λ (j : ℕ). set (usedNumbers (take i (slotsIn d))) j true) number-at
-            ∙ sym (used-last (take i (slotsIn d)) (getD (slotsIn d) i noSlot) (each-getD (λ s. s .number < maxCells) (slotsIn d) i noSlot numbered h))
-            ∙ ap usedNumbers (sym (take-suc (slotsIn d) i noSlot h) ∙ rw add-one);
+            ap (λ (u : List Bool). set u k true) (m .list)
+            ∙ ap (λ (j : ℕ). set (usedNumbers (take i l)) j true) number-at
+            ∙ sym (used-last (take i l) (getD l i noSlot) (each-getD (λ s. s .number < maxCells) l i noSlot numbered h))
+            ∙ ap usedNumbers (sym (take-suc l i noSlot h) ∙ rw add-one);
       }
 
-pub mark-end : {d : Directory} {i : ℕ} {marks : List Bool} → Marked d i marks → d .n ≤ i → marks ≡ usedNumbers (slotsIn d)
-mark-end {d} {i} m h = m .list ∙ ap usedNumbers (take-all i (slotsIn d) (omega (arith, m .size)))
+pub mark-end : {n : ℕ} {ws : List ℕ} {i : ℕ} {marks : List Bool} → Marked n ws i marks → n ≤ i → marks ≡ usedNumbers (slotsIn (directoryIn n ws))
+mark-end {n} {ws} {i} m h = m .list ∙ ap usedNumbers (take-all i (slotsIn (directoryIn n ws)) (omega (arith, m .size)))
 
 -- ---- the first that is not marked
 

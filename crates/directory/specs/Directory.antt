@@ -14,9 +14,9 @@ use Rattle.rules.specs.Limits.{maxCells}
 use Rattle.rules.specs.Grid.{inside}
 use Rattle.rules.specs.Store.{Cell}
 use Rattle.desk.specs.declared.Slot.{Slot}
-use Rattle.desk.specs.declared.Directory.{Directory}
+use Rattle.desk.specs.Held.{Directory}
 use Rattle.desk.specs.Layout.{noSlot, slotOf}
-use Rattle.desk.specs.Views.{slotsIn, directoryWith, edgesOf}
+use Rattle.desk.specs.Views.{everySlot, slotsIn, directoryWith, edgesOf}
 use Rattle.directory.specs.declared.FoundCell.{FoundCell}
 use Rattle.directory.specs.declared.FoundCell.the-variants.{At, Nowhere}
 
@@ -54,5 +54,5 @@ pub record Stands (d : Directory) (cells : List Cell) (c : Cell) (k : ℕ) : Typ
   pub inside : k < length cells
   pub split : cells ≡ take k cells ++ (c ∷ drop (suc k) cells)
   pub slot : getD (slotsIn d) k noSlot ≡ slotOf c
-  -- what `cells.slots[k]` reads
-  pub element : getD (d .slots) k noSlot ≡ slotOf c
+  -- what `desk::slot_at` reads
+  pub element : getD (everySlot (d .words)) k noSlot ≡ slotOf c

@@ -1,12 +1,15 @@
-// The directory and the cuts as the desk holds them: in their order, unused slots zero. By value; the inner loops work in place.
+// The directory and the cuts as the desk holds them: in their order, unused slots zero. The directory's array is lent, with the number of cells beside it; the
+// cuts go by value.
 ghost use mathlib.Core.List.{[], _∷_, _++_};
 ghost use mathlib.Core.Path.{_≡_};
-ghost use Prim.Native.Nat.{_<_, _≤_};
+ghost use Prim.Native.Nat.{_+_, _-_, _*_, _<_, _≤_};
+ghost use lib.ListN.{length};
 ghost use Rattle.lists.specs.Parts.{insertAt, removeAt};
 ghost use Rattle.rules.specs.Limits.{maxCells, maxCuts};
 ghost use Rattle.rules.specs.Grid.{within, inside, stripeLow, cornerOf};
 ghost use Rattle.rules.specs.Flush.{addCut};
-ghost use Rattle.desk.specs.Layout.{cutListOf};
+ghost use Rattle.desk.specs.Held.{directoryIn};
+ghost use Rattle.desk.specs.Layout.{cutListOf, slotFields};
 ghost use Rattle.desk.specs.Views.{cutsIn, cutsBy, slotsIn, directoryWith, edgesOf};
 ghost use Rattle.boxes.specs.Boxes.{boxIn};
 ghost use Rattle.directory.specs.Directory.{WholeDirectory, slotAt, foundAt, Numbered, usedNumbers, unusedOf};
@@ -14,7 +17,6 @@ ghost use Rattle.directory.specs.Cuts.{WholeCuts, CutReady, placeOf};
 use boxes::BoxAt;
 use desk::CutList;
 use desk::Desk;
-use desk::Directory;
 use desk::Slot;
 
 // Where the cell of a place stands in the directory.
@@ -40,14 +42,14 @@ fn holds(slot: Slot, east: u16, north: u16) -> bool
 }
 
 // Where the cell of a place stands; its number and its edges are in the slot there.
-pub fn cell_at(cells: Directory, east: u16, north: u16) -> FoundCell
-    requires { ⌜ cells .n ≤ maxCells ⌝ }
-    ensures { λ r. ⌜ foundAt r ≡ slotAt (slotsIn cells) (record { east = east; north = north }) ⌝ }
+pub fn cell_at<'a>(cells: &'a [u16; Desk::CELL_WORDS], n: u16, east: u16, north: u16) -> FoundCell
+    requires { ⌜ (n ≤ maxCells) × (length (now cells) ≡ slotFields * maxCells) ⌝ }
+    ensures { λ r. ⌜ foundAt r ≡ slotAt (slotsIn (directoryIn n (now (cells .entry)))) (record { east = east; north = north }) ⌝ }
 {
-    let n = cells.n as usize;
+    let count = n as usize;
     let mut i: usize = 0;
-    while i < n {
-        let slot = cells.slots[i];
+    while i < count {
+        let slot = desk::slot_at(cells, i);
         if holds(slot, east, north) {
             return FoundCell::At(i);
         }
@@ -58,22 +60,20 @@ pub fn cell_at(cells: Directory, east: u16, north: u16) -> FoundCell
 
 // ---- the round
 
-// Without the cell at `at`; those after it stand one place nearer, and the last slot is unused.
-pub fn taken_out(cells: Directory, at: usize) -> Directory
-    requires { ⌜ WholeDirectory cells × (at < cells .n) × (cells .n ≤ maxCells) ⌝ }
-    ensures { λ r. ⌜ r ≡ directoryWith (removeAt (slotsIn cells) at) ⌝ }
+// Without the cell at `at`; those after it stand one place nearer, and the last slot is unused, so there is one cell less.
+pub fn take_out<'a>(cells: &'a mut [u16; Desk::CELL_WORDS], n: u16, at: usize)
+    requires { ⌜ WholeDirectory (directoryIn n (now cells)) × (at < n) × (n ≤ maxCells) ⌝ }
+    ensures { λ _. ⌜ directoryIn (n - 1) (now (cells .exit)) ≡ directoryWith (removeAt (slotsIn (directoryIn n (now (cells .entry)))) at) ⌝ }
 {
-    let mut d = cells;
-    let left = d.n - 1;
-    let last = left as usize;
+    let last = n as usize - 1;
     let mut i = at;
     while i < last {
         let j = i + 1;
-        let x = d.slots[j];
-        d.slots[i] = x;
+        let x = desk::slot_at(cells, j);
+        desk::put_slot(cells, i, x);
         i = j;
     }
-    d.slots[last] = Slot {
+    let none = Slot {
         number: 0,
         west: 0,
         east: 0,
@@ -81,21 +81,15 @@ pub fn taken_out(cells: Directory, at: usize) -> Directory
         north: 0,
         first: 0,
     };
-    d.n = left;
-    d
+    desk::put_slot(cells, last, none);
 }
 
-// With a cell that "goes last in the round".
-pub fn put_last(cells: Directory, slot: Slot) -> Directory
-    requires { ⌜ WholeDirectory cells × (cells .n < maxCells) ⌝ }
-    ensures { λ r. ⌜ r ≡ directoryWith (slotsIn cells ++ (slot ∷ [])) ⌝ }
+// With a cell that "goes last in the round", so there is one cell more.
+pub fn put_last<'a>(cells: &'a mut [u16; Desk::CELL_WORDS], n: u16, slot: Slot)
+    requires { ⌜ WholeDirectory (directoryIn n (now cells)) × (n < maxCells) ⌝ }
+    ensures { λ _. ⌜ directoryIn (n + 1) (now (cells .exit)) ≡ directoryWith (slotsIn (directoryIn n (now (cells .entry))) ++ (slot ∷ [])) ⌝ }
 {
-    let mut d = cells;
-    let n = d.n;
-    let last = n as usize;
-    d.slots[last] = slot;
-    d.n = n + 1;
-    d
+    desk::put_slot(cells, n as usize, slot);
 }
 
 // ---- numbers
@@ -114,15 +108,15 @@ fn number_of(k: usize) -> u16
 }
 
 // Which numbers the cells have: each marks its own.
-fn used_numbers(cells: Directory) -> [bool; Desk::MAX_CELLS]
-    requires { ⌜ (cells .n ≤ maxCells) × Numbered (slotsIn cells) ⌝ }
-    ensures { λ r. ⌜ r ≡ usedNumbers (slotsIn cells) ⌝ }
+fn used_numbers<'a>(cells: &'a [u16; Desk::CELL_WORDS], n: u16) -> [bool; Desk::MAX_CELLS]
+    requires { ⌜ (n ≤ maxCells) × (length (now cells) ≡ slotFields * maxCells) × Numbered (slotsIn (directoryIn n (now cells))) ⌝ }
+    ensures { λ r. ⌜ r ≡ usedNumbers (slotsIn (directoryIn n (now (cells .entry)))) ⌝ }
 {
-    let n = cells.n as usize;
+    let count = n as usize;
     let mut used = [false; Desk::MAX_CELLS];
     let mut i: usize = 0;
-    while i < n {
-        let slot = cells.slots[i];
+    while i < count {
+        let slot = desk::slot_at(cells, i);
         let k = index(slot.number);
         used[k] = true;
         i += 1;
@@ -131,11 +125,11 @@ fn used_numbers(cells: Directory) -> [bool; Desk::MAX_CELLS]
 }
 
 // "the smallest unused number"
-pub fn unused_number(cells: Directory) -> u16
-    requires { ⌜ (cells .n ≤ maxCells) × Numbered (slotsIn cells) ⌝ }
-    ensures { λ r. ⌜ r ≡ unusedOf (slotsIn cells) ⌝ }
+pub fn unused_number<'a>(cells: &'a [u16; Desk::CELL_WORDS], n: u16) -> u16
+    requires { ⌜ (n ≤ maxCells) × (length (now cells) ≡ slotFields * maxCells) × Numbered (slotsIn (directoryIn n (now cells))) ⌝ }
+    ensures { λ r. ⌜ r ≡ unusedOf (slotsIn (directoryIn n (now (cells .entry)))) ⌝ }
 {
-    let used = used_numbers(cells);
+    let used = used_numbers(cells, n);
     let mut k: usize = 0;
     while k < Desk::MAX_CELLS {
         if !used[k] {

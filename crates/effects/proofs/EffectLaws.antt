@@ -9,48 +9,43 @@ use lib.ListN.{length}
 use Rattle.terms.specs.Terms.{Place}
 use Rattle.lists.proofs.Cases.{by-cases, option-cases}
 use Rattle.rules.specs.Store.{Cell, Store}
-use Rattle.rules.specs.Limits.{fullMemory, sweepEvery}
-use Rattle.rules.specs.Grid.{Box, Cuts}
+use Rattle.rules.specs.Limits.{sweepEvery}
+use Rattle.rules.specs.Grid.{Box}
 use Rattle.rules.specs.Sweep.{sweepFront, counted, tick}
 use Rattle.rules.specs.Flush.{Flushed, flushedInto, grown, splitAt, joinedWith, reshaped}
-use Rattle.rules.specs.Carry.{waitingIn, boxToFlush, flushDue, afterReport}
+use Rattle.rules.specs.Carry.{flushDue, afterReport}
 use Rattle.rules.proofs.CutLaws.{flush-cases, reshaped-cases}
-use Rattle.desk.specs.declared.Grid.{Grid}
-use Rattle.desk.specs.declared.Waiting.{Waiting}
-use Rattle.desk.specs.declared.Memo.{Memo}
+use Rattle.desk.specs.Held.{Grid, Memo, Waiting, deskGrid, deskWaiting, deskMemo, deskOn}
 use Rattle.desk.specs.declared.Desk.{Desk}
-use Rattle.desk.specs.Layout.{gridOf, waitingOf, memoOf, onOf, deskOf, Laid}
-use Rattle.desk.specs.Views.{cutsBy}
+use Rattle.desk.specs.Layout.{gridOf, waitingOf, memoOf, onOf, deskHolding, deskOf, Laid}
 use Rattle.desk.specs.Laid.{LaidWaiting, LaidDesk}
-use Rattle.waiting.specs.Waiting.{reportsOf}
 use Rattle.tally.specs.Tally.{BeforeTally, AfterTally}
-use Rattle.tally.proofs.TickLaws.{tick-counts}
-use Rattle.flush.specs.Flush.{quiet, FewCuts, BeforeFlush}
-use Rattle.flush.proofs.AfterLaws.{due-asks, quiet-due, after-none, after-tallied}
+use Rattle.flush.specs.Flush.{BeforeFlush}
+use Rattle.flush.proofs.AfterLaws.{after-tallied}
 use Rattle.effects.specs.Effects.{BeforeTallyDesk, BeforeFlushDesk}
 
 -- ---- a desk by its parts
 
 module _ {desk : Desk} (s : Store) (held : desk ≡ deskOf s) where
-  pub grid-held : desk .grid ≡ gridOf s
+  pub grid-held : deskGrid desk ≡ gridOf s
   unfolding deskOf
-  grid-held = ap (λ (d : Desk). d .grid) held
+  grid-held = ap (λ (d : Desk). deskGrid d) held
 
-  pub waiting-held : desk .waiting ≡ waitingOf (s .waiting)
+  pub waiting-held : deskWaiting desk ≡ waitingOf (s .waiting)
   unfolding deskOf
-  waiting-held = ap (λ (d : Desk). d .waiting) held
+  waiting-held = ap (λ (d : Desk). deskWaiting d) held
 
-  pub memo-held : desk .memo ≡ memoOf (s .memo)
+  pub memo-held : deskMemo desk ≡ memoOf (s .memo)
   unfolding deskOf
-  memo-held = ap (λ (d : Desk). d .memo) held
+  memo-held = ap (λ (d : Desk). deskMemo d) held
 
-  pub on-held : desk .on ≡ onOf (s .on)
+  pub on-held : deskOn desk ≡ onOf (s .on)
   unfolding deskOf
-  on-held = ap (λ (d : Desk). d .on) held
+  on-held = ap (λ (d : Desk). deskOn d) held
 
-  pub tally-held : desk .tally ≡ s .tally
+  pub tally-held : desk .parts .tally ≡ s .tally
   unfolding deskOf
-  tally-held = ap (λ (d : Desk). d .tally) held
+  tally-held = ap (λ (d : Desk). d .parts .tally) held
 
 -- the same as one equation
 pub desk-laid : {desk : Desk} {b : List ℕ} (s : Store) → desk ≡ deskOf s → Laid s b → LaidDesk s desk b
@@ -65,7 +60,7 @@ unfolding deskOf
 laid-desk s x =
     let w = x .in-waiting in
     let m = w .in-memo in
-    (λ i. record { grid = m .in-grid .grid-is i; waiting = w .waiting-is i; memo = m .memo-is i; on = x .on-is i; tally = x .tally-is i }, m .in-grid .laid)
+    (λ i. deskHolding (m .in-grid .grid-is i) (w .waiting-is i) (m .memo-is i) (x .on-is i) (x .tally-is i), m .in-grid .laid)
 
 -- ---- the tally
 
@@ -88,8 +83,8 @@ unfolding sweepFront
 tick-on s = tick-leaves (λ t. t .on) s (λ c cs. refl) refl
 
 module _ {desk : Desk} {b : List ℕ} (x : BeforeTallyDesk desk b) where
-  pub tally-returns : {g : Grid} {m : Memo} {t : ℕ} {b′ : List ℕ} → ((y : BeforeTally (desk .grid) (desk .memo) (desk .tally) b) → AfterTally (y .store) g m t b′)
-      → LaidDesk (tick (x .before .store)) (record { grid = g; waiting = desk .waiting; memo = m; on = desk .on; tally = t }) b′
+  pub tally-returns : {g : Grid} {m : Memo} {t : ℕ} {b′ : List ℕ} → ((y : BeforeTally (deskGrid desk) (deskMemo desk) (desk .parts .tally) b) → AfterTally (y .store) g m t b′)
+      → LaidDesk (tick (x .before .store)) (deskHolding g (deskWaiting desk) m (deskOn desk) t) b′
   tally-returns l =
       let t = l (x .before) in
       let s = x .before .store in
@@ -119,34 +114,19 @@ module _ {desk : Desk} {p : Place} {b : List ℕ} (x : BeforeFlushDesk desk p b)
   abbrev store : Store
   store = x .before .store
 
-  module _ {g : Grid} {w : Waiting} {m : Memo} {b′ : List ℕ} (l : (y : BeforeFlush (desk .grid) (desk .waiting) (desk .memo) b) → LaidWaiting (afterReport p (y .store)) g w m b′) where
+  module _ {g : Grid} {w : Waiting} {m : Memo} {b′ : List ℕ} (l : (y : BeforeFlush (deskGrid desk) (deskWaiting desk) (deskMemo desk) b) → LaidWaiting (afterReport p (y .store)) g w m b′) where
     abbrev after : LaidWaiting (afterReport p store) g w m b′
     after = l (x .before)
 
     -- what is tallied then
-    abbrev pub flushed-tallies : BeforeTallyDesk (record { grid = g; waiting = w; memo = m; on = desk .on; tally = desk .tally }) b′
+    abbrev pub flushed-tallies : BeforeTallyDesk (deskHolding g w m (deskOn desk) (desk .parts .tally)) b′
     flushed-tallies = record {
-      before = after-tallied (x .before) p (desk .tally) (x .others-few) after (x .tally-is);
+      before = after-tallied (x .before) p (desk .parts .tally) (x .others-few) after (x .tally-is);
       waiting-is = after .waiting-is;
       on-is = x .on-is ∙ ap onOf (sym (after-on p store));
     }
 
     pub flush-returns : {r : Desk} {b″ : List ℕ}
-        → ((y : BeforeTallyDesk (record { grid = g; waiting = w; memo = m; on = desk .on; tally = desk .tally }) b′) → LaidDesk (tick (y .before .store)) r b″)
+        → ((y : BeforeTallyDesk (deskHolding g w m (deskOn desk) (desk .parts .tally)) b′) → LaidDesk (tick (y .before .store)) r b″)
         → LaidDesk (tick (afterReport p store)) r b″
     flush-returns k = k flushed-tallies
-
-  -- ---- nothing more is due
-
-  -- what `is_quiet` asks
-  pub quiet-asks : (desk .waiting .n ≤ fullMemory) × FewCuts (desk .grid .easts) (desk .grid .norths) × (desk .tally < sweepEvery)
-  quiet-asks = let k = due-asks (x .before) in (k .0, (k .1, k .2), omega (arith, x .tally-is, x .before .early))
-
-  abbrev cuts : Cuts
-  cuts = cutsBy (desk .grid .easts) (desk .grid .norths)
-
-  pub effect-quiet : {q : Bool} → q ≡ quiet (boxToFlush cuts (waitingIn cuts (reportsOf (desk .waiting))) (length (reportsOf (desk .waiting))) p) (desk .tally + 1) → q ≡ true
-      → LaidDesk (tick (afterReport p store)) (record { grid = desk .grid; waiting = desk .waiting; memo = desk .memo; on = desk .on; tally = desk .tally + 1 }) b
-  effect-quiet e t =
-      let q = quiet-due _ (desk .tally + 1) (sym e ∙ t) in
-      flush-returns (λ y. after-none y p (q .0)) (λ y. tally-returns y (λ z. tick-counts z (q .1)))

@@ -17,16 +17,13 @@ use Rattle.rules.specs.Carry.{wasNew, signedOn, reported, signedOff, waitingIn,
 use Rattle.rules.proofs.StepLaws.{put-few, put-boxes, put-bounded, on-core, report-core, off-done}
 use Rattle.rules.specs.WellFormed.{WellFormed}
 use Rattle.rules.specs.Midway.{MidCall}
-use Rattle.desk.specs.declared.Waiting.{Waiting}
-use Rattle.desk.specs.declared.Memo.{Memo}
-use Rattle.desk.specs.declared.On.{On}
+use Rattle.desk.specs.Held.{Memo, On, Waiting, deskGrid, deskWaiting, deskMemo, deskOn}
 use Rattle.desk.specs.declared.Desk.{Desk}
-use Rattle.desk.specs.Layout.{waitingOf, memoOf, onOf}
+use Rattle.desk.specs.Layout.{waitingOf, memoOf, onOf, deskHolding}
 use Rattle.desk.specs.Views.{radiosOf}
 use Rattle.desk.specs.Laid.{LaidDesk}
 use Rattle.memo.specs.Memo.{linesOf}
 use Rattle.waiting.specs.Waiting.{reportsOf}
-use Rattle.own_effect.specs.declared.SignedOn.{SignedOn}
 use Rattle.own_effect.proofs.StoreLaws.{on-gives, report-gives, off-gives, on-laid, report-laid, off-laid}
 use Rattle.records.specs.Asked.{SignsOn, Reports}
 use Rattle.effects.specs.Effects.{BeforeFlushDesk, BeforeTallyDesk, BeforeSignOn, BeforeReport, BeforeSignOff, AfterRequest}
@@ -78,15 +75,16 @@ module _ {desk : Desk} {r : ℕ} {p : Place} {b : List ℕ} (x : BeforeSignOn de
   abbrev s : Store
   s = x .sound .store
 
-  module _ (o : SignedOn) (own : o ≡ record { waiting = waitingOf (insert r (record { place = p; new = true }) (reportsOf (desk .waiting))); on = onOf (insert r tt (radiosOf (desk .on))) }) where
+  module _ {waiting : Waiting} {on : On}
+      (own : (waiting ≡ waitingOf (insert r (record { place = p; new = true }) (reportsOf (deskWaiting desk)))) × (on ≡ onOf (insert r tt (radiosOf (deskOn desk))))) where
     abbrev signed : Desk
-    signed = record { grid = desk .grid; waiting = o .waiting; memo = desk .memo; on = o .on; tally = desk .tally }
+    signed = deskHolding (deskGrid desk) waiting (deskMemo desk) on (desk .parts .tally)
 
     pub on-effect : BeforeFlushDesk signed p b
     unfolding put-effect
     on-effect =
         put-effect (signedOn r p s) (on-put s (x .sound .well) r p (x .signs))
-        (desk-laid (signedOn r p s) (on-gives s desk (x .sound .held) r p o own) (on-laid s b (x .sound .laid) r p))
+        (desk-laid (signedOn r p s) (on-gives s desk (x .sound .held) r p own) (on-laid s b (x .sound .laid) r p))
 
     pub on-carries : {d : Desk} {b′ : List ℕ} → ((y : BeforeFlushDesk signed p b) → LaidDesk (tick (afterReport p (y .before .store))) d b′) → AfterRequest s (signOn r p) d b′
     unfolding on-effect put-effect carriedOut
@@ -95,9 +93,9 @@ module _ {desk : Desk} {r : ℕ} {p : Place} {b : List ℕ} (x : BeforeSignOn de
 -- ---- report
 
 module _ {desk : Desk} {r : ℕ} {p : Place} {b : List ℕ} (x : BeforeReport desk r p b) where
-  module _ (waiting : Waiting) (own : waiting ≡ waitingOf (alter (λ w. some (record { place = p; new = wasNew w })) r (reportsOf (desk .waiting)))) where
+  module _ {waiting : Waiting} (own : waiting ≡ waitingOf (alter (λ w. some (record { place = p; new = wasNew w })) r (reportsOf (deskWaiting desk)))) where
     abbrev told : Desk
-    told = record { grid = desk .grid; waiting = waiting; memo = desk .memo; on = desk .on; tally = desk .tally }
+    told = deskHolding (deskGrid desk) waiting (deskMemo desk) (deskOn desk) (desk .parts .tally)
 
     pub report-effect : BeforeFlushDesk told p b
     unfolding put-effect
@@ -113,11 +111,11 @@ module _ {desk : Desk} {r : ℕ} {p : Place} {b : List ℕ} (x : BeforeReport de
 
 module _ {desk : Desk} {r : ℕ} {b : List ℕ} (x : BeforeSignOff desk r b) where
   module _ {waiting : Waiting} {memo : Memo} {on : On}
-      (own : (waiting ≡ waitingOf (alter (λ _. none) r (reportsOf (desk .waiting))))
-      × (memo ≡ memoOf (cond (wasNew (find (reportsOf (desk .waiting)) r)) (linesOf (desk .memo)) (alter (raised none) r (linesOf (desk .memo)))))
-      × (on ≡ onOf (alter (λ _. none) r (radiosOf (desk .on))))) where
+      (own : (waiting ≡ waitingOf (alter (λ _. none) r (reportsOf (deskWaiting desk))))
+      × (memo ≡ memoOf (cond (wasNew (find (reportsOf (deskWaiting desk)) r)) (linesOf (deskMemo desk)) (alter (raised none) r (linesOf (deskMemo desk)))))
+      × (on ≡ onOf (alter (λ _. none) r (radiosOf (deskOn desk))))) where
     abbrev signed-off : Desk
-    signed-off = record { grid = desk .grid; waiting = waiting; memo = memo; on = on; tally = desk .tally }
+    signed-off = deskHolding (deskGrid desk) waiting memo on (desk .parts .tally)
 
     early : signedOff r (x .sound .store) .tally < sweepEvery
     unfolding signedOff

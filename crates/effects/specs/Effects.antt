@@ -10,6 +10,7 @@ use Rattle.rules.specs.Store.{Store}
 use Rattle.rules.specs.Records.{Request}
 use Rattle.rules.specs.Carry.{waitingIn, carriedOut}
 use Rattle.desk.specs.declared.Desk.{Desk}
+use Rattle.desk.specs.Held.{deskGrid, deskWaiting, deskMemo, deskOn}
 use Rattle.desk.specs.Layout.{waitingOf, onOf}
 use Rattle.desk.specs.Laid.{LaidDesk}
 use Rattle.desk.specs.Sound.{Sound}
@@ -19,16 +20,16 @@ use Rattle.flush.specs.Flush.{BeforeFlush}
 
 -- the whole desk before the flush that a report at p makes due: no memory cell but that of p is full
 pub record BeforeFlushDesk (desk : Desk) (p : Place) (bytes : List ℕ) : Type 0 where
-  pub before : BeforeFlush (desk .grid) (desk .waiting) (desk .memo) bytes
+  pub before : BeforeFlush (deskGrid desk) (deskWaiting desk) (deskMemo desk) bytes
   pub others-few : (n : Box) → sameBox n (boxOf (before .store .cuts) p) ≡ false → waitingIn (before .store .cuts) (before .store .waiting) n < fullBox
-  pub on-is : desk .on ≡ onOf (before .store .on)
-  pub tally-is : desk .tally ≡ before .store .tally
+  pub on-is : deskOn desk ≡ onOf (before .store .on)
+  pub tally-is : desk .parts .tally ≡ before .store .tally
 
 -- the whole desk before the tally
 pub record BeforeTallyDesk (desk : Desk) (bytes : List ℕ) : Type 0 where
-  pub before : BeforeTally (desk .grid) (desk .memo) (desk .tally) bytes
-  pub waiting-is : desk .waiting ≡ waitingOf (before .store .waiting)
-  pub on-is : desk .on ≡ onOf (before .store .on)
+  pub before : BeforeTally (deskGrid desk) (deskMemo desk) (desk .parts .tally) bytes
+  pub waiting-is : deskWaiting desk ≡ waitingOf (before .store .waiting)
+  pub on-is : deskOn desk ≡ onOf (before .store .on)
 
 -- ---- a record on a sound store, once the checks have passed it
 

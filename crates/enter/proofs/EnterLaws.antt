@@ -3,7 +3,7 @@ use mathlib.Core.Bool.{true, false}
 use mathlib.Core.List.{List, [], _∷_}
 use mathlib.Core.Option.{Option, none, some}
 use mathlib.Core.Path.{_≡_, refl, sym, ap, _∙_, subst}
-use Prim.Native.Nat.{ℕ, _+_, _≤_, _<_}
+use Prim.Native.Nat.{ℕ, _+_, _*_, _≤_, _<_}
 use native.Mathlib.Omega.{arith}
 use native.Mathlib.Numerals.{add-one}
 use lib.Dec.{eqb}
@@ -24,14 +24,14 @@ use Rattle.entries.proofs.TableLaws.{insert-found}
 use Rattle.rules.specs.Limits.{fullMemory}
 use Rattle.rules.specs.Store.{Line, Report as StoreReport}
 use Rattle.rules.specs.Flush.{placed, raised, entered, Work, enter, enterEach}
-use Rattle.desk.specs.declared.Memo.{Memo}
+use Rattle.desk.specs.Held.{Memo, Waiting, memoIn, waitingWith}
 use Rattle.desk.specs.declared.Report.{Report}
-use Rattle.desk.specs.declared.Waiting.{Waiting}
-use Rattle.desk.specs.Layout.{lineSlots, memoOf, noReport}
-use Rattle.memo.specs.Memo.{memoIn, linesOf}
+use Rattle.desk.specs.Layout.{lineSlots, memoOf, noReport, reportFields}
+use Rattle.desk.specs.Views.{everyReport}
+use Rattle.memo.specs.Memo.{linesOf}
 use Rattle.memo.proofs.MemoLaws.{lines-are, whole-is, count-is}
 use Rattle.waiting.specs.Waiting.{waits, rowOf, reportsOf}
-use Rattle.waiting.proofs.WaitingLaws.{noRow as noReportRow, length-reports, reports-get}
+use Rattle.waiting.proofs.WaitingLaws.{noRow as noReportRow, every-size, length-reports, reports-get}
 use Rattle.enter.specs.Enter.{Held, heldIn, workOf, Room, Enterable, Entered}
 
 -- ---- what a lookup says
@@ -206,39 +206,41 @@ pub record Entering (w : Waiting) (from : Held) (i : ℕ) (to : Held) : Type 0 w
   pub ready : Enterable to (drop i (reportsOf w))
   pub same : enterEach (drop i (reportsOf w)) (workOf to) ≡ enterEach (reportsOf w) (workOf from)
 
-pub entering-start : (w : Waiting) {ws : Rows StoreReport} {s : Held} → reportsOf w ≡ ws → Enterable s ws → Entering w s 0 s
-entering-start w {ws} {s} these r = record { ready = subst (λ (l : Rows StoreReport). Enterable s l) (sym these) r; same = refl }
+pub entering-start : (w : Waiting) {s : Held} → Enterable s (reportsOf w) → Entering w s 0 s
+entering-start w r = record { ready = r; same = refl }
 
-module _ (w : Waiting) (size : length (w .rows) ≡ fullMemory) (fits : w .n ≤ fullMemory) {from to : Held} {i : ℕ} (done : Entering w from i to) where
-  module _ (more : i < w .n) where
-    abbrev here : Row StoreReport
-    here = rowOf (getD (w .rows) i noReport)
+module _ {n : ℕ} {vs : List ℕ} {from to : Held} {i : ℕ} (done : Entering (waitingWith n vs) from i to) (fits : n ≤ fullMemory) (size : length vs ≡ reportFields * fullMemory) where
+  abbrev reports : Rows StoreReport
+  reports = reportsOf (waitingWith n vs)
 
+  how-many : length reports ≡ n
+  how-many = length-reports (waitingWith n vs) (every-size vs size) fits
+
+  module _ (more : i < n) {e : Report} (read : e ≡ getD (everyReport vs) i noReport) where
     abbrev later : Rows StoreReport
-    later = drop (i + 1) (reportsOf w)
+    later = drop (i + 1) reports
 
-    left-next : drop i (reportsOf w) ≡ here ∷ later
-    left-next = drop-cons (reportsOf w) i noReportRow (rw (length-reports w size fits) more) ∙ rw (add-one, reports-get w size fits i more)
+    left-next : drop i reports ≡ rowOf e ∷ later
+    left-next = drop-cons reports i noReportRow (rw how-many more) ∙ rw (add-one, reports-get (waitingWith n vs) (every-size vs size) fits i more, ← read)
 
-    ready-here : Enterable to (here ∷ later)
+    ready-here : Enterable to (rowOf e ∷ later)
     ready-here = subst (λ (l : Rows StoreReport). Enterable to l) left-next (done .ready)
 
-    pub entering-ready : Enterable to (here ∷ [])
-    entering-ready = record { counted = ready-here .counted; whole = ready-here .whole; room = room-one here later (workOf to) (ready-here .room) }
+    pub entering-ready : Enterable to (rowOf e ∷ [])
+    entering-ready = record { counted = ready-here .counted; whole = ready-here .whole; room = room-one (rowOf e) later (workOf to) (ready-here .room) }
 
-    pub entering-turn : {r : Held} → Entered to (here ∷ []) r → Entering w from (i + 1) r
+    pub entering-turn : {r : Held} → Entered to (rowOf e ∷ []) r → Entering (waitingWith n vs) from (i + 1) r
     unfolding enterEach
-    entering-turn {r} e = record {
-      ready = entered-ready e later (room-next here later (workOf to) (ready-here .room));
-      same = ap (enterEach later) (entered-work e) ∙ ap (λ (l : Rows StoreReport). enterEach l (workOf to)) (sym left-next) ∙ done .same;
+    entering-turn {r} d = record {
+      ready = entered-ready d later (room-next (rowOf e) later (workOf to) (ready-here .room));
+      same = ap (enterEach later) (entered-work d) ∙ ap (λ (l : Rows StoreReport). enterEach l (workOf to)) (sym left-next) ∙ done .same;
     }
 
-  pub entering-end : {ws : Rows StoreReport} → reportsOf w ≡ ws → w .n ≤ i → Entered from ws to
+  pub entering-end : n ≤ i → Entered from (reportsOf (waitingWith n vs)) to
   unfolding enterEach
-  entering-end {ws} these h =
-      let none-left : drop i (reportsOf w) ≡ [] = drop-of-length-le (reportsOf w) {i = i} (rw (length-reports w size fits) h) in
-      let k : workOf to ≡ enterEach ws (workOf from) =
-      ap (λ (l : Rows StoreReport). enterEach l (workOf to)) (sym none-left) ∙ done .same ∙ ap (λ (l : Rows StoreReport). enterEach l (workOf from)) these in
+  entering-end h =
+      let none-left : drop i reports ≡ [] = drop-of-length-le reports {i = i} (rw how-many h) in
+      let k : workOf to ≡ enterEach reports (workOf from) = ap (λ (l : Rows StoreReport). enterEach l (workOf to)) (sym none-left) ∙ done .same in
       record {
         table = ap (λ (x : Work). x .entries) k;
         count = done .ready .counted ∙ ap (λ (x : Work). length (x .entries)) k;

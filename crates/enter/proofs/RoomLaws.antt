@@ -1,24 +1,24 @@
 -- A store in the middle of a call has room for the reports of a memory cell, and what they leave is the flush of it: the swept cell has no stale entry, so it ends with one entry
 -- for each radio on at most; each line counts a stale entry, and what is stale and waits is bounded together.
-use mathlib.Core.Bool.{true}
+use mathlib.Core.Bool.{Bool, true, not}
 use mathlib.Core.List.{List, _++_}
 use mathlib.Core.Option.{some}
 use mathlib.Core.Path.{_≡_, sym, ap, _∙_}
-use Prim.Native.Nat.{ℕ, _+_, _≤_, _<_}
+use Prim.Native.Nat.{ℕ, _+_, _*_, _≤_, _<_}
 use native.Mathlib.Omega.{arith}
 use lib.ListN.{length}
 use Rattle.terms.specs.Terms.{maxOn}
-use Rattle.lists.specs.Rows.{Rows, find}
+use Rattle.lists.specs.Rows.{Row, Rows, find}
 use Rattle.lists.specs.Sums.{filter}
 use Rattle.lists.specs.Tests.{one-if}
 use Rattle.lists.specs.Among.{Among}
 use Rattle.lists.proofs.AmongLaws.{sum-among}
 use Rattle.lists.proofs.RowsLaws.{rising-filter}
-use Rattle.lists.proofs.SumsLaws.{sum-cons, sum-le, length-sum, length-middle}
+use Rattle.lists.proofs.SumsLaws.{sum-cons, sum-le, length-sum, length-middle, length-filter-not}
 use Rattle.lists.proofs.TestsLaws.{each-every, one-if-le}
 use Rattle.entries.specs.Entries.{rowsOf}
-use Rattle.rules.specs.Limits.{maxCuts, fullMemory, sweepEvery}
-use Rattle.rules.specs.Grid.{eastward, northward, inside, Cuts, Box, cornerOf}
+use Rattle.rules.specs.Limits.{fullMemory, sweepEvery}
+use Rattle.rules.specs.Grid.{inside, Cuts, Box, cornerOf}
 use Rattle.rules.specs.Store.{Report, Line, Cell, Store, missedOf}
 use Rattle.rules.specs.Sweep.{stale, sweptMemo, swept}
 use Rattle.rules.specs.Flush.{Work, enterEach, inBox, flushedInto, cellOfBox}
@@ -30,8 +30,8 @@ use Rattle.rules.proofs.RoundLaws.{bounded-total}
 use Rattle.rules.proofs.TilingLaws.{cellAt-split, some-cell}
 use Rattle.rules.proofs.FlushLaws.{books-before, books-swept, books-flushed, clean-flushed, waiting-flushed}
 use Rattle.desk.specs.declared.CutList.{CutList}
-use Rattle.desk.specs.declared.Waiting.{Waiting}
-use Rattle.desk.specs.Layout.{lineSlots, cutListOf, waitingOf, memoOf}
+use Rattle.desk.specs.Held.{Waiting}
+use Rattle.desk.specs.Layout.{lineSlots, reportFields, cutListOf, waitingOf, memoOf}
 use Rattle.desk.specs.Views.{cutsBy}
 use Rattle.memo.specs.Memo.{mostMissed}
 use Rattle.memo.proofs.MemoLaws.{lines-are, whole-is}
@@ -39,7 +39,7 @@ use Rattle.boxes.specs.declared.BoxAt.{BoxAt}
 use Rattle.boxes.specs.Boxes.{boxIn}
 use Rattle.waiting.specs.Waiting.{reportsOf}
 use Rattle.desk.proofs.UniqueLaws.{cuts-laid}
-use Rattle.waiting.proofs.WaitingLaws.{reports-laid, count-laid}
+use Rattle.waiting.proofs.WaitingLaws.{reports-laid, whole-laid, count-laid, whole-size}
 use Rattle.enter.specs.Enter.{Held, workOf, Room, Enterable, Entered}
 
 -- ---- counts
@@ -104,46 +104,51 @@ module _ (m : Box) (s : Store) (d : Cell) (k : Core s) (a : Among (s .cells) d) 
       misses-fit = each-every _ reports (λ w. few-missed (w .key));
     }
 
--- ---- the call: what it asks, and what it gives
+-- ---- the reports of m, apart from the others
 
-cuts-count : {l : CutList} (cuts : List ℕ) → l ≡ cutListOf cuts → l .n ≡ length cuts
-unfolding cutListOf
-cuts-count cuts e = ap (λ (x : CutList). x .n) e
-
--- the desk's parts are the store's, and the sweep of d has left `from`
-module _ (s : Store) (d : Cell) (m : BoxAt) (easts norths : CutList) (waiting : Waiting) (from : Held) (east-laid : easts ≡ cutListOf (s .cuts .easts)) (north-laid : norths ≡ cutListOf (s .cuts .norths))
-    (waits : waiting ≡ waitingOf (s .waiting)) (rows : rowsOf (from .table) ≡ swept (s .memo) d .entries) (held : from .memo ≡ memoOf (sweptMemo (s .memo) (d .entries))) where
-  abbrev entering : Rows Report
-  entering = filter (inBox (cutsBy easts norths) (boxIn m)) (reportsOf waiting)
-
+module _ (s : Store) (m : Box) (easts norths : CutList) (waiting : Waiting) (east-laid : easts ≡ cutListOf (s .cuts .easts)) (north-laid : norths ≡ cutListOf (s .cuts .norths))
+    (waits : waiting ≡ waitingOf (s .waiting)) where
   the-cuts : cutsBy easts norths ≡ s .cuts
   the-cuts = λ i. record { easts = cuts-laid east-laid i; norths = cuts-laid north-laid i }
 
-  the-reports : entering ≡ filter (inBox (s .cuts) (boxIn m)) (s .waiting)
-  the-reports = rw (reports-laid waits) (ap (λ (x : Cuts). filter (inBox x (boxIn m)) (s .waiting)) the-cuts)
+  by-store : (q : Cuts → Row Report → Bool) → filter (q (cutsBy easts norths)) (reportsOf waiting) ≡ filter (q (s .cuts)) (s .waiting)
+  by-store q = rw (reports-laid waits) (ap (λ (x : Cuts). filter (q x) (s .waiting)) the-cuts)
 
+  -- those that have gone, and those that still wait, in the words of the store
+  pub gone-are : {taken : Waiting} → taken ≡ waitingOf (filter (inBox (cutsBy easts norths) m) (reportsOf waiting)) → taken ≡ waitingOf (filter (inBox (s .cuts) m) (s .waiting))
+  gone-are e = e ∙ ap waitingOf (by-store (λ x w. inBox x m w))
+
+  pub left-are : {left : Waiting} → left ≡ waitingOf (filter (λ w. not (inBox (cutsBy easts norths) m w)) (reportsOf waiting)) → left ≡ waitingOf (filter (λ w. not (inBox (s .cuts) m w)) (s .waiting))
+  left-are e = e ∙ ap waitingOf (by-store (λ x w. not (inBox x m w)))
+
+-- ---- the call: what it asks, and what it gives
+
+-- the reports are those of m in the store, and the sweep of d has left `from`
+module _ (s : Store) (d : Cell) (m : BoxAt) (taken : Waiting) (from : Held) (these : taken ≡ waitingOf (filter (inBox (s .cuts) (boxIn m)) (s .waiting)))
+    (rows : rowsOf (from .table) ≡ swept (s .memo) d .entries) (held : from .memo ≡ memoOf (sweptMemo (s .memo) (d .entries))) where
   the-work : workOf from ≡ record { entries = swept (s .memo) d .entries; memo = sweptMemo (s .memo) (d .entries) }
   the-work = λ i. record { entries = rows i; memo = lines-are (sweptMemo (s .memo) (d .entries)) held i }
 
+  few-taken : length (s .waiting) ≤ fullMemory → taken .n ≤ fullMemory
+  few-taken few = omega (arith, count-laid taken _ these, length-filter-not (inBox (s .cuts) (boxIn m)) (s .waiting))
+
   pub enter-asks : {c : ℕ} → MidCall s c → c ≤ sweepEvery → cellOfBox s (boxIn m) ≡ some d → length (s .waiting) ≤ fullMemory → from .table .n ≡ length (swept (s .memo) d .entries)
-      → (easts .n ≤ maxCuts) × (norths .n ≤ maxCuts) × (waiting .n ≤ fullMemory) × Enterable from entering
+      → (taken .n ≤ fullMemory) × (length (taken .words) ≡ reportFields * fullMemory) × Enterable from (reportsOf taken)
   unfolding cellOfBox
   enter-asks {c} g late home few many =
-      let k = g .core in
       let q = cellAt-split (s .cells) (cornerOf (s .cuts) (boxIn m)) d home in (
-        omega (arith, cuts-count (s .cuts .easts) east-laid, k .tiling .few-cuts eastward),
-        omega (arith, cuts-count (s .cuts .norths) north-laid, k .tiling .few-cuts northward),
-        omega (arith, count-laid waiting (s .waiting) waits),
+        few-taken few,
+        whole-size taken (whole-laid taken _ these) (few-taken few),
         record {
           counted = many ∙ ap length (sym rows);
           whole = whole-is (sweptMemo (s .memo) (d .entries)) held;
-          room = rw (the-work, the-reports) (room (boxIn m) s d k (q .0) (q .1) c (g .bounded) late);
+          room = rw (the-work, reports-laid these) (room (boxIn m) s d (g .core) (q .0) (q .1) c (g .bounded) late);
         },
       )
 
-  pub enter-gives : (r : Held) → Entered from entering r
+  pub enter-gives : (r : Held) → Entered from (reportsOf taken) r
       → (rowsOf (r .table) ≡ flushedInto (boxIn m) s d .cell .entries) × (r .table .n ≡ length (flushedInto (boxIn m) s d .cell .entries)) × (r .memo ≡ memoOf (flushedInto (boxIn m) s d .store .memo))
   unfolding flushedInto swept
   enter-gives r e =
-      let k : enterEach entering (workOf from) ≡ enterEach (filter (inBox (s .cuts) (boxIn m)) (s .waiting)) (record { entries = swept (s .memo) d .entries; memo = sweptMemo (s .memo) (d .entries) }) = rw (the-work, the-reports) in
+      let k : enterEach (reportsOf taken) (workOf from) ≡ enterEach (filter (inBox (s .cuts) (boxIn m)) (s .waiting)) (record { entries = swept (s .memo) d .entries; memo = sweptMemo (s .memo) (d .entries) }) = rw (the-work, reports-laid these) in
       (e .table ∙ ap (λ (x : Work). x .entries) k, e .count ∙ ap (λ (x : Work). length (x .entries)) k, e .memo ∙ ap (λ (x : Work). memoOf (x .memo)) k)

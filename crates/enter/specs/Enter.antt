@@ -11,8 +11,8 @@ use Rattle.entries.specs.Entries.{rowsOf}
 use Rattle.rules.specs.Store.{Report, missedOf}
 use Rattle.rules.specs.Flush.{Work, enterEach}
 use Rattle.desk.specs.Layout.{lineSlots, memoOf}
-use Rattle.desk.specs.declared.Memo.{Memo}
-use Rattle.memo.specs.Memo.{memoIn, linesOf, Whole, mostMissed}
+use Rattle.desk.specs.Held.{Memo, memoIn}
+use Rattle.memo.specs.Memo.{linesOf, Whole, mostMissed}
 
 -- d's table and the memo, as the reports come in
 pub record Held : Type 0 where

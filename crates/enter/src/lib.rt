@@ -4,23 +4,19 @@ ghost use mathlib.Core.Bool.{false};
 ghost use mathlib.Core.List.{[], _∷_};
 ghost use mathlib.Core.Option.{none, some};
 ghost use mathlib.Core.Path.{_≡_};
-ghost use Prim.Native.Nat.{_<_, _≤_};
+ghost use Prim.Native.Nat.{_*_, _≤_};
+ghost use lib.ListN.{length};
 ghost use Rattle.lists.specs.Rows.{alter};
-ghost use Rattle.lists.specs.Sums.{filter};
 ghost use Rattle.entries.specs.Entries.{rowsOf, standsAt};
-ghost use Rattle.rules.specs.Limits.{fullMemory, maxCuts};
-ghost use Rattle.rules.specs.Flush.{inBox, entered};
-ghost use Rattle.desk.specs.Layout.{memoOf};
-ghost use Rattle.desk.specs.Views.{cutsBy};
-ghost use Rattle.memo.specs.Memo.{memoIn, linesOf, RoomyMemo, MissFits};
-ghost use Rattle.boxes.specs.Boxes.{boxIn};
+ghost use Rattle.rules.specs.Limits.{fullMemory};
+ghost use Rattle.rules.specs.Flush.{entered};
+ghost use Rattle.desk.specs.Held.{memoIn, waitingWith};
+ghost use Rattle.desk.specs.Layout.{reportFields, memoOf};
+ghost use Rattle.memo.specs.Memo.{linesOf, RoomyMemo, MissFits};
 ghost use Rattle.waiting.specs.Waiting.{waits, rowOf, reportsOf};
 ghost use Rattle.enter.specs.Enter.{heldIn, Enterable, Entered};
-use boxes::BoxAt;
-use desk::CutList;
 use desk::Desk;
 use desk::Report;
-use desk::Waiting;
 use entries::Entries;
 use entries::Entry;
 use entries::Lookup;
@@ -101,28 +97,24 @@ fn enter_report<'a>(
     moved(table, words, lines, at, report)
 }
 
-// "For each waiting report of m": by rising radio.
+// "For each waiting report of m": these, by rising radio.
 pub fn enter_all<'a>(
-    easts: CutList,
-    norths: CutList,
-    waiting: Waiting,
-    m: BoxAt,
+    reports: &'a [u16; Desk::WAITING_WORDS],
+    n: u16,
     table: Entries,
     words: &'a mut [u16; Desk::MEMO_WORDS],
     lines: u16,
 ) -> Swept
-    requires { ⌜ (easts .n ≤ maxCuts) × (norths .n ≤ maxCuts) × (waiting .n ≤ fullMemory)
-        × Enterable (heldIn table lines (now words)) (filter (inBox (cutsBy easts norths) (boxIn m)) (reportsOf waiting)) ⌝ }
-    ensures { λ r. ⌜ Entered (heldIn table lines (now (words .entry))) (filter (inBox (cutsBy easts norths) (boxIn m)) (reportsOf waiting))
+    requires { ⌜ (n ≤ fullMemory) × (length (now reports) ≡ reportFields * fullMemory)
+        × Enterable (heldIn table lines (now words)) (reportsOf (waitingWith n (now reports))) ⌝ }
+    ensures { λ r. ⌜ Entered (heldIn table lines (now (words .entry))) (reportsOf (waitingWith n (now (reports .entry))))
         (heldIn (r .table) (r .lines) (now (words .exit))) ⌝ }
 {
-    let reports = box_reports::gathered(easts, norths, waiting, m);
-    let n = reports.n as usize;
     let mut all = table;
     let mut notes = lines;
     let mut i: usize = 0;
-    while i < n {
-        let x = reports.rows[i];
+    while i < n as usize {
+        let x = desk::report_at(reports, i);
         let step = enter_report(all, words, notes, x);
         all = step.table;
         notes = step.lines;

@@ -3,7 +3,7 @@ use mathlib.Core.Bool.{true, false}
 use mathlib.Core.List.{List}
 use mathlib.Core.Option.{Option, none, some}
 use mathlib.Core.Path.{_≡_, refl, sym, ap₂, _∙_, subst}
-use Prim.Native.Nat.{ℕ, _+_, _≤_, _<_}
+use Prim.Native.Nat.{ℕ, _+_, _*_, _≤_, _<_}
 use native.Mathlib.Omega.{arith}
 use lib.Dec.{ltb}
 use lib.ListN.{length}
@@ -17,9 +17,8 @@ use Rattle.rules.specs.Flush.{flush}
 use Rattle.rules.specs.Carry.{boxToFlush, waitingIn, flushDue, afterReport}
 use Rattle.rules.specs.Midway.{MidCallRoomy}
 use Rattle.rules.proofs.StepLaws.{after-tally, report-done}
-use Rattle.desk.specs.declared.Grid.{Grid}
-use Rattle.desk.specs.declared.Waiting.{Waiting}
-use Rattle.desk.specs.declared.Memo.{Memo}
+use Rattle.desk.specs.Held.{Grid, Memo, Waiting}
+use Rattle.desk.specs.Layout.{reportFields}
 use Rattle.desk.specs.Laid.{LaidWaiting}
 use Rattle.desk.specs.Views.{cutsBy}
 use Rattle.boxes.specs.declared.BoxAt.{BoxAt}
@@ -29,35 +28,19 @@ use Rattle.boxes.specs.Boxes.{boxIn}
 use Rattle.box_due.specs.Due.{dueOf}
 use Rattle.box_due.proofs.DueLaws.{means-flush, means-nothing}
 use Rattle.waiting.specs.Waiting.{reportsOf}
-use Rattle.waiting.proofs.WaitingLaws.{reports-laid}
+use Rattle.waiting.proofs.WaitingLaws.{reports-laid, whole-laid, whole-size}
 use Rattle.boxes.proofs.BoxLaws.{Boxed}
 use Rattle.directory.proofs.DirectoryLaws.{boxed-due, boxed-counts}
 use Rattle.tally.specs.Tally.{BeforeTally}
-use Rattle.flush.specs.Flush.{BoxOf, BeforeFlush, quiet}
+use Rattle.flush.specs.Flush.{BoxOf, BeforeFlush}
 use Rattle.flush.proofs.FlushLaws.{laid-easts, laid-norths, laid-cuts, few-easts, few-norths, few-wait}
-
--- ---- whether nothing follows
-
-module _ (o : Option Box) (c : ℕ) {d : BoxDue} (told : dueOf d ≡ o) where
-  pub quiet-not : (m : BoxAt) → d ≡ Flush m → false ≡ quiet o c
-  unfolding quiet
-  quiet-not m e = rw (means-flush told m e) refl
-
-  pub quiet-early : d ≡ Nothing → ltb c sweepEvery ≡ quiet o c
-  unfolding quiet
-  quiet-early e = rw (means-nothing told e) refl
-
-pub quiet-due : (o : Option Box) (c : ℕ) → quiet o c ≡ true → (o ≡ none) × (c < sweepEvery)
-unfolding quiet
-quiet-due none c e = (refl, ltb-true c sweepEvery e)
-quiet-due (some m) c e = let z : _≡_ {A = ℕ} 0 1 = cc in absurd (omega arith)
 
 -- ---- the flush
 
 module _ {grid : Grid} {waiting : Waiting} {memo : Memo} {b : List ℕ} (x : BeforeFlush grid waiting memo b) where
   -- what `box_due` asks
-  pub due-asks : (waiting .n ≤ fullMemory) × (grid .easts .n ≤ maxCuts) × (grid .norths .n ≤ maxCuts)
-  due-asks = (few-wait x, few-easts x, few-norths x)
+  pub due-asks : (waiting .n ≤ fullMemory) × (length (waiting .words) ≡ reportFields * fullMemory) × (grid .easts .n ≤ maxCuts) × (grid .norths .n ≤ maxCuts)
+  due-asks = (few-wait x, whole-size waiting (whole-laid waiting (x .store .waiting) (x .laid .waiting-is)) (few-wait x), few-easts x, few-norths x)
 
   due-told : (p : Place)
       → boxToFlush (cutsBy (grid .easts) (grid .norths)) (waitingIn (cutsBy (grid .easts) (grid .norths)) (reportsOf waiting)) (length (reportsOf waiting)) p ≡ flushDue (x .store) p

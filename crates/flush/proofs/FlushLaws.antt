@@ -1,11 +1,11 @@
 -- A flush: the cell of m is found, swept, and takes the reports of m; what is left at hand is the middle of a flush, and the reports of m wait no longer.
 use mathlib.Core.Bool.{true, not}
-use mathlib.Core.List.{List}
+use mathlib.Core.List.{List, map}
 use mathlib.Core.Option.{Option, some}
 use mathlib.Core.Path.{_≡_, refl, sym, ap, _∙_}
-use Prim.Native.Nat.{ℕ, _+_, _≤_}
+use Prim.Native.Nat.{ℕ, _+_, _*_, _≤_}
 use native.Mathlib.Omega.{arith}
-use lib.ListN.{length}
+use lib.ListN.{length, length-map}
 use lib.Seq.{length-take-le}
 use Rattle.terms.specs.Terms.{Place}
 use Rattle.lists.specs.Rows.{Rows}
@@ -22,16 +22,16 @@ use Rattle.rules.specs.Midway.{MidFlush}
 use Rattle.rules.proofs.CutLaws.{reshaped-waiting}
 use Rattle.rules.proofs.FlushLaws.{ready, waiting-flushed}
 use Rattle.rules.proofs.TilingLaws.{cellAt-split, home-some}
-use Rattle.desk.specs.declared.Grid.{Grid}
-use Rattle.desk.specs.declared.Waiting.{Waiting}
-use Rattle.desk.specs.declared.Memo.{Memo}
-use Rattle.desk.specs.Layout.{cutListOf, gridOf, waitingOf}
+use Rattle.desk.specs.Held.{Directory, Grid, Memo, Waiting, gridIn, memoIn}
+use Rattle.desk.specs.Layout.{slotted, cutListOf, slotOf, noSlot, slotFields, directoryOf, gridOf, reportFields, waitingOf}
 use Rattle.desk.specs.Views.{cutsBy, slotsIn}
 use Rattle.desk.specs.Laid.{LaidGrid, LaidMemo, LaidWaiting}
 use Rattle.boxes.specs.declared.BoxAt.{BoxAt}
 use Rattle.boxes.specs.Boxes.{boxIn}
 use Rattle.waiting.specs.Waiting.{reportsOf, WholeWaiting}
+use Rattle.desk.proofs.SlotsLaws.{length-slot-words}
 use Rattle.desk.proofs.UniqueLaws.{cuts-laid}
+use Rattle.waiting.proofs.SlotsLaws.{length-slotted}
 use Rattle.waiting.proofs.WaitingLaws.{reports-laid, whole-laid, count-laid}
 use Rattle.directory.specs.declared.FoundCell.{FoundCell}
 use Rattle.directory.specs.declared.FoundCell.the-variants.{At, Nowhere}
@@ -40,9 +40,8 @@ use Rattle.directory.specs.Directory.{slotAt, foundAt}
 use Rattle.directory.specs.Cuts.{placeOf}
 use Rattle.directory.proofs.DirectoryLaws.{cuts-count, directory-count, found-cell, found-not}
 use Rattle.sweep.specs.declared.Swept.{Swept}
-use Rattle.memo.specs.Memo.{memoIn}
 use Rattle.enter.specs.Enter.{Held, heldIn, Enterable, Entered}
-use Rattle.enter.proofs.RoomLaws.{enter-asks, enter-gives}
+use Rattle.enter.proofs.RoomLaws.{gone-are, left-are, enter-asks, enter-gives}
 use Rattle.cell_last.specs.Settling.{HandFits, BeforeReshape}
 use Rattle.cell_last.proofs.MovedLaws.{grid-same}
 use Rattle.tally.specs.declared.Hand.{Hand}
@@ -73,6 +72,13 @@ module _ {s : Store} {grid : Grid} {memo : Memo} {b : List ℕ} (h : LaidMemo s 
   pub laid-cuts : cutsBy (grid .easts) (grid .norths) ≡ s .cuts
   laid-cuts = λ i. record { easts = cuts-laid laid-easts i; norths = cuts-laid laid-norths i }
 
+-- the directory's array has room for as many cells as there may be
+directory-size : {d : Directory} (cells : List Cell) → d ≡ directoryOf cells → length cells ≤ maxCells → length (d .words) ≡ slotFields * maxCells
+unfolding directoryOf
+directory-size cells e h =
+    let n = length-slotted maxCells noSlot (map slotOf cells) (rw length-map h) in
+    ap (λ (d : Directory). length (d .words)) e ∙ length-slot-words (slotted maxCells noSlot (map slotOf cells)) ∙ ap (λ (k : ℕ). slotFields * k) n
+
 module _ {grid : Grid} {waiting : Waiting} {memo : Memo} {b : List ℕ} (x : BeforeFlush grid waiting memo b) where
   pub few-easts : grid .easts .n ≤ maxCuts
   few-easts = omega (arith, cuts-count (x .store .cuts .easts) (laid-easts (x .laid .in-memo)), x .mid .core .tiling .few-cuts eastward)
@@ -85,8 +91,13 @@ module _ {grid : Grid} {waiting : Waiting} {memo : Memo} {b : List ℕ} (x : Bef
 
   -- what `home_of` asks
   pub home-asks : (m : BoxAt) → BoxOf (grid .easts) (grid .norths) m
-      → FewCuts (grid .easts) (grid .norths) × BoxOf (grid .easts) (grid .norths) m × (grid .cells .n ≤ maxCells)
-  home-asks m k = ((few-easts, few-norths), k, omega (arith, directory-count (x .store .cells) (laid-cells (x .laid .in-memo)), x .mid .core .tiling .few-cells))
+      → FewCuts (grid .easts) (grid .norths) × BoxOf (grid .easts) (grid .norths) m × (grid .cells .n ≤ maxCells) × (length (grid .cells .words) ≡ slotFields * maxCells)
+  home-asks m k = (
+    (few-easts, few-norths),
+    k,
+    omega (arith, directory-count (x .store .cells) (laid-cells (x .laid .in-memo)), x .mid .core .tiling .few-cells),
+    directory-size (x .store .cells) (laid-cells (x .laid .in-memo)) (x .mid .core .tiling .few-cells),
+  )
 
   corner-told : (m : BoxAt)
       → slotAt (slotsIn (grid .cells)) (cornerOf (cutsBy (grid .easts) (grid .norths)) (boxIn m))
@@ -94,12 +105,19 @@ module _ {grid : Grid} {waiting : Waiting} {memo : Memo} {b : List ℕ} (x : Bef
   corner-told m = ap (λ (c : Cuts). slotAt (slotsIn (grid .cells)) (cornerOf c (boxIn m))) (laid-cuts (x .laid .in-memo))
 
   module _ (m : BoxAt) {o : FoundCell} (told : foundAt o ≡ slotAt (slotsIn (grid .cells)) (cornerOf (cutsBy (grid .easts) (grid .norths)) (boxIn m))) where
-    -- it is found: each memory cell has one
-    pub homed : {at : ℕ} → o ≡ At at → BeforeEnter grid at waiting memo (boxIn m) b
-    homed e =
+    -- it is found, for each memory cell has one, and the reports of m are taken out
+    pub homed : {at : ℕ} {taken : Waiting} → o ≡ At at → taken ≡ waitingOf (filter (inBox (cutsBy (grid .easts) (grid .norths)) (boxIn m)) (reportsOf waiting))
+        → BeforeEnter (grid .cells .words) at taken memo (boxIn m) b
+    homed e gone =
         let h = home-some (x .store .cuts) (x .store .cells) (boxIn m) (x .mid .core .tiling) in
         record {
-          before = x;
+          frame = record { easts = grid .easts; norths = grid .norths; cells = grid .cells .n; free = grid .free };
+          store = x .store;
+          early = x .early;
+          mid = x .mid;
+          few = x .few;
+          laid = x .laid .in-memo;
+          these = gone-are (x .store) (boxIn m) (grid .easts) (grid .norths) waiting (laid-easts (x .laid .in-memo)) (laid-norths (x .laid .in-memo)) (x .laid .waiting-is) gone;
           cell = h .0;
           home = home-is (x .store) (boxIn m) (h .1);
           stands = found-cell (x .store .cells) (laid-cells (x .laid .in-memo)) (cornerOf (x .store .cuts) (boxIn m)) (h .0) (h .1) (told ∙ corner-told m) e;
@@ -110,58 +128,55 @@ module _ {grid : Grid} {waiting : Waiting} {memo : Memo} {b : List ℕ} (x : Bef
         let h = home-some (x .store .cuts) (x .store .cells) (boxIn m) (x .mid .core .tiling) in
         found-not (x .store .cells) (laid-cells (x .laid .in-memo)) (cornerOf (x .store .cuts) (boxIn m)) (h .0) (h .1) (told ∙ corner-told m) e
 
-  -- what `cleared` asks
-  pub clear-asks : (waiting .n ≤ fullMemory) × WholeWaiting waiting × (grid .easts .n ≤ maxCuts) × (grid .norths .n ≤ maxCuts)
-  clear-asks = (few-wait, whole-laid waiting (x .store .waiting) (x .laid .waiting-is), few-easts, few-norths)
+  -- what `parted` asks of the reports and the cuts
+  pub part-asks : (waiting .n ≤ fullMemory) × WholeWaiting waiting × (grid .easts .n ≤ maxCuts) × (grid .norths .n ≤ maxCuts)
+  part-asks = (few-wait, whole-laid waiting (x .store .waiting) (x .laid .waiting-is), few-easts, few-norths)
 
 -- ---- d swept, with the reports of m
 
-module _ {grid : Grid} {at : ℕ} {waiting : Waiting} {memo : Memo} (m : BoxAt) {b : List ℕ} (x : BeforeEnter grid at waiting memo (boxIn m) b) where
+module _ {words : List ℕ} {at : ℕ} {taken : Waiting} {memo : Memo} (m : BoxAt) {b : List ℕ} (x : BeforeEnter words at taken memo (boxIn m) b) where
   abbrev store : Store
-  store = x .before .store
+  store = x .store
+
+  abbrev grid : Grid
+  grid = gridIn (x .frame) words
 
   abbrev into : Flushed
   into = flushedInto (boxIn m) store (x .cell)
 
-  abbrev pub home-place : BeforeSweepAt grid at memo b
+  abbrev pub home-place : BeforeSweepAt words at memo b
   home-place = record {
+    frame = x .frame;
     store = store;
     c = store .tally + 1;
-    mid = x .before .mid;
-    late = omega (arith, x .before .early);
-    laid = x .before .laid .in-memo;
+    mid = x .mid;
+    late = omega (arith, x .early);
+    laid = x .laid;
     cell = x .cell;
     stands = x .stands;
   }
 
   -- `swept_at` has swept it
-  module _ (hand : Hand) (ws : List ℕ) (given : (y : BeforeSweepAt grid at memo b) → InHand (swept (y .store .memo) (y .cell)) (sweptMemo (y .store .memo) (y .cell .entries)) hand ws) where
+  module _ (hand : Hand) (ws : List ℕ) (given : (y : BeforeSweepAt words at memo b) → InHand (swept (y .store .memo) (y .cell)) (sweptMemo (y .store .memo) (y .cell .entries)) hand ws) where
     abbrev from : Held
     from = heldIn (hand .table) (hand .lines) ws
 
     cell-swept : InHand (swept (store .memo) (x .cell)) (sweptMemo (store .memo) (x .cell .entries)) hand ws
     cell-swept = given home-place
 
-    abbrev entering : Rows Report
-    entering = filter (inBox (cutsBy (grid .easts) (grid .norths)) (boxIn m)) (reportsOf waiting)
-
     -- what `enter_all` asks
-    pub entered-asks : (grid .easts .n ≤ maxCuts) × (grid .norths .n ≤ maxCuts) × (waiting .n ≤ fullMemory) × Enterable from entering
-    entered-asks =
-        let r = x .before in
-        enter-asks store (x .cell) m (grid .easts) (grid .norths) waiting from (laid-easts (r .laid .in-memo)) (laid-norths (r .laid .in-memo)) (r .laid .waiting-is) (cell-swept .rows) (cell-swept .memo-is)
-        (r .mid) (omega (arith, r .early)) (x .home) (r .few) (cell-swept .count)
+    pub entered-asks : (taken .n ≤ fullMemory) × (length (taken .words) ≡ reportFields * fullMemory) × Enterable from (reportsOf taken)
+    entered-asks = enter-asks store (x .cell) m taken from (x .these) (cell-swept .rows) (cell-swept .memo-is) (x .mid) (omega (arith, x .early)) (x .home) (x .few) (cell-swept .count)
 
     -- what it leaves
-    pub entered-gives : (r : Swept) {ws′ : List ℕ} → Entered from entering (heldIn (r .table) (r .lines) ws′) → InHand (into .cell) (into .store .memo) (record { chain = hand .chain; table = r .table; lines = r .lines }) ws′
+    pub entered-gives : (r : Swept) {ws′ : List ℕ} → Entered from (reportsOf taken) (heldIn (r .table) (r .lines) ws′) → InHand (into .cell) (into .store .memo) (record { chain = hand .chain; table = r .table; lines = r .lines }) ws′
     unfolding flushedInto swept
     entered-gives r {ws′} e =
-        let y = x .before in
-        let k = enter-gives store (x .cell) m (grid .easts) (grid .norths) waiting from (laid-easts (y .laid .in-memo)) (laid-norths (y .laid .in-memo)) (y .laid .waiting-is) (cell-swept .rows) (cell-swept .memo-is) (heldIn (r .table) (r .lines) ws′) e in
+        let k = enter-gives store (x .cell) m taken from (x .these) (cell-swept .rows) (cell-swept .memo-is) (heldIn (r .table) (r .lines) ws′) e in
         record {
           bound = cell-swept .bound;
           chained = cell-swept .chained;
-          few = omega (arith, e .count, entered-asks .3 .room .entries-fit);
+          few = omega (arith, e .count, entered-asks .2 .room .entries-fit);
           count = k .1;
           rows = k .0;
           memo-is = k .2;
@@ -178,17 +193,16 @@ module _ {grid : Grid} {at : ℕ} {waiting : Waiting} {memo : Memo} (m : BoxAt) 
 
   into-laid : LaidGrid (into .store) grid b
   unfolding flushedInto
-  into-laid = grid-same store (into .store) refl refl refl (x .before .laid .in-memo .in-grid)
+  into-laid = grid-same store (into .store) refl refl refl (x .laid .in-grid)
 
   into-ready : MidFlush into (x .cell) (among .before) (among .after) (store .memo) (length (filter (inBox (store .cuts) (boxIn m)) (store .waiting))) (store .tally + 1)
   into-ready =
-      let r = x .before in
-      let k = r .mid .core in
-      ready (boxIn m) store (x .cell) k among home-inside (store .tally + 1) (r .mid .bounded) (omega (arith, r .early))
-      (omega (arith, waiting-flushed (boxIn m) store (x .cell) k among home-inside, r .few))
+      let k = x .mid .core in
+      ready (boxIn m) store (x .cell) k among home-inside (store .tally + 1) (x .mid .bounded) (omega (arith, x .early))
+      (omega (arith, waiting-flushed (boxIn m) store (x .cell) k among home-inside, x .few))
 
   -- `entered` has entered the reports
-  module _ (hand : Hand) (ws : List ℕ) (given : (y : BeforeEnter grid at waiting memo (boxIn m) b) → InHand (flushedInto (boxIn m) (y .before .store) (y .cell) .cell) (flushedInto (boxIn m) (y .before .store) (y .cell) .store .memo) hand ws) where
+  module _ (hand : Hand) (ws : List ℕ) (given : (y : BeforeEnter words at taken memo (boxIn m) b) → InHand (flushedInto (boxIn m) (y .store) (y .cell) .cell) (flushedInto (boxIn m) (y .store) (y .cell) .store .memo) hand ws) where
     midway : BeforeReshape grid at (pagesOf (hand .chain)) (rowsOf (hand .table)) (memoIn (hand .lines) ws) b
     midway =
         let i = given x in
@@ -201,7 +215,7 @@ module _ {grid : Grid} {at : ℕ} {waiting : Waiting} {memo : Memo} (m : BoxAt) 
           n = length (filter (inBox (store .cuts) (boxIn m)) (store .waiting));
           c = store .tally + 1;
           mid = into-ready;
-          late = omega (arith, x .before .early);
+          late = omega (arith, x .early);
           place = sym (length-take-le at (store .cells) (omega (arith, x .stands .inside)));
           chained = i .chained;
           entered = i .rows;
@@ -209,7 +223,7 @@ module _ {grid : Grid} {at : ℕ} {waiting : Waiting} {memo : Memo} (m : BoxAt) 
         }
 
     -- what `reshape` asks
-    pub reshape-asks : HandFits (hand .chain) (hand .table) × (hand .table .n ≡ length (rowsOf (hand .table))) × BeforeReshape grid at (pagesOf (hand .chain)) (rowsOf (hand .table)) (memoIn (hand .lines) ws) b
+    reshape-asks : HandFits (hand .chain) (hand .table) × (hand .table .n ≡ length (rowsOf (hand .table))) × BeforeReshape grid at (pagesOf (hand .chain)) (rowsOf (hand .table)) (memoIn (hand .lines) ws) b
     reshape-asks = let i = given x in ((i .bound, i .few), i .count ∙ ap length (sym (i .rows)), midway)
 
     -- what it leaves
@@ -218,21 +232,28 @@ module _ {grid : Grid} {at : ℕ} {waiting : Waiting} {memo : Memo} (m : BoxAt) 
     unfolding midway
     reshape-gives f = f midway
 
-  waiting-left : waitingOf (filter (λ v. not (inBox (cutsBy (grid .easts) (grid .norths)) (boxIn m) v)) (reportsOf waiting)) ≡ waitingOf (into .store .waiting)
-  unfolding flushedInto
-  waiting-left =
-      rw (reports-laid (x .before .laid .waiting-is)) (ap (λ (c : Cuts). waitingOf (filter (λ v. not (inBox c (boxIn m) v)) (store .waiting))) (laid-cuts (x .before .laid .in-memo)))
+  flush-gives : {g : Grid} {w : Waiting} {lines : Memo} {b′ : List ℕ} → LaidMemo (reshaped into) g lines b′ → w ≡ waitingOf (filter (λ v. not (inBox (store .cuts) (boxIn m) v)) (store .waiting))
+      → LaidWaiting (flush (boxIn m) store) g w lines b′
+  unfolding flush flushedInto
+  flush-gives z e = rw (x .home) (record { in-memo = z; waiting-is = e ∙ ap waitingOf (sym (reshaped-waiting into)) })
 
-  flush-gives : {g : Grid} {w : Waiting} {lines : Memo} {b′ : List ℕ} → LaidMemo (reshaped into) g lines b′
-      → w ≡ waitingOf (filter (λ v. not (inBox (cutsBy (grid .easts) (grid .norths)) (boxIn m) v)) (reportsOf waiting)) → LaidWaiting (flush (boxIn m) store) g w lines b′
-  unfolding flush
-  flush-gives z e = rw (x .home) (record { in-memo = z; waiting-is = e ∙ waiting-left ∙ ap waitingOf (sym (reshaped-waiting into)) })
-
--- the whole, in the words of the calls
-pub flush-returns : {grid : Grid} {waiting : Waiting} {memo : Memo} {b : List ℕ} (x : BeforeFlush grid waiting memo b) (m : BoxAt) {o : FoundCell} {at : ℕ}
+-- the whole, in the words of the calls: what `reshape` asks, and what the flush leaves
+pub reshape-wants : {grid : Grid} {waiting : Waiting} {memo : Memo} {b : List ℕ} (x : BeforeFlush grid waiting memo b) (m : BoxAt) {o : FoundCell} {at : ℕ} {taken : Waiting}
     → foundAt o ≡ slotAt (slotsIn (grid .cells)) (cornerOf (cutsBy (grid .easts) (grid .norths)) (boxIn m)) → o ≡ At at
-    → (hand : Hand) (ws : List ℕ) → ((y : BeforeEnter grid at waiting memo (boxIn m) b) → InHand (flushedInto (boxIn m) (y .before .store) (y .cell) .cell) (flushedInto (boxIn m) (y .before .store) (y .cell) .store .memo) hand ws)
+    → taken ≡ waitingOf (filter (inBox (cutsBy (grid .easts) (grid .norths)) (boxIn m)) (reportsOf waiting))
+    → (hand : Hand) (ws : List ℕ) → ((y : BeforeEnter (grid .cells .words) at taken memo (boxIn m) b) → InHand (flushedInto (boxIn m) (y .store) (y .cell) .cell) (flushedInto (boxIn m) (y .store) (y .cell) .store .memo) hand ws)
+    → HandFits (hand .chain) (hand .table) × (hand .table .n ≡ length (rowsOf (hand .table))) × BeforeReshape grid at (pagesOf (hand .chain)) (rowsOf (hand .table)) (memoIn (hand .lines) ws) b
+unfolding homed
+reshape-wants x m told e gone hand ws given = reshape-asks m (homed x m told e gone) hand ws given
+
+pub flush-returns : {grid : Grid} {waiting : Waiting} {memo : Memo} {b : List ℕ} (x : BeforeFlush grid waiting memo b) (m : BoxAt) {o : FoundCell} {at : ℕ} {taken : Waiting}
+    → foundAt o ≡ slotAt (slotsIn (grid .cells)) (cornerOf (cutsBy (grid .easts) (grid .norths)) (boxIn m)) → o ≡ At at
+    → taken ≡ waitingOf (filter (inBox (cutsBy (grid .easts) (grid .norths)) (boxIn m)) (reportsOf waiting))
+    → (hand : Hand) (ws : List ℕ) → ((y : BeforeEnter (grid .cells .words) at taken memo (boxIn m) b) → InHand (flushedInto (boxIn m) (y .store) (y .cell) .cell) (flushedInto (boxIn m) (y .store) (y .cell) .store .memo) hand ws)
     → {g : Grid} {w : Waiting} {lines : Memo} {b′ : List ℕ} → ((y : BeforeReshape grid at (pagesOf (hand .chain)) (rowsOf (hand .table)) (memoIn (hand .lines) ws) b) → LaidMemo (reshaped (y .flushed)) g lines b′)
     → w ≡ waitingOf (filter (λ v. not (inBox (cutsBy (grid .easts) (grid .norths)) (boxIn m) v)) (reportsOf waiting)) → LaidWaiting (flush (boxIn m) (x .store)) g w lines b′
 unfolding homed
-flush-returns x m told e hand ws given f w = let y = homed x m told e in flush-gives m y (reshape-gives m y hand ws given f) w
+flush-returns {grid} {waiting} x m told e gone hand ws given f w =
+    let y = homed x m told e gone in
+    flush-gives m y (reshape-gives m y hand ws given f)
+    (left-are (x .store) (boxIn m) (grid .easts) (grid .norths) waiting (laid-easts (x .laid .in-memo)) (laid-norths (x .laid .in-memo)) (x .laid .waiting-is) w)

@@ -1,21 +1,20 @@
--- What a flush finds of the desk's parts and the pages, and whether anything follows a report (01, "Flush", "How a record is carried out").
-use mathlib.Core.Bool.{Bool, false}
+-- What a flush finds of the desk's parts and the pages, (01, "Flush").
 use mathlib.Core.List.{List}
-use mathlib.Core.Option.{Option, none, some}
+use mathlib.Core.Option.{some}
 use mathlib.Core.Path.{_≡_}
 use Prim.Native.Nat.{ℕ, _+_, _≤_, _<_}
-use lib.Dec.{ltb}
 use lib.ListN.{length}
 use Rattle.rules.specs.Limits.{maxCuts, fullMemory, sweepEvery}
 use Rattle.rules.specs.Grid.{Box}
 use Rattle.rules.specs.Store.{Cell, Store}
-use Rattle.rules.specs.Flush.{cellOfBox}
+use Rattle.lists.specs.Sums.{filter}
+use Rattle.rules.specs.Flush.{inBox, cellOfBox}
 use Rattle.rules.specs.Midway.{MidCall}
 use Rattle.desk.specs.declared.CutList.{CutList}
-use Rattle.desk.specs.declared.Grid.{Grid}
-use Rattle.desk.specs.declared.Waiting.{Waiting}
-use Rattle.desk.specs.declared.Memo.{Memo}
-use Rattle.desk.specs.Laid.{LaidWaiting}
+use Rattle.desk.specs.declared.Frame.{Frame}
+use Rattle.desk.specs.Held.{Grid, Memo, Waiting, directoryIn, gridIn}
+use Rattle.desk.specs.Layout.{waitingOf}
+use Rattle.desk.specs.Laid.{LaidMemo, LaidWaiting}
 use Rattle.boxes.specs.declared.BoxAt.{BoxAt}
 use Rattle.directory.specs.Directory.{Stands}
 
@@ -39,16 +38,16 @@ pub record BeforeFlush (grid : Grid) (waiting : Waiting) (memo : Memo) (bytes : 
   pub few : length (store .waiting) ≤ fullMemory
   pub laid : LaidWaiting store grid waiting memo bytes
 
--- the reports of m are to be entered in its cell, found at place `at` of the round
-pub record BeforeEnter (grid : Grid) (at : ℕ) (waiting : Waiting) (memo : Memo) (m : Box) (bytes : List ℕ) : Type 0 where
-  pub before : BeforeFlush grid waiting memo bytes
+-- the reports of m are taken out of the others and to be entered in its cell, found at place `at` of the round: the directory's array is at hand, with some
+-- frame
+pub record BeforeEnter (words : List ℕ) (at : ℕ) (taken : Waiting) (memo : Memo) (m : Box) (bytes : List ℕ) : Type 0 where
+  pub frame : Frame
+  pub store : Store
+  pub early : store .tally < sweepEvery
+  pub mid : MidCall store (store .tally + 1)
+  pub few : length (store .waiting) ≤ fullMemory
+  pub laid : LaidMemo store (gridIn frame words) memo bytes
+  pub these : taken ≡ waitingOf (filter (inBox (store .cuts) m) (store .waiting))
   pub cell : Cell
-  pub home : cellOfBox (before .store) m ≡ some cell
-  pub stands : Stands (grid .cells) (before .store .cells) cell at
-
--- ---- "After sign-on or report"
-
--- nothing follows but that the record is counted: no memory cell is due, and c does not come to 16
-unfoldable pub quiet : Option Box → ℕ → Bool
-quiet none c = ltb c sweepEvery
-quiet (some m) c = false
+  pub home : cellOfBox store m ≡ some cell
+  pub stands : Stands (directoryIn (frame .cells) words) (store .cells) cell at

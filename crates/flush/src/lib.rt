@@ -1,68 +1,64 @@
 // What follows the own effect of a sign-on or report, before the tally counts it: the memory cell that is due is flushed, if one is.
 ghost use mathlib.Core.Path.{_≡_};
-ghost use Prim.Native.Nat.{_+_, _<_, _≤_};
+ghost use Prim.Native.Nat.{_*_, _≤_};
 ghost use lib.ListN.{length};
-ghost use Rattle.rules.specs.Limits.{maxCells, fullMemory, sweepEvery};
+ghost use Rattle.rules.specs.Limits.{maxCells};
 ghost use Rattle.rules.specs.Grid.{cornerOf};
 ghost use Rattle.rules.specs.Flush.{flushedInto, flush};
-ghost use Rattle.rules.specs.Carry.{waitingIn, boxToFlush, afterReport};
+ghost use Rattle.rules.specs.Carry.{afterReport};
+ghost use Rattle.desk.specs.Held.{directoryIn, gridIn, waitingWith, memoIn};
+ghost use Rattle.desk.specs.Layout.{slotFields};
 ghost use Rattle.desk.specs.Laid.{LaidWaiting};
 ghost use Rattle.desk.specs.Views.{cutsBy, slotsIn};
-ghost use Rattle.memo.specs.Memo.{memoIn};
 ghost use Rattle.boxes.specs.Boxes.{boxIn};
-ghost use Rattle.waiting.specs.Waiting.{reportsOf};
 ghost use Rattle.directory.specs.Directory.{slotAt, foundAt};
 ghost use Rattle.tally.specs.Tally.{InHand};
-ghost use Rattle.flush.specs.Flush.{FewCuts, BoxOf, BeforeFlush, BeforeEnter, quiet};
+ghost use Rattle.flush.specs.Flush.{FewCuts, BoxOf, BeforeFlush, BeforeEnter};
 use box_due::BoxDue;
 use boxes::BoxAt;
-use desk::CutList;
 use desk::Desk;
-use desk::Grid;
-use desk::Waiting;
+use desk::Frame;
 use directory::FoundCell;
 use tally::Hand;
 
-// What a flush changes, beside the memo's array.
+// What a flush changes, beside the arrays.
 pub struct Emptied {
-    pub grid: Grid,
-    pub waiting: Waiting,
+    pub frame: Frame,
+    pub waiting: u16,
     pub lines: u16,
 }
 
 // Where the cell of m stands in the round.
-fn home_of(grid: Grid, m: BoxAt) -> FoundCell
-    requires { ⌜ FewCuts (grid .easts) (grid .norths) × BoxOf (grid .easts) (grid .norths) m × (grid .cells .n ≤ maxCells) ⌝ }
-    ensures { λ r. ⌜ foundAt r ≡ slotAt (slotsIn (grid .cells)) (cornerOf (cutsBy (grid .easts) (grid .norths)) (boxIn m)) ⌝ }
+fn home_of(frame: Frame, cells: &[u16; Desk::CELL_WORDS], m: BoxAt) -> FoundCell
+    requires { ⌜ FewCuts (frame .easts) (frame .norths) × BoxOf (frame .easts) (frame .norths) m × (frame .cells ≤ maxCells)
+        × (length (now cells) ≡ slotFields * maxCells) ⌝ }
+    ensures { λ r. ⌜ foundAt r
+        ≡ slotAt (slotsIn (directoryIn (frame .cells) (now (cells .entry)))) (cornerOf (cutsBy (frame .easts) (frame .norths)) (boxIn m)) ⌝ }
 {
-    let easts = grid.easts;
-    let norths = grid.norths;
-    let cells = grid.cells;
-    let corner = directory::corner_of(easts, norths, m);
-    directory::cell_at(cells, corner.east, corner.north)
+    let corner = directory::corner_of(frame.easts, frame.norths, m);
+    directory::cell_at(cells, frame.cells, corner.east, corner.north)
 }
 
 // "sweep d. For each waiting report of m ..": d, at place `at` of the round, with the reports.
 fn entered(
     buffer: &[u8],
-    grid: Grid,
+    cells: &[u16; Desk::CELL_WORDS],
     at: usize,
-    waiting: Waiting,
+    taken: &[u16; Desk::WAITING_WORDS],
+    n: u16,
     words: &mut [u16; Desk::MEMO_WORDS],
     lines: u16,
     m: BoxAt,
 ) -> Hand
-    requires { ⌜ BeforeEnter grid at waiting (memoIn lines (now words)) (boxIn m) (now buffer) ⌝ }
-    ensures { λ r. ⌜ ((x : BeforeEnter grid at waiting (memoIn lines (now (words .entry))) (boxIn m) (now (buffer .entry)))
-        → InHand (flushedInto (boxIn m) (x .before .store) (x .cell) .cell) (flushedInto (boxIn m) (x .before .store) (x .cell) .store .memo) r
-        (now (words .exit))) ⌝ }
+    requires { ⌜ BeforeEnter (now cells) at (waitingWith n (now taken)) (memoIn lines (now words)) (boxIn m) (now buffer) ⌝ }
+    ensures { λ r. ⌜ ((x : BeforeEnter (now (cells .entry)) at (waitingWith n (now (taken .entry))) (memoIn lines (now (words .entry))) (boxIn m)
+        (now (buffer .entry)))
+        → InHand (flushedInto (boxIn m) (x .store) (x .cell) .cell) (flushedInto (boxIn m) (x .store) (x .cell) .store .memo) r (now (words .exit))) ⌝ }
 {
-    let d = tally::swept_at(buffer, grid, at, words, lines);
+    let d = tally::swept_at(buffer, cells, at, words, lines);
     let chain = d.chain;
     let table = d.table;
-    let easts = grid.easts;
-    let norths = grid.norths;
-    let done = enter::enter_all(easts, norths, waiting, m, table, words, d.lines);
+    let done = enter::enter_all(taken, n, table, words, d.lines);
     let all = done.table;
     Hand {
         chain,
@@ -71,38 +67,42 @@ fn entered(
     }
 }
 
-// "Flush memory cell m": its reports go into the cell in which it lies, which is then grown, split or joined, and they wait no longer.
+// "Flush memory cell m": its reports wait no longer; they go into the cell in which it lies, which is then grown, split or joined.
 pub fn flush(
     buffer: &mut [u8],
-    grid: Grid,
-    waiting: Waiting,
+    frame: Frame,
+    cells: &mut [u16; Desk::CELL_WORDS],
+    waiting: &mut [u16; Desk::WAITING_WORDS],
+    n: u16,
     words: &mut [u16; Desk::MEMO_WORDS],
     lines: u16,
     m: BoxAt,
 ) -> Emptied
-    requires { ⌜ BeforeFlush grid waiting (memoIn lines (now words)) (now buffer) × BoxOf (grid .easts) (grid .norths) m ⌝ }
-    ensures { λ r. ⌜ ((x : BeforeFlush grid waiting (memoIn lines (now (words .entry))) (now (buffer .entry)))
-        → LaidWaiting (flush (boxIn m) (x .store)) (r .grid) (r .waiting) (memoIn (r .lines) (now (words .exit))) (now (buffer .exit))) ⌝ }
+    requires { ⌜ BeforeFlush (gridIn frame (now cells)) (waitingWith n (now waiting)) (memoIn lines (now words)) (now buffer)
+        × BoxOf (frame .easts) (frame .norths) m ⌝ }
+    ensures { λ r. ⌜ ((x : BeforeFlush (gridIn frame (now (cells .entry))) (waitingWith n (now (waiting .entry))) (memoIn lines (now (words .entry)))
+        (now (buffer .entry)))
+        → LaidWaiting (flush (boxIn m) (x .store)) (gridIn (r .frame) (now (cells .exit))) (waitingWith (r .waiting) (now (waiting .exit)))
+        (memoIn (r .lines) (now (words .exit))) (now (buffer .exit))) ⌝ }
 {
-    let FoundCell::At(at) = home_of(grid, m) else {
+    let FoundCell::At(at) = home_of(frame, cells, m) else {
         // not reached: each memory cell of a store lies in a cell
         return Emptied {
-            grid,
-            waiting,
+            frame,
+            waiting: n,
             lines,
         };
     };
-    let d = entered(buffer, grid, at, waiting, words, lines, m);
+    let mut taken = [0u16; Desk::WAITING_WORDS];
+    let sides = box_reports::parted(frame.easts, frame.norths, waiting, n, m, &mut taken);
+    let d = entered(buffer, cells, at, &taken, sides.gone, words, lines, m);
     let chain = d.chain;
     let table = d.table;
-    let done = reshape::reshape(buffer, grid, at, chain, table, words, d.lines);
-    let easts = grid.easts;
-    let norths = grid.norths;
-    let left = box_reports::cleared(easts, norths, waiting, m);
-    let shape = done.grid;
+    let done = reshape::reshape(buffer, frame, cells, at, chain, table, words, d.lines);
+    let shape = done.frame;
     Emptied {
-        grid: shape,
-        waiting: left,
+        frame: shape,
+        waiting: sides.left,
         lines: done.lines,
     }
 }
@@ -110,46 +110,28 @@ pub fn flush(
 // "After sign-on or report": the memory cell that is due is flushed, if one is.
 pub fn after_report(
     buffer: &mut [u8],
-    grid: Grid,
-    waiting: Waiting,
+    frame: Frame,
+    cells: &mut [u16; Desk::CELL_WORDS],
+    waiting: &mut [u16; Desk::WAITING_WORDS],
+    n: u16,
     words: &mut [u16; Desk::MEMO_WORDS],
     lines: u16,
     east: u16,
     north: u16,
 ) -> Emptied
-    requires { ⌜ BeforeFlush grid waiting (memoIn lines (now words)) (now buffer) ⌝ }
-    ensures { λ r. ⌜ ((x : BeforeFlush grid waiting (memoIn lines (now (words .entry))) (now (buffer .entry)))
-        → LaidWaiting (afterReport (record { east = east; north = north }) (x .store)) (r .grid) (r .waiting) (memoIn (r .lines) (now (words .exit)))
-        (now (buffer .exit))) ⌝ }
+    requires { ⌜ BeforeFlush (gridIn frame (now cells)) (waitingWith n (now waiting)) (memoIn lines (now words)) (now buffer) ⌝ }
+    ensures { λ r. ⌜ ((x : BeforeFlush (gridIn frame (now (cells .entry))) (waitingWith n (now (waiting .entry))) (memoIn lines (now (words .entry)))
+        (now (buffer .entry)))
+        → LaidWaiting (afterReport (record { east = east; north = north }) (x .store)) (gridIn (r .frame) (now (cells .exit)))
+        (waitingWith (r .waiting) (now (waiting .exit))) (memoIn (r .lines) (now (words .exit))) (now (buffer .exit))) ⌝ }
 {
-    let easts = grid.easts;
-    let norths = grid.norths;
-    let BoxDue::Flush(m) = box_due::box_due(easts, norths, waiting, east, north) else {
+    let BoxDue::Flush(m) = box_due::box_due(frame.easts, frame.norths, waiting, n, east, north)
+    else {
         return Emptied {
-            grid,
-            waiting,
+            frame,
+            waiting: n,
             lines,
         };
     };
-    flush(buffer, grid, waiting, words, lines, m)
-}
-
-// Whether nothing follows a report but that it is counted, as after most: no memory cell is due, and the tally does not come to 16.
-pub fn is_quiet(
-    easts: CutList,
-    norths: CutList,
-    waiting: Waiting,
-    tally: u16,
-    east: u16,
-    north: u16,
-) -> bool
-    requires { ⌜ (waiting .n ≤ fullMemory) × FewCuts easts norths × (tally < sweepEvery) ⌝ }
-    ensures { λ r. ⌜ r ≡ quiet
-        (boxToFlush (cutsBy easts norths) (waitingIn (cutsBy easts norths) (reportsOf waiting)) (length (reportsOf waiting))
-        (record { east = east; north = north })) (tally + 1) ⌝ }
-{
-    match box_due::box_due(easts, norths, waiting, east, north) {
-        BoxDue::Flush(_) => false,
-        BoxDue::Nothing => tally + 1 < Desk::SWEEP_EVERY,
-    }
+    flush(buffer, frame, cells, waiting, n, words, lines, m)
 }

@@ -27,14 +27,14 @@ use Rattle.rules.specs.WellFormed.{WellFormed, staleIn}
 use Rattle.rules.proofs.BooksLaws.{memo-total}
 use Rattle.rules.proofs.WellLaws.{well-core}
 use Rattle.desk.specs.declared.Line.{Line}
-use Rattle.desk.specs.declared.Memo.{Memo}
+use Rattle.desk.specs.Held.{Memo, memoIn}
 use Rattle.desk.specs.Layout.{lineSlots, lineFields, fieldsOf, slotted, lineWith, lineOf, noLine, memoOf}
 use Rattle.desk.specs.Views.{linesIn}
 use Rattle.desk.proofs.LinesLaws.{lines-laid, words-laid, length-lines-in}
 use Rattle.desk.proofs.UniqueLaws.{take-memo}
 use Rattle.memo.specs.declared.Spot.{Spot}
 use Rattle.memo.specs.declared.Spot.the-variants.{Held, Open}
-use Rattle.memo.specs.Memo.{memoIn, lastOf, rowOf, noRow, linesOf, Plain, Whole, mostMissed, spotOf, spotIn}
+use Rattle.memo.specs.Memo.{lastOf, rowOf, noRow, linesOf, Plain, Whole, mostMissed, spotOf, spotIn}
 
 -- ---- lists
 

@@ -11,17 +11,13 @@ use Rattle.lists.specs.Rows.{Row, Rows, Rising, find, rank}
 use Rattle.lists.specs.Tests.{isSome}
 use Rattle.rules.specs.Store.{Line as StoreLine, missedOf}
 use Rattle.desk.specs.declared.Line.{Line}
-use Rattle.desk.specs.declared.Memo.{Memo}
+use Rattle.desk.specs.Held.{Memo}
 use Rattle.desk.specs.Layout.{lineSlots, lineOf, memoOf}
 use Rattle.desk.specs.Views.{linesIn}
 use Rattle.memo.specs.declared.Spot.{Spot}
 use Rattle.memo.specs.declared.Spot.the-variants.{Held, Open}
 
 -- ---- the array as rows
-
--- the memo of so many lines in these words
-abbrev pub memoIn : ℕ → List ℕ → Memo
-memoIn n words = record { n = n; words = words }
 
 -- the place of a line, or "none" where it is not marked to have one
 abbrev pub lastOf : Line → Option Place

@@ -7,7 +7,8 @@ ghost use Rattle.lists.specs.Parts.{insertAt};
 ghost use Rattle.lists.specs.Rows.{Rising, rank, alter};
 ghost use Rattle.rules.specs.Flush.{placed, raised};
 ghost use Rattle.desk.specs.Layout.{lineSlots, lineFields, memoOf};
-ghost use Rattle.memo.specs.Memo.{memoIn, lastOf, rowOf, linesOf, Plain, Whole, spotOf, spotIn, GoodMemo, RoomyMemo, MissFits};
+ghost use Rattle.desk.specs.Held.{memoIn};
+ghost use Rattle.memo.specs.Memo.{lastOf, rowOf, linesOf, Plain, Whole, spotOf, spotIn, GoodMemo, RoomyMemo, MissFits};
 use desk::Desk;
 use desk::Line;
 

@@ -22,7 +22,7 @@ use Rattle.lists.proofs.TestsLaws.{and-both, both-left, both-right}
 use Rattle.lists.proofs.SearchLaws.{rank-between, rising-order}
 use Rattle.rules.specs.Store.{Line as StoreLine}
 use Rattle.desk.specs.declared.Line.{Line}
-use Rattle.desk.specs.declared.Memo.{Memo}
+use Rattle.desk.specs.Held.{Memo}
 use Rattle.desk.specs.Layout.{lineSlots, lineFields, slotted, noLine, lineOf, memoOf}
 use Rattle.desk.specs.Views.{linesIn}
 use Rattle.desk.proofs.LinesLaws.{length-lines-in, lines-laid, words-laid}

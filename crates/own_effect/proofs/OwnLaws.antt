@@ -10,8 +10,7 @@ use Rattle.lists.proofs.TestsLaws.{one-if-false}
 use Rattle.rules.specs.Flush.{raised}
 use Rattle.rules.specs.Carry.{wasNew}
 use Rattle.desk.specs.declared.Report.{Report}
-use Rattle.desk.specs.declared.Waiting.{Waiting}
-use Rattle.desk.specs.declared.Memo.{Memo}
+use Rattle.desk.specs.Held.{Memo, Waiting}
 use Rattle.desk.specs.Layout.{memoOf}
 use Rattle.memo.specs.Memo.{linesOf, Whole}
 use Rattle.waiting.specs.declared.Waited.{Waited}

@@ -1,8 +1,8 @@
 -- The desk of a well-formed store: what each record's own effect asks of its parts holds, and what it gives are the parts of the store after it.
 use mathlib.Core.Bool.{true, cond}
 use mathlib.Core.List.{List}
-use mathlib.Core.Option.{Option, none, some}
-use mathlib.Core.Path.{_≡_, sym, ap, ap₂, _∙_, subst}
+use mathlib.Core.Option.{none, some}
+use mathlib.Core.Path.{_≡_, sym, ap, _∙_, subst}
 use Prim.Native.Nat.{ℕ, _≤_, _<_}
 use native.Mathlib.Omega.{arith}
 use Rattle.terms.specs.Terms.{Place, maxOn}
@@ -14,11 +14,9 @@ use Rattle.rules.specs.Carry.{onCount, wasNew, signedOn, reported, signedOff}
 use Rattle.rules.specs.WellFormed.{WellFormed}
 use Rattle.rules.proofs.WellLaws.{well-core}
 use Rattle.rules.proofs.BooksLaws.{missed-few}
-use Rattle.desk.specs.declared.Waiting.{Waiting}
-use Rattle.desk.specs.declared.Memo.{Memo}
-use Rattle.desk.specs.declared.On.{On}
+use Rattle.desk.specs.Held.{Memo, On, Waiting, deskGrid, deskWaiting, deskMemo, deskOn}
 use Rattle.desk.specs.declared.Desk.{Desk}
-use Rattle.desk.specs.Layout.{gridOf, waitingOf, memoOf, onOf, deskOf, storeLeaves, Laid}
+use Rattle.desk.specs.Layout.{gridOf, waitingOf, memoOf, onOf, deskHolding, deskOf, storeLeaves, Laid}
 use Rattle.desk.specs.Views.{radiosOf}
 use Rattle.memo.specs.Memo.{linesOf, RoomyMemo, MissFits}
 use Rattle.memo.proofs.MemoLaws.{lines-are, whole-is, count-is, rising-is, well-memo}
@@ -26,7 +24,6 @@ use Rattle.waiting.specs.Waiting.{reportsOf, WholeWaiting, GoodWaiting, RoomyWa
 use Rattle.waiting.specs.On.{WholeOn, GoodOn, RoomyOn}
 use Rattle.waiting.proofs.WaitingLaws.{reports-laid, whole-laid, count-laid}
 use Rattle.waiting.proofs.OnLaws.{radios-laid, whole-on-laid, count-on-laid}
-use Rattle.own_effect.specs.declared.SignedOn.{SignedOn}
 
 -- ---- room in the memo
 
@@ -40,87 +37,81 @@ abbrev withRows : Store → Rows StoreReport → Rows StoreLine → Rows (Unit {
 withRows s l m o = withWaiting l (withMemo m (withOn o s))
 
 module _ (s : Store) (d : Desk) (held : d ≡ deskOf s) where
-  pub waiting-held : d .waiting ≡ waitingOf (s .waiting)
+  pub waiting-held : deskWaiting d ≡ waitingOf (s .waiting)
   unfolding deskOf
-  waiting-held = ap (λ (x : Desk). x .waiting) held
+  waiting-held = ap deskWaiting held
 
-  pub memo-held : d .memo ≡ memoOf (s .memo)
+  pub memo-held : deskMemo d ≡ memoOf (s .memo)
   unfolding deskOf
-  memo-held = ap (λ (x : Desk). x .memo) held
+  memo-held = ap deskMemo held
 
-  pub on-held : d .on ≡ onOf (s .on)
+  pub on-held : deskOn d ≡ onOf (s .on)
   unfolding deskOf
-  on-held = ap (λ (x : Desk). x .on) held
+  on-held = ap deskOn held
 
   -- ---- what is asked
 
   module _ (w : WellFormed s) where
-    waiting-few : d .waiting .n < fullMemory
-    waiting-few = omega (arith, count-laid (d .waiting) (s .waiting) waiting-held, w .few-wait)
+    waiting-few : d .parts .waiting < fullMemory
+    waiting-few = omega (arith, count-laid (deskWaiting d) (s .waiting) waiting-held, w .few-wait)
 
-    waiting-whole : WholeWaiting (d .waiting)
-    waiting-whole = whole-laid (d .waiting) (s .waiting) waiting-held
+    waiting-whole : WholeWaiting (deskWaiting d)
+    waiting-whole = whole-laid (deskWaiting d) (s .waiting) waiting-held
 
-    waiting-rises : Rising 0 (reportsOf (d .waiting))
+    waiting-rises : Rising 0 (reportsOf (deskWaiting d))
     waiting-rises = subst (Rising 0) (sym (reports-laid waiting-held)) (w .waiting-rises)
 
-    on-whole : WholeOn (d .on)
-    on-whole = whole-on-laid (d .on) (s .on) on-held
+    on-whole : WholeOn (deskOn d)
+    on-whole = whole-on-laid (deskOn d) (s .on) on-held
 
-    on-rises : Rising 0 (radiosOf (d .on))
+    on-rises : Rising 0 (radiosOf (deskOn d))
     on-rises = subst (Rising 0) (sym (radios-laid on-held)) (w .rising-on)
 
-    pub report-asks : RoomyWaiting (d .waiting)
+    pub report-asks : RoomyWaiting (deskWaiting d)
     report-asks = (waiting-few, waiting-whole, waiting-rises)
 
-    pub on-asks : onCount s < maxOn
-        → RoomyWaiting (d .waiting) × RoomyOn (d .on)
+    pub on-asks : onCount s < maxOn → RoomyWaiting (deskWaiting d) × RoomyOn (deskOn d)
     unfolding onCount
-    on-asks room = (report-asks, (omega (arith, count-on-laid (d .on) (s .on) on-held), on-whole, on-rises))
+    on-asks room = (report-asks, (omega (arith, count-on-laid (deskOn d) (s .on) on-held), on-whole, on-rises))
 
-    pub off-asks : (r : ℕ)
-        → GoodWaiting (d .waiting) × RoomyMemo (d .memo) × MissFits r (d .memo) × GoodOn (d .on)
+    pub off-asks : (r : ℕ) → GoodWaiting (deskWaiting d) × RoomyMemo (deskMemo d) × MissFits r (deskMemo d) × GoodOn (deskOn d)
     off-asks r = (
       ((let h = waiting-few in omega arith), waiting-whole, waiting-rises),
       (whole-is (s .memo) memo-held, omega (arith, count-is (s .memo) memo-held, well-memo s w), rising-is (s .memo) memo-held (w .memo-rises)),
       rw (lines-are (s .memo) memo-held) (let h = well-missed s w r in omega arith),
-      (omega (arith, count-on-laid (d .on) (s .on) on-held, w .few-on), on-whole, on-rises),
+      (omega (arith, count-on-laid (deskOn d) (s .on) on-held, w .few-on), on-whole, on-rises),
     )
 
   -- ---- what is given
 
   -- the desk with other parts
   abbrev withParts : Waiting → Memo → On → Desk
-  withParts waiting memo on = record { grid = d .grid; waiting = waiting; memo = memo; on = on; tally = d .tally }
+  withParts waiting memo on = deskHolding (deskGrid d) waiting memo on (d .parts .tally)
 
   given : (l : Rows StoreReport) (m : Rows StoreLine) (o : Rows (Unit {0})) → withParts (waitingOf l) (memoOf m) (onOf o) ≡ deskOf (withRows s l m o)
   unfolding deskOf gridOf
-  given l m o = ap (λ (x : Desk). record { grid = x .grid; waiting = waitingOf l; memo = memoOf m; on = onOf o; tally = x .tally }) held
+  given l m o = ap (λ (x : Desk). deskHolding (deskGrid x) (waitingOf l) (memoOf m) (onOf o) (x .parts .tally)) held
 
   module _ (r : ℕ) where
     module _ (p : Place) where
-      pub on-gives : (o : SignedOn) → o ≡ record { waiting = waitingOf (insert r (record { place = p; new = true }) (reportsOf (d .waiting))); on = onOf (insert r tt (radiosOf (d .on))) }
-          → record { grid = d .grid; waiting = o .waiting; memo = d .memo; on = o .on; tally = d .tally } ≡ deskOf (signedOn r p s)
+      pub on-gives : {waiting : Waiting} {on : On}
+          → (waiting ≡ waitingOf (insert r (record { place = p; new = true }) (reportsOf (deskWaiting d)))) × (on ≡ onOf (insert r tt (radiosOf (deskOn d))))
+          → deskHolding (deskGrid d) waiting (deskMemo d) on (d .parts .tally) ≡ deskOf (signedOn r p s)
       unfolding signedOn
-      on-gives o said =
-          ap (λ (x : SignedOn). withParts (x .waiting) (d .memo) (x .on)) said
-          ∙ rw (reports-laid waiting-held, radios-laid on-held) (ap (λ (m : Memo). withParts (waitingOf (insert r (record { place = p; new = true }) (s .waiting))) m (onOf (insert r tt (s .on)))) memo-held)
-          ∙ given (insert r (record { place = p; new = true }) (s .waiting)) (s .memo) (insert r tt (s .on))
+      on-gives said =
+          (λ i. withParts (said .0 i) (memo-held i) (said .1 i))
+          ∙ rw (reports-laid waiting-held, radios-laid on-held) (given (insert r (record { place = p; new = true }) (s .waiting)) (s .memo) (insert r tt (s .on)))
 
-      abbrev keeping : Option StoreReport → Option StoreReport
-      keeping w = some (record { place = p; new = wasNew w })
-
-      pub report-gives : {w : Waiting} → w ≡ waitingOf (alter (λ x. some (record { place = p; new = wasNew x })) r (reportsOf (d .waiting)))
-          → record { grid = d .grid; waiting = w; memo = d .memo; on = d .on; tally = d .tally } ≡ deskOf (reported r p s)
+      pub report-gives : {waiting : Waiting} → waiting ≡ waitingOf (alter (λ x. some (record { place = p; new = wasNew x })) r (reportsOf (deskWaiting d)))
+          → deskHolding (deskGrid d) waiting (deskMemo d) (deskOn d) (d .parts .tally) ≡ deskOf (reported r p s)
       unfolding reported
       report-gives said =
-          ap (λ (x : Waiting). withParts x (d .memo) (d .on)) said
-          ∙ rw (reports-laid waiting-held) (ap₂ (λ (m : Memo) (o : On). withParts (waitingOf (alter keeping r (s .waiting))) m o) memo-held on-held)
-          ∙ given (alter keeping r (s .waiting)) (s .memo) (s .on)
+          (λ i. withParts (said i) (memo-held i) (on-held i))
+          ∙ rw (reports-laid waiting-held) (given (alter (λ x. some (record { place = p; new = wasNew x })) r (s .waiting)) (s .memo) (s .on))
 
     pub off-gives : {waiting : Waiting} {memo : Memo} {on : On}
-        → (waiting ≡ waitingOf (alter (λ _. none) r (reportsOf (d .waiting)))) × (memo ≡ memoOf (cond (wasNew (find (reportsOf (d .waiting)) r)) (linesOf (d .memo)) (alter (raised none) r (linesOf (d .memo))))) × (on ≡ onOf (alter (λ _. none) r (radiosOf (d .on))))
-        → record { grid = d .grid; waiting = waiting; memo = memo; on = on; tally = d .tally } ≡ deskOf (signedOff r s)
+        → (waiting ≡ waitingOf (alter (λ _. none) r (reportsOf (deskWaiting d)))) × (memo ≡ memoOf (cond (wasNew (find (reportsOf (deskWaiting d)) r)) (linesOf (deskMemo d)) (alter (raised none) r (linesOf (deskMemo d))))) × (on ≡ onOf (alter (λ _. none) r (radiosOf (deskOn d))))
+        → deskHolding (deskGrid d) waiting memo on (d .parts .tally) ≡ deskOf (signedOff r s)
     unfolding signedOff
     off-gives said =
         (λ i. withParts (said .0 i) (said .1 i) (said .2 i))

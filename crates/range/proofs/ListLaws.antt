@@ -21,13 +21,10 @@ use Rattle.lists.proofs.SlotsLaws.{mapped-turn, mapped-end, each-mapped}
 use Rattle.rules.specs.Grid.{Rect}
 use Rattle.rules.specs.Carry.{listBytes, bytesOf}
 use Rattle.rules.specs.Told.{toldList}
-use Rattle.desk.specs.declared.Directory.{Directory}
-use Rattle.desk.specs.declared.Waiting.{Waiting}
-use Rattle.desk.specs.declared.Memo.{Memo}
+use Rattle.desk.specs.Held.{Directory, Memo, Waiting, onWith}
 use Rattle.desk.specs.Views.{radioRow, radiosOf, slotsIn}
 use Rattle.memo.specs.Memo.{linesOf}
 use Rattle.waiting.specs.Waiting.{reportsOf}
-use Rattle.waiting.specs.On.{onWith}
 use Rattle.range_places.specs.Places.{Places, noPlaces, placesIn, radioSlots, Holds, placesOf}
 use Rattle.range.specs.Range.{isMarked, rowAt, rowsAt, listHeld, foundIn}
 

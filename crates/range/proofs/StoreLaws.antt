@@ -17,8 +17,7 @@ use Rattle.rules.specs.Carry.{listBytes, found, Outcome, answered}
 use Rattle.rules.specs.Told.{Told, toldList}
 use Rattle.rules.specs.WellFormed.{WellFormed, GoodCell}
 use Rattle.desk.specs.declared.Slot.{Slot}
-use Rattle.desk.specs.declared.Directory.{Directory}
-use Rattle.desk.specs.declared.On.{On}
+use Rattle.desk.specs.Held.{Directory, On, deskGrid, deskWaiting, deskMemo, deskOn}
 use Rattle.desk.specs.declared.Desk.{Desk}
 use Rattle.desk.specs.Layout.{slotOf, directoryOf, gridOf, waitingOf, memoOf, onOf, deskOf, Laid}
 use Rattle.desk.specs.Views.{slotsIn, radiosOf}
@@ -74,60 +73,60 @@ told-answered s l buffer = by-cases (ltb (length buffer) (listBytes * length l))
 -- ---- the call
 
 module _ (s : Store) (b : List ℕ) (desk : Desk) (w : WellFormed s) (l : Laid s b) (held : desk ≡ deskOf s) where
-  cells-are : desk .grid .cells ≡ directoryOf (s .cells)
+  cells-are : deskGrid desk .cells ≡ directoryOf (s .cells)
   unfolding deskOf gridOf
-  cells-are = ap (λ (d : Desk). d .grid .cells) held
+  cells-are = ap (λ (d : Desk). deskGrid d .cells) held
 
-  waiting-is : desk .waiting ≡ waitingOf (s .waiting)
+  waiting-is : deskWaiting desk ≡ waitingOf (s .waiting)
   unfolding deskOf
-  waiting-is = ap (λ (d : Desk). d .waiting) held
+  waiting-is = ap (λ (d : Desk). deskWaiting d) held
 
-  memo-is : desk .memo ≡ memoOf (s .memo)
+  memo-is : deskMemo desk ≡ memoOf (s .memo)
   unfolding deskOf
-  memo-is = ap (λ (d : Desk). d .memo) held
+  memo-is = ap (λ (d : Desk). deskMemo d) held
 
-  on-is : desk .on ≡ onOf (s .on)
+  on-is : deskOn desk ≡ onOf (s .on)
   unfolding deskOf
-  on-is = ap (λ (d : Desk). d .on) held
+  on-is = ap (λ (d : Desk). deskOn d) held
 
-  radios-read : Each (λ x. UpTo maxRadio (entriesFrom b (x .first))) (slotsIn (desk .grid .cells))
+  radios-read : Each (λ x. UpTo maxRadio (entriesFrom b (x .first))) (slotsIn (deskGrid desk .cells))
   radios-read =
-      subst (λ (x : List Slot). Each (λ y. UpTo maxRadio (entriesFrom b (y .first))) x) (sym (slots-laid (desk .grid .cells) (s .cells) cells-are))
+      subst (λ (x : List Slot). Each (λ y. UpTo maxRadio (entriesFrom b (y .first))) x) (sym (slots-laid (deskGrid desk .cells) (s .cells) cells-are))
       (each-over-map _ slotOf (s .cells) (each-zip (GoodCell (s .cuts)) (Read b) _ (s .cells) (λ c g e. subst (λ (x : Rows Fix). UpTo maxRadio x) (sym e) (g .radios)) (w .cells) (cells-read s b w l)))
 
-  slots-on : length (desk .on .radios) ≡ maxOn
+  slots-on : length (desk .on) ≡ maxOn
   unfolding onOf
   slots-on =
       let keys : List ℕ = map (λ x. x .key) (s .on) in
       ap (λ (o : On). length (o .radios)) on-is ∙ length-slotted maxOn 0 keys (omega (arith, w .few-on, length-map (s .on) (λ x. x .key)))
 
-  pub range-asks : Readable b (desk .grid .cells) (desk .waiting) (desk .memo) × (length (desk .on .radios) ≡ maxOn) × (desk .on .n ≤ maxOn) × UpTo maxRadio (radiosOf (desk .on))
+  pub range-asks : Readable b (deskGrid desk .cells) (deskWaiting desk) (deskMemo desk) × (length (desk .on) ≡ maxOn) × (deskOn desk .n ≤ maxOn) × UpTo maxRadio (radiosOf (deskOn desk))
   range-asks = (
     record {
-      few-cells = omega (arith, count-slots (desk .grid .cells) (s .cells) cells-are, w .few-cells);
-      few-waiting = omega (arith, count-laid (desk .waiting) (s .waiting) waiting-is, w .few-wait);
+      few-cells = omega (arith, count-slots (deskGrid desk .cells) (s .cells) cells-are, w .few-cells);
+      few-waiting = omega (arith, count-laid (deskWaiting desk) (s .waiting) waiting-is, w .few-wait);
       few-lines = omega (arith, count-is (s .memo) memo-is, well-memo s w);
       entry-radios = radios-read;
       report-radios = subst (λ (x : Rows Report). UpTo maxRadio x) (sym (reports-laid waiting-is)) (w .waiting-radios);
       line-radios = subst (λ (x : Rows Line). UpTo maxRadio x) (sym (lines-are (s .memo) memo-is)) (w .memo-radios);
     },
     slots-on,
-    omega (arith, count-on-laid (desk .on) (s .on) on-is, w .few-on),
+    omega (arith, count-on-laid (deskOn desk) (s .on) on-is, w .few-on),
     subst (λ (x : Rows (Unit {0})). UpTo maxRadio x) (sym (radios-laid on-is)) (w .radios-on),
   )
 
-  places-are : (rect : Rect) → placesOf b rect (slotsIn (desk .grid .cells)) (linesOf (desk .memo)) (reportsOf (desk .waiting)) ≡ tableOf rect s
+  places-are : (rect : Rect) → placesOf b rect (slotsIn (deskGrid desk .cells)) (linesOf (deskMemo desk)) (reportsOf (deskWaiting desk)) ≡ tableOf rect s
   unfolding placesOf
   places-are rect =
       ap₂ (λ (x : Rows Report) (f : Places). reportsOver rect x f) (reports-laid waiting-is)
       (ap₂ (λ (x : Rows Line) (f : Places). linesOver rect x f) (lines-are (s .memo) memo-is)
-      (ap (λ (x : List Slot). over (slotOver b rect) x noPlaces) (slots-laid (desk .grid .cells) (s .cells) cells-are) ∙ cells-over b rect (s .cells) noPlaces (cells-read s b w l)))
+      (ap (λ (x : List Slot). over (slotOver b rect) x noPlaces) (slots-laid (deskGrid desk .cells) (s .cells) cells-are) ∙ cells-over b rect (s .cells) noPlaces (cells-read s b w l)))
 
-  pub found-is : (rect : Rect) → foundIn b rect (desk .grid .cells) (desk .waiting) (desk .memo) (desk .on) ≡ found s rect
+  pub found-is : (rect : Rect) → foundIn b rect (deskGrid desk .cells) (deskWaiting desk) (deskMemo desk) (deskOn desk) ≡ found s rect
   unfolding foundIn
   found-is rect = ap₂ (λ (f : Places) (x : Rows (Unit {0})). listHeld f x) (places-are rect) (radios-laid on-is) ∙ found-table s w rect
 
   pub range-gives : (rect : Rect) (buffer : List ℕ) {number count : ℕ} {after : List ℕ}
-      → record { number = number; count = count; buffer = after } ≡ toldList (foundIn b rect (desk .grid .cells) (desk .waiting) (desk .memo) (desk .on)) buffer
+      → record { number = number; count = count; buffer = after } ≡ toldList (foundIn b rect (deskGrid desk .cells) (deskWaiting desk) (deskMemo desk) (deskOn desk)) buffer
       → record { number = number; count = count; buffer = after; store = s } ≡ answered (found s rect) s buffer
   range-gives rect buffer e = ap (outcome s) (e ∙ ap (λ (l : Rows Fix). toldList l buffer) (found-is rect)) ∙ told-answered s (found s rect) buffer

@@ -6,10 +6,7 @@ use lib.ListN.{getD}
 use Rattle.terms.specs.Terms.{Fix}
 use Rattle.lists.specs.Rows.{Row, Rows, putRow}
 use Rattle.rules.specs.Grid.{Rect}
-use Rattle.desk.specs.declared.Directory.{Directory}
-use Rattle.desk.specs.declared.Waiting.{Waiting}
-use Rattle.desk.specs.declared.Memo.{Memo}
-use Rattle.desk.specs.declared.On.{On}
+use Rattle.desk.specs.Held.{Directory, Memo, On, Waiting}
 use Rattle.desk.specs.Views.{slotsIn, radiosOf}
 use Rattle.memo.specs.Memo.{linesOf}
 use Rattle.waiting.specs.Waiting.{reportsOf}

@@ -9,16 +9,13 @@ ghost use Rattle.lists.specs.Rows.{UpTo};
 ghost use Rattle.lists.specs.Sums.{filter};
 ghost use Rattle.rules.specs.Carry.{listBytes, bytesOf};
 ghost use Rattle.rules.specs.Told.{toldList};
-ghost use Rattle.desk.specs.Layout.{lineSlots, lineFields};
 ghost use Rattle.desk.specs.Views.{radioRow, radiosOf, rectOf};
-ghost use Rattle.memo.specs.Memo.{memoIn};
-ghost use Rattle.waiting.specs.On.{onWith};
-ghost use Rattle.range_places.specs.Places.{radioSlots, Readable};
+ghost use Rattle.desk.specs.Held.{directoryIn, waitingWith, memoIn, onWith};
+ghost use Rattle.range_places.specs.Places.{radioSlots, Arrays, Readable};
 ghost use Rattle.range.specs.Range.{isMarked, rowAt, rowsAt, foundIn};
 use desk::Desk;
-use desk::Directory;
+use desk::Parts;
 use desk::Rectangle;
-use desk::Waiting;
 use range_places::RADIO_SLOTS;
 
 const LIST_BYTES: usize = 6;
@@ -93,7 +90,8 @@ fn write_rows<'a>(
 )
     requires { ⌜ (length (now easts) ≡ radioSlots) × (length (now norths) ≡ radioSlots) × (length (now found) ≡ maxOn) × (n ≤ maxOn)
         × UpTo maxRadio (radiosOf (onWith n (now found))) × (listBytes * n ≤ length (now buffer)) ⌝ }
-    ensures { λ _. ⌜ now (buffer .exit) ≡ put (now (buffer .entry)) 0 (bytesOf (rowsAt (now (easts .entry)) (now (norths .entry)) (radiosOf (onWith n (now (found .entry)))))) ⌝ }
+    ensures { λ _. ⌜ now (buffer .exit) ≡ put (now (buffer .entry)) 0 (bytesOf (rowsAt (now (easts .entry)) (now (norths .entry))
+        (radiosOf (onWith n (now (found .entry)))))) ⌝ }
 {
     let mut i: usize = 0;
     while i < n as usize {
@@ -107,18 +105,20 @@ fn write_rows<'a>(
 pub fn list(
     pages: &[u8],
     area: Rectangle,
-    cells: Directory,
-    waiting: Waiting,
-    words: &[u16; Desk::MEMO_WORDS],
-    lines: u16,
-    radios: &[u16; Desk::MAX_ON],
-    on: u16,
+    parts: Parts,
+    cells: &[u16; Desk::CELL_WORDS],
+    waiting: &[u16; Desk::WAITING_WORDS],
+    memo: &[u16; Desk::MEMO_WORDS],
+    on: &[u16; Desk::MAX_ON],
     buffer: &mut [u8],
 ) -> Listed
-    requires { ⌜ (length (now words) ≡ lineFields * lineSlots) × Readable (now pages) cells waiting (memoIn lines (now words))
-        × (length (now radios) ≡ maxOn) × (on ≤ maxOn) × UpTo maxRadio (radiosOf (onWith on (now radios))) ⌝ }
+    requires { ⌜ Arrays (now cells) (now waiting) (now memo)
+        × Readable (now pages) (directoryIn (parts .frame .cells) (now cells)) (waitingWith (parts .waiting) (now waiting)) (memoIn (parts .lines) (now memo))
+        × (length (now on) ≡ maxOn) × (parts .on ≤ maxOn) × UpTo maxRadio (radiosOf (onWith (parts .on) (now on))) ⌝ }
     ensures { λ r. ⌜ record { number = r .number; count = r .count; buffer = now (buffer .exit) }
-        ≡ toldList (foundIn (now (pages .entry)) (rectOf area) cells waiting (memoIn lines (now (words .entry))) (onWith on (now (radios .entry)))) (now (buffer .entry)) ⌝ }
+        ≡ toldList (foundIn (now (pages .entry)) (rectOf area) (directoryIn (parts .frame .cells) (now (cells .entry)))
+        (waitingWith (parts .waiting) (now (waiting .entry))) (memoIn (parts .lines) (now (memo .entry))) (onWith (parts .on) (now (on .entry))))
+        (now (buffer .entry)) ⌝ }
 {
     let mut easts = [0u16; RADIO_SLOTS];
     let mut norths = [0u16; RADIO_SLOTS];
@@ -126,16 +126,16 @@ pub fn list(
     range_places::hold_all(
         pages,
         area,
+        parts,
         cells,
         waiting,
-        words,
-        lines,
+        memo,
         &mut easts,
         &mut norths,
         &mut marks,
     );
     let mut found = [0u16; Desk::MAX_ON];
-    let n = found_on(&marks, radios, on, &mut found);
+    let n = found_on(&marks, on, parts.on, &mut found);
     if buffer.len() < LIST_BYTES * n as usize {
         return Listed {
             number: NO_ROOM,

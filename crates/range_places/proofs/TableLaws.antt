@@ -28,13 +28,13 @@ use Rattle.rules.specs.Limits.{maxCells, fullMemory}
 use Rattle.rules.specs.Grid.{Rect, covers}
 use Rattle.rules.specs.Plain.{putAt}
 use Rattle.desk.specs.declared.Slot.{Slot}
-use Rattle.desk.specs.declared.Directory.{Directory}
+use Rattle.desk.specs.Held.{Directory, Memo, Waiting}
 use Rattle.desk.specs.declared.Line.{Line}
-use Rattle.desk.specs.declared.Memo.{Memo}
 use Rattle.desk.specs.declared.Report.{Report}
-use Rattle.desk.specs.declared.Waiting.{Waiting}
-use Rattle.desk.specs.Layout.{lineSlots, lineFields, noSlot, noLine, noReport}
-use Rattle.desk.specs.Views.{slotsIn, edgesOf, linesIn}
+use Rattle.desk.specs.Layout.{slotFields, reportFields, lineSlots, lineFields, noSlot, noLine, noReport}
+use Rattle.desk.proofs.SlotsLaws.{length-slots}
+use Rattle.desk.proofs.ReportsLaws.{length-every}
+use Rattle.desk.specs.Views.{everyReport, everySlot, slotsIn, edgesOf, linesIn}
 use Rattle.desk.proofs.LinesLaws.{length-lines-in}
 use Rattle.memo.specs.Memo.{linesOf, rowOf as lineRow}
 use Rattle.waiting.specs.Waiting.{reportsOf, rowOf as reportRow}
@@ -207,22 +207,25 @@ module _ (b : List ℕ) (rect : Rect) (d : Directory) where
   pub cells-start : {easts norths : List ℕ} {marks : List Bool} → Columns easts norths marks → Holds easts norths marks (over (slotOver b rect) (take 0 (slotsIn d)) (placesIn easts norths marks))
   cells-start c = over-start (slotOver b rect) c
 
-  module _ (size : length (d .slots) ≡ maxCells) (few : d .n ≤ maxCells) (i : ℕ) (more : i < d .n) where
-    pub cells-radios : Each (λ s. UpTo maxRadio (entriesFrom b (s .first))) (slotsIn d) → UpTo maxRadio (entriesFrom b (getD (d .slots) i noSlot .first))
+  module _ (size : length (d .words) ≡ slotFields * maxCells) (few : d .n ≤ maxCells) (i : ℕ) (more : i < d .n) {cell : Slot} (read : cell ≡ getD (everySlot (d .words)) i noSlot) where
+    within : d .n ≤ length (everySlot (d .words))
+    within = let l = length-slots (d .words) size in omega arith
+
+    pub cells-radios : Each (λ s. UpTo maxRadio (entriesFrom b (s .first))) (slotsIn d) → UpTo maxRadio (entriesFrom b (cell .first))
     unfolding slotsIn
     cells-radios e =
-        subst (λ (s : Slot). UpTo maxRadio (entriesFrom b (s .first))) (getD-take (d .n) (d .slots) i noSlot more)
-        (each-getD (λ s. UpTo maxRadio (entriesFrom b (s .first))) (take (d .n) (d .slots)) i noSlot e (rw length-take (omega arith)))
+        subst (λ (s : Slot). UpTo maxRadio (entriesFrom b (s .first))) (getD-take (d .n) (everySlot (d .words)) i noSlot more ∙ sym read)
+        (each-getD (λ s. UpTo maxRadio (entriesFrom b (s .first))) (take (d .n) (everySlot (d .words))) i noSlot e (let w = within in rw length-take (omega arith)))
 
     pub cells-turn : (f : Places) {easts norths easts′ norths′ : List ℕ} {marks marks′ : List Bool} → Holds easts norths marks (over (slotOver b rect) (take i (slotsIn d)) f)
-        → Holds easts′ norths′ marks′ (slotOver b rect (getD (d .slots) i noSlot) (placesIn easts norths marks)) → Holds easts′ norths′ marks′ (over (slotOver b rect) (take (i + 1) (slotsIn d)) f)
+        → Holds easts′ norths′ marks′ (slotOver b rect cell (placesIn easts norths marks)) → Holds easts′ norths′ marks′ (over (slotOver b rect) (take (i + 1) (slotsIn d)) f)
     unfolding slotsIn
-    cells-turn f h k = over-turn (slotOver b rect) f _ _ (getD (d .slots) i noSlot) (taken-turn (d .slots) (d .n) i noSlot (omega arith) more) h k
+    cells-turn f h k = over-turn (slotOver b rect) f _ _ cell (rw read (taken-turn (everySlot (d .words)) (d .n) i noSlot within more)) h k
 
   pub cells-end : (i : ℕ) (f : Places) {easts norths : List ℕ} {marks : List Bool} → d .n ≤ i → Holds easts norths marks (over (slotOver b rect) (take i (slotsIn d)) f)
       → Holds easts norths marks (over (slotOver b rect) (slotsIn d) f)
   unfolding slotsIn
-  cells-end i f k h = over-end (slotOver b rect) f _ _ (taken-end (d .slots) (d .n) i k) h
+  cells-end i f k h = over-end (slotOver b rect) f _ _ (taken-end (everySlot (d .words)) (d .n) i k) h
 
 -- ---- the memo's lines
 
@@ -263,25 +266,25 @@ module _ (rect : Rect) (w : Waiting) where
   unfolding reportsOver
   reports-start c = over-start _ c
 
-  module _ (size : length (w .rows) ≡ fullMemory) (few : w .n ≤ fullMemory) (i : ℕ) (more : i < w .n) where
-    abbrev report : Report
-    report = getD (w .rows) i noReport
+  module _ (size : length (w .words) ≡ reportFields * fullMemory) (few : w .n ≤ fullMemory) (i : ℕ) (more : i < w .n) {report : Report} (read : report ≡ getD (everyReport (w .words)) i noReport) where
+    amid : w .n ≤ length (everyReport (w .words))
+    amid = let l = length-every (w .words) fullMemory size in omega arith
 
     pub reports-radios : UpTo maxRadio (reportsOf w) → report .radio ≤ maxRadio
     unfolding reportsOf
-    reports-radios e = each-mapped (w .rows) (w .n) i noReport (omega arith) more (λ x. x .key ≤ maxRadio) reportRow e
+    reports-radios e = rw read (each-mapped (everyReport (w .words)) (w .n) i noReport amid more (λ x. x .key ≤ maxRadio) reportRow e)
 
     pub reports-turn : (f : Places) {easts norths easts′ norths′ : List ℕ} {marks marks′ : List Bool} {q : Bool} → q ≡ covers rect (record { east = report .east; north = report .north }) → Holds easts norths marks (reportsOver rect (take i (reportsOf w)) f)
         → Holds easts′ norths′ marks′ (putAt (report .radio) (cond q (some (record { east = report .east; north = report .north })) none) (placesIn easts norths marks))
         → Holds easts′ norths′ marks′ (reportsOver rect (take (i + 1) (reportsOf w)) f)
     unfolding reportsOf reportsOver
     reports-turn f {easts} {norths} {easts′} {norths′} {marks} {marks′} told h k =
-        over-turn _ f _ _ (reportRow report) (mapped-turn (w .rows) (w .n) i noReport (omega arith) more reportRow) h
+        over-turn _ f _ _ (reportRow report) (rw read (mapped-turn (everyReport (w .words)) (w .n) i noReport amid more reportRow)) h
         (subst (λ (o : Option Place). Holds easts′ norths′ marks′ (putAt (report .radio) o (placesIn easts norths marks))) (seen-told rect _ told) k)
 
   pub reports-end : (i : ℕ) (f : Places) {easts norths : List ℕ} {marks : List Bool} → w .n ≤ i → Holds easts norths marks (reportsOver rect (take i (reportsOf w)) f) → Holds easts norths marks (reportsOver rect (reportsOf w) f)
   unfolding reportsOf reportsOver
-  reports-end i f k h = over-end _ f _ _ (mapped-end (w .rows) (w .n) i k reportRow) h
+  reports-end i f k h = over-end _ f _ _ (mapped-end (everyReport (w .words)) (w .n) i k reportRow) h
 
 -- ---- all of them
 

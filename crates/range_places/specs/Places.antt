@@ -4,7 +4,7 @@ use mathlib.Core.Bool.{Bool, false, cond}
 use mathlib.Core.List.{List, [], _∷_}
 use mathlib.Core.Option.{Option, none, some}
 use mathlib.Core.Path.{_≡_}
-use Prim.Native.Nat.{ℕ, _+_, _≤_}
+use Prim.Native.Nat.{ℕ, _+_, _*_, _≤_}
 use lib.ListN.{length, getD}
 use Rattle.terms.specs.Terms.{Place, Fix, maxRadio, pages}
 use Rattle.lists.specs.Rows.{Row, Rows, UpTo}
@@ -16,10 +16,8 @@ use Rattle.rules.specs.Store.{Report, Line}
 use Rattle.rules.specs.Carry.{inRange}
 use Rattle.rules.specs.Plain.{putAt}
 use Rattle.desk.specs.declared.Slot.{Slot}
-use Rattle.desk.specs.declared.Directory.{Directory}
-use Rattle.desk.specs.declared.Waiting.{Waiting}
-use Rattle.desk.specs.declared.Memo.{Memo}
-use Rattle.desk.specs.Layout.{lineSlots}
+use Rattle.desk.specs.Held.{Directory, Memo, Waiting}
+use Rattle.desk.specs.Layout.{slotFields, reportFields, lineFields, lineSlots}
 use Rattle.desk.specs.Views.{slotsIn, edgesOf}
 use Rattle.memo.specs.Memo.{linesOf}
 use Rattle.waiting.specs.Waiting.{reportsOf}
@@ -92,6 +90,12 @@ unfoldable pub placesOf : List ℕ → Rect → List Slot → Rows Line → Rows
 placesOf b rect slots memo waiting = reportsOver rect waiting (linesOver rect memo (over (slotOver b rect) slots noPlaces))
 
 -- ---- what is asked of desk and pages
+
+-- arrays of the desk's lengths
+pub record Arrays (cells waiting memo : List ℕ) : Type 0 where
+  pub cell-words : length cells ≡ slotFields * maxCells
+  pub report-words : length waiting ≡ reportFields * fullMemory
+  pub line-words : length memo ≡ lineFields * lineSlots
 
 -- counts within their slots, and no radio above the greatest
 pub record Readable (b : List ℕ) (cells : Directory) (waiting : Waiting) (memo : Memo) : Type 0 where

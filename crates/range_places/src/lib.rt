@@ -13,16 +13,16 @@ ghost use Rattle.page.specs.Buffer.{pageAt, there, entriesFrom};
 ghost use Rattle.rules.specs.Limits.{maxCells, fullMemory};
 ghost use Rattle.rules.specs.Grid.{takesIn, covers};
 ghost use Rattle.rules.specs.Plain.{putAt};
-ghost use Rattle.desk.specs.Layout.{lineSlots, lineFields};
+ghost use Rattle.desk.specs.Layout.{slotFields, reportFields, lineSlots, lineFields};
 ghost use Rattle.desk.specs.Views.{slotsIn, edgesOf, rectOf};
-ghost use Rattle.memo.specs.Memo.{memoIn, linesOf};
+ghost use Rattle.desk.specs.Held.{directoryIn, waitingWith, memoIn};
+ghost use Rattle.memo.specs.Memo.{linesOf};
 ghost use Rattle.waiting.specs.Waiting.{reportsOf};
-ghost use Rattle.range_places.specs.Places.{noPlaces, placesIn, Columns, Holds, over, entriesOver, linesOver, reportsOver, meets, touches, slotOver, placesOf, Readable};
+ghost use Rattle.range_places.specs.Places.{noPlaces, placesIn, Columns, Holds, over, entriesOver, linesOver, reportsOver, meets, touches, slotOver, placesOf, Arrays, Readable};
 use desk::Desk;
-use desk::Directory;
+use desk::Parts;
 use desk::Rectangle;
 use desk::Slot;
-use desk::Waiting;
 use terms::MAX_RADIO;
 use terms::NO_PAGE;
 use terms::PAGES;
@@ -160,20 +160,21 @@ fn hold_touched(
 fn hold_cells(
     pages: &[u8],
     area: Rectangle,
-    cells: Directory,
+    cells: &[u16; Desk::CELL_WORDS],
+    n: u16,
     easts: &mut [u16; RADIO_SLOTS],
     norths: &mut [u16; RADIO_SLOTS],
     marks: &mut [bool; RADIO_SLOTS],
 )
-    requires { ⌜ Columns (now easts) (now norths) (now marks) × (cells .n ≤ maxCells)
-        × Each (λ s. UpTo maxRadio (entriesFrom (now pages) (s .first))) (slotsIn cells) ⌝ }
+    requires { ⌜ Columns (now easts) (now norths) (now marks) × (length (now cells) ≡ slotFields * maxCells) × (n ≤ maxCells)
+        × Each (λ s. UpTo maxRadio (entriesFrom (now pages) (s .first))) (slotsIn (directoryIn n (now cells))) ⌝ }
     ensures { λ _. ⌜ Holds (now (easts .exit)) (now (norths .exit)) (now (marks .exit))
-        (over (slotOver (now (pages .entry)) (rectOf area)) (slotsIn cells) (placesIn (now (easts .entry)) (now (norths .entry)) (now (marks .entry)))) ⌝ }
+        (over (slotOver (now (pages .entry)) (rectOf area)) (slotsIn (directoryIn n (now (cells .entry))))
+        (placesIn (now (easts .entry)) (now (norths .entry)) (now (marks .entry)))) ⌝ }
 {
-    let n = cells.n as usize;
     let mut i: usize = 0;
-    while i < n {
-        let cell = cells.slots[i];
+    while i < n as usize {
+        let cell = desk::slot_at(cells, i);
         hold_touched(pages, area, cell, easts, norths, marks);
         i += 1;
     }
@@ -205,19 +206,21 @@ fn hold_lines(
 // "a waiting report's before a stored one's"
 fn hold_reports(
     area: Rectangle,
-    waiting: Waiting,
+    waiting: &[u16; Desk::WAITING_WORDS],
+    n: u16,
     easts: &mut [u16; RADIO_SLOTS],
     norths: &mut [u16; RADIO_SLOTS],
     marks: &mut [bool; RADIO_SLOTS],
 )
-    requires { ⌜ Columns (now easts) (now norths) (now marks) × (waiting .n ≤ fullMemory) × UpTo maxRadio (reportsOf waiting) ⌝ }
+    requires { ⌜ Columns (now easts) (now norths) (now marks) × (length (now waiting) ≡ reportFields * fullMemory) × (n ≤ fullMemory)
+        × UpTo maxRadio (reportsOf (waitingWith n (now waiting))) ⌝ }
     ensures { λ _. ⌜ Holds (now (easts .exit)) (now (norths .exit)) (now (marks .exit))
-        (reportsOver (rectOf area) (reportsOf waiting) (placesIn (now (easts .entry)) (now (norths .entry)) (now (marks .entry)))) ⌝ }
+        (reportsOver (rectOf area) (reportsOf (waitingWith n (now (waiting .entry))))
+        (placesIn (now (easts .entry)) (now (norths .entry)) (now (marks .entry)))) ⌝ }
 {
-    let n = waiting.n as usize;
     let mut i: usize = 0;
-    while i < n {
-        let x = waiting.rows[i];
+    while i < n as usize {
+        let x = desk::report_at(waiting, i);
         let seen = is_covered(area, x.east, x.north);
         hold(easts, norths, marks, x.radio, x.east, x.north, seen);
         i += 1;
@@ -228,20 +231,22 @@ fn hold_reports(
 pub fn hold_all(
     pages: &[u8],
     area: Rectangle,
-    cells: Directory,
-    waiting: Waiting,
-    words: &[u16; Desk::MEMO_WORDS],
-    lines: u16,
+    parts: Parts,
+    cells: &[u16; Desk::CELL_WORDS],
+    waiting: &[u16; Desk::WAITING_WORDS],
+    memo: &[u16; Desk::MEMO_WORDS],
     easts: &mut [u16; RADIO_SLOTS],
     norths: &mut [u16; RADIO_SLOTS],
     marks: &mut [bool; RADIO_SLOTS],
 )
-    requires { ⌜ Holds (now easts) (now norths) (now marks) noPlaces × (length (now words) ≡ lineFields * lineSlots)
-        × Readable (now pages) cells waiting (memoIn lines (now words)) ⌝ }
+    requires { ⌜ Holds (now easts) (now norths) (now marks) noPlaces × Arrays (now cells) (now waiting) (now memo)
+        × Readable (now pages) (directoryIn (parts .frame .cells) (now cells)) (waitingWith (parts .waiting) (now waiting))
+        (memoIn (parts .lines) (now memo)) ⌝ }
     ensures { λ _. ⌜ Holds (now (easts .exit)) (now (norths .exit)) (now (marks .exit))
-        (placesOf (now (pages .entry)) (rectOf area) (slotsIn cells) (linesOf (memoIn lines (now (words .entry)))) (reportsOf waiting)) ⌝ }
+        (placesOf (now (pages .entry)) (rectOf area) (slotsIn (directoryIn (parts .frame .cells) (now (cells .entry))))
+        (linesOf (memoIn (parts .lines) (now (memo .entry)))) (reportsOf (waitingWith (parts .waiting) (now (waiting .entry))))) ⌝ }
 {
-    hold_cells(pages, area, cells, easts, norths, marks);
-    hold_lines(area, words, lines, easts, norths, marks);
-    hold_reports(area, waiting, easts, norths, marks);
+    hold_cells(pages, area, cells, parts.frame.cells, easts, norths, marks);
+    hold_lines(area, memo, parts.lines, easts, norths, marks);
+    hold_reports(area, waiting, parts.waiting, easts, norths, marks);
 }

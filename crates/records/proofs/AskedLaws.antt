@@ -17,7 +17,7 @@ use Rattle.rules.specs.Store.{Store}
 use Rattle.rules.specs.Carry.{isOn, onCount, carriedOut, carry}
 use Rattle.rules.specs.WellFormed.{WellFormed}
 use Rattle.rules.proofs.RecordLaws.{Accepted, on-passed, report-passed, off-passed, range-passed, accepted}
-use Rattle.desk.specs.declared.On.{On}
+use Rattle.desk.specs.Held.{On}
 use Rattle.desk.specs.Layout.{onOf}
 use Rattle.desk.specs.Views.{radiosOf}
 use Rattle.waiting.proofs.OnLaws.{radios-laid, count-on-laid}

@@ -15,7 +15,7 @@ use Rattle.lists.proofs.TestsLaws.{both-left-false, both-second, either-left, e
 use Rattle.rules.specs.Records.{Request, signOn, report, signOff, range, lengthField, kindField, lengthOf, radioField, placeField, rectField, requestOf, kindSignOn, kindReport, kindSignOff, kindRange, notAtHand, unknownKind, wrongLength, noRadio, noFix, reversed, onAlready, notOn, noRoom, refusal}
 use Rattle.rules.specs.Grid.{Rect}
 use Rattle.rules.proofs.RecordLaws.{passed}
-use Rattle.desk.specs.declared.On.{On}
+use Rattle.desk.specs.Held.{On}
 use Rattle.desk.specs.Views.{radiosOf}
 use Rattle.waiting.specs.On.{WholeOn}
 use Rattle.waiting.proofs.OnLaws.{count-on-laid}

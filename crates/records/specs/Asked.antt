@@ -13,7 +13,7 @@ use Rattle.rules.specs.Records.{Request, signOn, report, signOff, range, kindFi
 use Rattle.rules.specs.Store.{Store}
 use Rattle.rules.specs.Carry.{isOn, onCount}
 use Rattle.rules.specs.WellFormed.{InSquare}
-use Rattle.desk.specs.declared.On.{On}
+use Rattle.desk.specs.Held.{On}
 use Rattle.desk.specs.Views.{radiosOf}
 use Rattle.records.specs.declared.Asked.{Asked}
 use Rattle.records.specs.declared.Asked.the-variants.{SignOn, Report, SignOff, Range, Refused}

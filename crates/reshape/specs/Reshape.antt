@@ -3,8 +3,7 @@ use mathlib.Core.List.{List}
 use Prim.Native.Nat.{ℕ}
 use Rattle.terms.specs.Terms.{Fix}
 use Rattle.lists.specs.Rows.{Rows}
-use Rattle.desk.specs.declared.Grid.{Grid}
-use Rattle.desk.specs.declared.Memo.{Memo}
+use Rattle.desk.specs.Held.{Grid, Memo}
 use Rattle.cell_last.specs.Settling.{BeforeReshape}
 
 -- the middle of a flush with some memo, of which a split looks at nothing

@@ -13,7 +13,7 @@ ghost use Rattle.page.specs.Buffer.{pagesOf};
 ghost use lib.ListN.{length, take};
 ghost use Rattle.rules.specs.Flush.{reshaped};
 ghost use Rattle.desk.specs.Laid.{LaidMemo};
-ghost use Rattle.memo.specs.Memo.{memoIn};
+ghost use Rattle.desk.specs.Held.{gridIn, memoIn};
 ghost use Rattle.cell_last.specs.Settling.{HandFits, BeforeReshape};
 ghost use Rattle.reshape.specs.Reshape.{BeforeSplitOrGrow};
 use cell_last::Reshaped;
@@ -21,7 +21,7 @@ use cut::CutChoice;
 use desk::CutList;
 use desk::Desk;
 use desk::EAST;
-use desk::Grid;
+use desk::Frame;
 use desk::NORTH;
 use desk::Slot;
 use entries::Entries;
@@ -66,29 +66,36 @@ fn chosen_cut(easts: CutList, norths: CutList, d: Slot, table: Entries) -> CutCh
 // ---- split, joined or left
 
 // "when d has more than 32 entries": split, if there are "fewer than 64 cells" and a cut is found; else "d grows its chain".
-fn split_or_grown(buffer: &mut [u8], grid: Grid, at: usize, chain: Chain, table: Entries) -> Grid
+fn split_or_grown(
+    buffer: &mut [u8],
+    frame: Frame,
+    cells: &mut [u16; Desk::CELL_WORDS],
+    at: usize,
+    chain: Chain,
+    table: Entries,
+) -> Frame
     requires { ⌜ HandFits chain table × (pageEntries < length (rowsOf table))
-        × BeforeSplitOrGrow grid at (pagesOf chain) (rowsOf table) (now buffer) ⌝ }
-    ensures { λ r. ⌜ ((x : BeforeSplitOrGrow grid at (pagesOf chain) (rowsOf table) (now (buffer .entry)))
-        → LaidMemo (reshaped (x .midway .flushed)) r (x .memo) (now (buffer .exit))) ⌝ }
+        × BeforeSplitOrGrow (gridIn frame (now cells)) at (pagesOf chain) (rowsOf table) (now buffer) ⌝ }
+    ensures { λ r. ⌜ ((x : BeforeSplitOrGrow (gridIn frame (now (cells .entry))) at (pagesOf chain) (rowsOf table) (now (buffer .entry)))
+        → LaidMemo (reshaped (x .midway .flushed)) (gridIn r (now (cells .exit))) (x .memo) (now (buffer .exit))) ⌝ }
 {
-    let cells = grid.cells;
-    if Desk::MAX_CELLS <= cells.n as usize {
-        return cell_last::settled_last(buffer, grid, at, chain, table);
+    if Desk::MAX_CELLS <= frame.cells as usize {
+        return cell_last::settled_last(buffer, frame, cells, at, chain, table);
     }
-    let d = cells.slots[at];
-    let easts = grid.easts;
-    let norths = grid.norths;
+    let d = desk::slot_at(cells, at);
+    let easts = frame.easts;
+    let norths = frame.norths;
     let CutChoice::At(axis, cut) = chosen_cut(easts, norths, d, table) else {
-        return cell_last::settled_last(buffer, grid, at, chain, table);
+        return cell_last::settled_last(buffer, frame, cells, at, chain, table);
     };
-    cell_split::split(buffer, grid, at, chain, table, axis, cut)
+    cell_split::split(buffer, frame, cells, at, chain, table, axis, cut)
 }
 
-// "after a flush that left d at most 32 entries": joined, if a cell beside it may be.
+// "after a flush that left d at most 32 entries": joined, if a cell beside it may be. d is taken out of the round first, so that the others are looked through.
 fn joined_or_grown(
     buffer: &mut [u8],
-    grid: Grid,
+    frame: Frame,
+    cells: &mut [u16; Desk::CELL_WORDS],
     at: usize,
     chain: Chain,
     table: Entries,
@@ -96,24 +103,29 @@ fn joined_or_grown(
     lines: u16,
 ) -> Reshaped
     requires { ⌜ (chain .n ≤ pages) × (table .n ≡ length (rowsOf table)) × (length (rowsOf table) ≤ pageEntries)
-        × BeforeReshape grid at (pagesOf chain) (rowsOf table) (memoIn lines (now words)) (now buffer) ⌝ }
-    ensures { λ r. ⌜ ((x : BeforeReshape grid at (pagesOf chain) (rowsOf table) (memoIn lines (now (words .entry))) (now (buffer .entry)))
-        → LaidMemo (reshaped (x .flushed)) (r .grid) (memoIn (r .lines) (now (words .exit))) (now (buffer .exit))) ⌝ }
+        × BeforeReshape (gridIn frame (now cells)) at (pagesOf chain) (rowsOf table) (memoIn lines (now words)) (now buffer) ⌝ }
+    ensures { λ r. ⌜ ((x : BeforeReshape (gridIn frame (now (cells .entry))) at (pagesOf chain) (rowsOf table)
+        (memoIn lines (now (words .entry))) (now (buffer .entry)))
+        → LaidMemo (reshaped (x .flushed)) (gridIn (r .frame) (now (cells .exit))) (memoIn (r .lines) (now (words .exit))) (now (buffer .exit))) ⌝ }
 {
-    let cells = grid.cells;
-    let d = cells.slots[at];
-    let rest = directory::taken_out(cells, at);
-    let Neighbour::At(k) = join::find_neighbour(buffer, rest, d, table.n) else {
-        let grown = cell_last::settled_last(buffer, grid, at, chain, table);
-        return Reshaped { grid: grown, lines };
+    let d = desk::slot_at(cells, at);
+    let n = frame.cells;
+    directory::take_out(cells, n, at);
+    let Neighbour::At(k) = join::find_neighbour(buffer, cells, n - 1, d, table.n) else {
+        let grown = cell_last::hand_last(buffer, frame, cells, d, chain, table);
+        return Reshaped {
+            frame: grown,
+            lines,
+        };
     };
-    cell_join::join(buffer, grid, at, rest, k, chain, table, words, lines)
+    cell_join::join(buffer, frame, cells, d, k, chain, table, words, lines)
 }
 
 // d, with the reports in it, is split, joined, or keeps to itself; it goes to the end of the round with the pages that it needs.
 pub fn reshape(
     buffer: &mut [u8],
-    grid: Grid,
+    frame: Frame,
+    cells: &mut [u16; Desk::CELL_WORDS],
     at: usize,
     chain: Chain,
     table: Entries,
@@ -121,13 +133,17 @@ pub fn reshape(
     lines: u16,
 ) -> Reshaped
     requires { ⌜ HandFits chain table × (table .n ≡ length (rowsOf table))
-        × BeforeReshape grid at (pagesOf chain) (rowsOf table) (memoIn lines (now words)) (now buffer) ⌝ }
-    ensures { λ r. ⌜ ((x : BeforeReshape grid at (pagesOf chain) (rowsOf table) (memoIn lines (now (words .entry))) (now (buffer .entry)))
-        → LaidMemo (reshaped (x .flushed)) (r .grid) (memoIn (r .lines) (now (words .exit))) (now (buffer .exit))) ⌝ }
+        × BeforeReshape (gridIn frame (now cells)) at (pagesOf chain) (rowsOf table) (memoIn lines (now words)) (now buffer) ⌝ }
+    ensures { λ r. ⌜ ((x : BeforeReshape (gridIn frame (now (cells .entry))) at (pagesOf chain) (rowsOf table)
+        (memoIn lines (now (words .entry))) (now (buffer .entry)))
+        → LaidMemo (reshaped (x .flushed)) (gridIn (r .frame) (now (cells .exit))) (memoIn (r .lines) (now (words .exit))) (now (buffer .exit))) ⌝ }
 {
     if PAGE_ENTRIES < table.n {
-        let shape = split_or_grown(buffer, grid, at, chain, table);
-        return Reshaped { grid: shape, lines };
+        let shape = split_or_grown(buffer, frame, cells, at, chain, table);
+        return Reshaped {
+            frame: shape,
+            lines,
+        };
     }
-    joined_or_grown(buffer, grid, at, chain, table, words, lines)
+    joined_or_grown(buffer, frame, cells, at, chain, table, words, lines)
 }

@@ -7,14 +7,10 @@ ghost use Rattle.page.specs.Page.{pageBytes};
 ghost use Rattle.page.specs.Buffer.{bufferBytes};
 use desk::CutList;
 use desk::Desk;
-use desk::Directory;
-use desk::Grid;
+use desk::Frame;
 use desk::Line;
-use desk::Memo;
-use desk::On;
 use desk::Report;
 use desk::Slot;
-use desk::Waiting;
 use entries::Entry;
 use libc::STDOUT_FILENO;
 use page::Chain;
@@ -67,28 +63,24 @@ pub fn print_store(when: &[u8], name: &[u8], records: u16, desk: Desk, pages: &[
 fn print_desk(desk: Desk, pages: &[u8])
     requires { ⌜ length (now pages) ≡ bufferBytes ⌝ }
 {
-    let grid = desk.grid;
-    print_grid(grid, pages);
-    let waiting = desk.waiting;
-    print_waiting(waiting, within(waiting.n as usize, 128));
-    let memo = desk.memo;
-    print_memo(memo, within(memo.n as usize, 1151));
-    let on = desk.on;
-    print_on(on, within(on.n as usize, 512));
-    print_field(b"tally ", desk.tally);
+    let parts = desk.parts;
+    print_frame(parts.frame, desk, pages);
+    print_waiting(desk, within(parts.waiting as usize, 128));
+    print_memo(desk, within(parts.lines as usize, 1151));
+    print_on(desk, within(parts.on as usize, 512));
+    print_field(b"tally ", parts.tally);
     print(b"\n");
 }
 
-fn print_grid(grid: Grid, pages: &[u8])
+fn print_frame(frame: Frame, desk: Desk, pages: &[u8])
     requires { ⌜ length (now pages) ≡ bufferBytes ⌝ }
 {
-    let easts = grid.easts;
+    let easts = frame.easts;
     print_cuts(b"east cuts", easts, within(easts.n as usize, 15));
-    let norths = grid.norths;
+    let norths = frame.norths;
     print_cuts(b"north cuts", norths, within(norths.n as usize, 15));
-    let cells = grid.cells;
-    print_cells(cells, within(cells.n as usize, 64), pages);
-    print_free(grid.free, page_chain::read_chain(pages, grid.free));
+    print_cells(desk, within(frame.cells as usize, 64), pages);
+    print_free(frame.free, page_chain::read_chain(pages, frame.free));
 }
 
 fn print_cuts(name: &[u8], cuts: CutList, n: usize)
@@ -110,12 +102,12 @@ fn print_free(front: u16, chain: Chain) {
     print(b"\n");
 }
 
-fn print_waiting(waiting: Waiting, n: usize)
+fn print_waiting(desk: Desk, n: usize)
     requires { ⌜ n ≤ 128 ⌝ }
 {
     let mut i: usize = 0;
     while i < n {
-        print_report(waiting.rows[i]);
+        print_report(desk::report_at(&desk.waiting, i));
         i += 1;
     }
 }
@@ -130,12 +122,12 @@ fn print_report(r: Report) {
     print(b"\n");
 }
 
-fn print_memo(memo: Memo, n: usize)
+fn print_memo(desk: Desk, n: usize)
     requires { ⌜ n ≤ 1151 ⌝ }
 {
     let mut i: usize = 0;
     while i < n {
-        print_line(desk::line_at(&memo.words, i));
+        print_line(desk::line_at(&desk.memo, i));
         i += 1;
     }
 }
@@ -152,13 +144,13 @@ fn print_line(l: Line) {
     print(b"\n");
 }
 
-fn print_on(on: On, n: usize)
+fn print_on(desk: Desk, n: usize)
     requires { ⌜ n ≤ 512 ⌝ }
 {
     print(b"on");
     let mut i: usize = 0;
     while i < n {
-        print_field(b" ", on.radios[i]);
+        print_field(b" ", desk.on[i]);
         i += 1;
     }
     print(b"\n");
@@ -166,12 +158,12 @@ fn print_on(on: On, n: usize)
 
 // ---- the cells, in the order of the round
 
-fn print_cells(cells: Directory, n: usize, pages: &[u8])
+fn print_cells(desk: Desk, n: usize, pages: &[u8])
     requires { ⌜ (n ≤ 64) × (length (now pages) ≡ bufferBytes) ⌝ }
 {
     let mut i: usize = 0;
     while i < n {
-        print_cell(cells.slots[i], pages);
+        print_cell(desk::slot_at(&desk.cells, i), pages);
         i += 1;
     }
 }

@@ -4,11 +4,11 @@ ghost use Prim.Native.Nat.{_<_, _≤_};
 ghost use lib.ListN.{length};
 ghost use Rattle.page.specs.Buffer.{bufferBytes};
 use super::small;
+use super::small::On;
+use super::small::Waiting;
 use desk::CutList;
 use desk::Desk;
-use desk::On;
 use desk::Report;
-use desk::Waiting;
 use terms::PAGES;
 
 // As many metres as a stripe has where there are 15 cuts.

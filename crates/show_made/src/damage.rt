@@ -6,11 +6,11 @@ ghost use Rattle.terms.specs.Terms.{pages, fieldBytes};
 ghost use Rattle.page.specs.Page.{pageBytes};
 ghost use Rattle.page.specs.Buffer.{bufferBytes};
 use super::small;
+use super::small::Directory;
+use super::small::Memo;
+use super::small::Waiting;
 use desk::Desk;
-use desk::Directory;
 use desk::Line;
-use desk::Memo;
-use desk::Waiting;
 use libc::STDOUT_FILENO;
 use page::PAGE_BYTES;
 
@@ -75,7 +75,7 @@ pub fn try_marks(name: &[u8], desk: Desk, buffer: &[u8], mark_20: u16, mark_400:
 
 // With an unmarked report more, before the two.
 pub fn try_report(name: &[u8], desk: Desk, buffer: &[u8], radio: u16) {
-    let old = desk.waiting;
+    let old = small::waiting_of(desk);
     let mut waiting = old;
     waiting.rows[2] = old.rows[1];
     waiting.rows[1] = old.rows[0];

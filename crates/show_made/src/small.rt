@@ -9,14 +9,11 @@ ghost use Rattle.page.specs.Buffer.{bufferBytes};
 ghost use Rattle.desk.specs.Layout.{lineSlots};
 use desk::CutList;
 use desk::Desk;
-use desk::Directory;
-use desk::Grid;
+use desk::Frame;
 use desk::Line;
-use desk::Memo;
-use desk::On;
+use desk::Parts;
 use desk::Report;
 use desk::Slot;
-use desk::Waiting;
 use entries::Entries;
 use entries::Entry;
 use terms::NO_PAGE;
@@ -37,7 +34,97 @@ pub const FREE_FRONT: u16 = 1;
 
 pub const LOW_ENTRIES: usize = 34;
 
-// ---- the desk
+// ---- the desk's parts, as they are made: slots in use first
+
+pub struct Directory {
+    pub n: u16,
+    pub slots: [Slot; Desk::MAX_CELLS],
+}
+
+pub struct Waiting {
+    pub n: u16,
+    pub rows: [Report; Desk::WAITING_SLOTS],
+}
+
+pub struct Memo {
+    pub n: u16,
+    pub words: [u16; Desk::MEMO_WORDS],
+}
+
+pub struct On {
+    pub n: u16,
+    pub radios: [u16; Desk::MAX_ON],
+}
+
+// The directory's array.
+fn cell_words(cells: Directory) -> [u16; Desk::CELL_WORDS] {
+    let mut words = [0u16; Desk::CELL_WORDS];
+    let mut i: usize = 0;
+    while i < Desk::MAX_CELLS {
+        desk::put_slot(&mut words, i, cells.slots[i]);
+        i += 1;
+    }
+    words
+}
+
+// The array of the waiting reports.
+fn report_words(waiting: Waiting) -> [u16; Desk::WAITING_WORDS] {
+    let mut words = [0u16; Desk::WAITING_WORDS];
+    let mut i: usize = 0;
+    while i < Desk::WAITING_SLOTS {
+        desk::put_report(&mut words, i, waiting.rows[i]);
+        i += 1;
+    }
+    words
+}
+
+// The directory that a desk holds.
+pub fn cells_of(d: Desk) -> Directory {
+    let cells = d.cells;
+    let mut slots = [no_slot(); Desk::MAX_CELLS];
+    let mut i: usize = 0;
+    while i < Desk::MAX_CELLS {
+        slots[i] = desk::slot_at(&cells, i);
+        i += 1;
+    }
+    Directory {
+        n: d.parts.frame.cells,
+        slots,
+    }
+}
+
+// The waiting reports that a desk holds.
+pub fn waiting_of(d: Desk) -> Waiting {
+    let words = d.waiting;
+    let mut rows = [report(0, 0, 0, 0); Desk::WAITING_SLOTS];
+    let mut i: usize = 0;
+    while i < Desk::WAITING_SLOTS {
+        rows[i] = desk::report_at(&words, i);
+        i += 1;
+    }
+    Waiting {
+        n: d.parts.waiting,
+        rows,
+    }
+}
+
+// The memo that a desk holds.
+pub fn memo_of(d: Desk) -> Memo {
+    let words = d.memo;
+    Memo {
+        n: d.parts.lines,
+        words,
+    }
+}
+
+// Who is on in a desk.
+pub fn on_of(d: Desk) -> On {
+    let radios = d.on;
+    On {
+        n: d.parts.on,
+        radios,
+    }
+}
 
 pub fn cuts(n: u16, a: u16, b: u16) -> CutList {
     let mut at = [0u16; Desk::MAX_CUTS];
@@ -158,74 +245,81 @@ pub fn radios_on(entries: usize) -> On
     }
 }
 
-fn grid() -> Grid {
-    Grid {
-        easts: cuts(1, CUT, 0),
-        norths: cuts(0, 0, 0),
-        cells: both_cells(),
-        free: FREE_FRONT,
-    }
-}
-
 pub fn small_desk() -> Desk {
-    Desk {
-        grid: grid(),
-        waiting: two_reports(0, 1),
-        memo: two_lines(line_7(), line_10()),
-        on: radios_on(LOW_ENTRIES),
-        tally: 3,
-    }
+    let cut = with_easts(Desk::fresh(), cuts(1, CUT, 0));
+    let grown = with_cells(cut, both_cells(), FREE_FRONT);
+    let waits = with_waiting(grown, two_reports(0, 1));
+    let missed = with_memo(waits, two_lines(line_7(), line_10()));
+    with_tally(with_on(missed, radios_on(LOW_ENTRIES)), 3)
 }
 
 // ---- a desk with another part
 
-pub fn with_easts(d: Desk, easts: CutList) -> Desk {
-    let mut grid = d.grid;
-    grid.easts = easts;
+fn with_parts(d: Desk, parts: Parts) -> Desk {
     let mut e = d;
-    e.grid = grid;
+    e.parts = parts;
     e
+}
+
+fn with_frame(d: Desk, frame: Frame) -> Desk {
+    let mut parts = d.parts;
+    parts.frame = frame;
+    with_parts(d, parts)
+}
+
+pub fn with_easts(d: Desk, easts: CutList) -> Desk {
+    let mut frame = d.parts.frame;
+    frame.easts = easts;
+    with_frame(d, frame)
 }
 
 pub fn with_norths(d: Desk, norths: CutList) -> Desk {
-    let mut grid = d.grid;
-    grid.norths = norths;
-    let mut e = d;
-    e.grid = grid;
-    e
+    let mut frame = d.parts.frame;
+    frame.norths = norths;
+    with_frame(d, frame)
 }
 
 pub fn with_cells(d: Desk, cells: Directory, free: u16) -> Desk {
-    let mut grid = d.grid;
-    grid.cells = cells;
-    grid.free = free;
-    let mut e = d;
-    e.grid = grid;
+    let mut frame = d.parts.frame;
+    frame.cells = cells.n;
+    frame.free = free;
+    let mut e = with_frame(d, frame);
+    let words = cell_words(cells);
+    e.cells = words;
     e
 }
 
 pub fn with_waiting(d: Desk, waiting: Waiting) -> Desk {
-    let mut e = d;
-    e.waiting = waiting;
+    let mut parts = d.parts;
+    parts.waiting = waiting.n;
+    let mut e = with_parts(d, parts);
+    let words = report_words(waiting);
+    e.waiting = words;
     e
 }
 
 pub fn with_memo(d: Desk, memo: Memo) -> Desk {
-    let mut e = d;
-    e.memo = memo;
+    let mut parts = d.parts;
+    parts.lines = memo.n;
+    let mut e = with_parts(d, parts);
+    let words = memo.words;
+    e.memo = words;
     e
 }
 
 pub fn with_on(d: Desk, on: On) -> Desk {
-    let mut e = d;
-    e.on = on;
+    let mut parts = d.parts;
+    parts.on = on.n;
+    let mut e = with_parts(d, parts);
+    let radios = on.radios;
+    e.on = radios;
     e
 }
 
 pub fn with_tally(d: Desk, tally: u16) -> Desk {
-    let mut e = d;
-    e.tally = tally;
-    e
+    let mut parts = d.parts;
+    parts.tally = tally;
+    with_parts(d, parts)
 }
 
 // ---- the pages

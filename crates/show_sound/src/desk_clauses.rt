@@ -43,9 +43,9 @@ fn show_limits(desk: Desk, buffer: &[u8]) {
 }
 
 fn show_on(desk: Desk, buffer: &[u8]) {
-    let mut on = desk.on;
+    let mut on = small::on_of(desk);
     on.radios[35] = 4096;
-    let mut waiting = desk.waiting;
+    let mut waiting = small::waiting_of(desk);
     waiting.rows[1] = small::report(4096, 40000, 500, 1);
     try_waiting(b"radio 4096 on", small::with_on(desk, on), buffer, waiting);
     on.n = 513;
@@ -135,21 +135,21 @@ fn show_unused(desk: Desk, buffer: &[u8]) {
     let mut cells = small::both_cells();
     cells.slots[63] = small::stripe(0, 0, 0, 0);
     try_cells(b"number past the cells", desk, buffer, cells);
-    let mut waiting = desk.waiting;
+    let mut waiting = small::waiting_of(desk);
     waiting.rows[127] = small::report(0, 0, 0, 1);
     try_waiting(b"number past the reports", desk, buffer, waiting);
     show_last(desk, buffer);
 }
 
 fn show_last(desk: Desk, buffer: &[u8]) {
-    let old = desk.memo;
+    let old = small::memo_of(desk);
     let memo = small::with_line(old, 1150, small::line(0, 0, 0, 0, 1));
     try_desk(
         b"number past the lines",
         small::with_memo(desk, memo),
         buffer,
     );
-    let mut on = desk.on;
+    let mut on = small::on_of(desk);
     on.radios[511] = 1;
     try_desk(
         b"number past the radios on",

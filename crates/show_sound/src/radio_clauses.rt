@@ -18,12 +18,12 @@ pub fn show_radios(desk: Desk, buffer: &[u8]) {
 
 // "Each radio on has one entry that isn't stale or a waiting report marked new, and not both."
 fn show_on(desk: Desk, buffer: &[u8]) {
-    let mut waiting = desk.waiting;
+    let mut waiting = small::waiting_of(desk);
     waiting.rows[1] = small::report(0, 0, 0, 0);
     waiting.n = 1;
     try_waiting(b"radio on with neither", desk, buffer, waiting);
     try_marks(b"radio on with both", desk, buffer, 1, 1);
-    let old = desk.memo;
+    let old = small::memo_of(desk);
     let mut memo = small::with_line(old, 1, small::line(0, 0, 0, 0, 0));
     memo.n = 1;
     try_memo(b"radio on with two entries", desk, buffer, memo);
@@ -31,7 +31,7 @@ fn show_on(desk: Desk, buffer: &[u8]) {
 
 // "A radio off has neither."
 fn show_off(desk: Desk, buffer: &[u8]) {
-    let mut on = desk.on;
+    let mut on = small::on_of(desk);
     on.radios[35] = 0;
     on.n = 35;
     try_desk(

@@ -1,14 +1,13 @@
 -- What the three tests come to, one after the other: the contract of the whole.
 use mathlib.Core.Bool.{Bool, true, false, not}
 use mathlib.Core.List.{List}
-use mathlib.Core.Path.{_≡_, sym, ap, _∙_, subst}
+use mathlib.Core.Path.{_≡_, sym, ap, _∙_}
 use Prim.Native.Nat.{ℕ}
 use Rattle.lists.specs.Rows.{Rows}
 use Rattle.lists.proofs.Cases.{false-true}
 use Rattle.lists.proofs.TestsLaws.{not-true, not-false}
 use Rattle.desk.specs.declared.Desk.{Desk}
-use Rattle.desk.specs.declared.Parts.{Parts}
-use Rattle.desk.specs.Views.{partsOf, deskWith}
+use Rattle.desk.specs.Held.{deskGrid}
 use Rattle.desk.specs.Sound.{Sound}
 use Rattle.sound_desk.specs.Sound.{deskSound, shown, Shaped}
 use Rattle.sound_pages.specs.PagesSound.{PagesSound}
@@ -30,24 +29,20 @@ module _ (d : Desk) (b : List ℕ) where
   pub desk-unsound : {a : Bool} → a ≡ deskSound d → not a ≡ true → (false ≡ true → Sound d b) × (Sound d b → false ≡ true)
   desk-unsound {a} e f = unsound d b a f (λ y. e ∙ sound-desk d b y)
 
-  module _ {p : Bool} (says : (p ≡ true → PagesSound b (d .grid .cells) (d .grid .free)) × (PagesSound b (d .grid .cells) (d .grid .free) → p ≡ true)) where
+  module _ {p : Bool} (says : (p ≡ true → PagesSound b (deskGrid d .cells) (deskGrid d .free)) × (PagesSound b (deskGrid d .cells) (deskGrid d .free) → p ≡ true)) where
     pub pages-unsound : not p ≡ true → (false ≡ true → Sound d b) × (Sound d b → false ≡ true)
     pages-unsound f = unsound d b p f (λ y. says .1 (desk-pages d b y))
 
     module _ (passed : not p ≡ false) where
       -- what the radios' test may rely on
-      pub pages-passed : PagesSound b (d .grid .cells) (d .grid .free)
+      pub pages-passed : PagesSound b (deskGrid d .cells) (deskGrid d .free)
       pages-passed = says .0 (not-false p passed)
 
       -- the pages' entries are those of the cells
       pub radios-say : {a r : Bool} → Shaped d → a ≡ deskSound d → not a ≡ false
-          → r ≡ entriesTest (shown d .memo) (shown d .waiting) (shown d .on) (d .tally) (rowsRead b (d .grid .cells))
+          → r ≡ entriesTest (shown d .memo) (shown d .waiting) (shown d .on) (d .parts .tally) (rowsRead b (deskGrid d .cells))
           → (r ≡ true → Sound d b) × (Sound d b → r ≡ true)
       radios-say {a} shape e f q =
           let desk = sym e ∙ not-false a f in
-          let rows = q ∙ ap (λ (l : List (Rows Fix)). entriesTest (shown d .memo) (shown d .waiting) (shown d .on) (d .tally) l) (rows-read pages-passed) in
+          let rows = q ∙ ap (λ (l : List (Rows Fix)). entriesTest (shown d .memo) (shown d .waiting) (shown d .on) (d .parts .tally) l) (rows-read pages-passed) in
           (λ t. radios-sound d b shape desk pages-passed (sym rows ∙ t), λ y. rows ∙ sound-radios d b shape desk pages-passed y)
-
--- what is told of a desk's parts is told of the desk
-pub whole-says : (d : Desk) {p : Parts} {b : List ℕ} {r : Bool} → p ≡ partsOf d → (r ≡ true → Sound (deskWith p (d .memo .words)) b) × (Sound (deskWith p (d .memo .words)) b → r ≡ true) → (r ≡ true → Sound d b) × (Sound d b → r ≡ true)
-whole-says d {b = b} {r = r} e = subst (λ (p : Parts). (r ≡ true → Sound (deskWith p (d .memo .words)) b) × (Sound (deskWith p (d .memo .words)) b → r ≡ true)) e

@@ -12,7 +12,9 @@ use Rattle.rules.specs.Limits.{maxCells}
 use Rattle.rules.specs.Store.{Cell, Store}
 use Rattle.rules.specs.WellFormed.{chains, PagesOnce}
 use Rattle.desk.specs.declared.Desk.{Desk}
-use Rattle.desk.specs.Layout.{slotted, cutListOf, slotOf, noSlot, directoryOf, gridOf, waitingOf, memoOf, onOf, deskOf}
+use Rattle.desk.specs.Held.{deskGrid}
+use Rattle.desk.specs.Layout.{slotted, cutListOf, slotOf, noSlot, slotWords, directoryOf, gridOf, waitingOf, memoOf, onOf, deskHolding, deskOf}
+use Rattle.desk.specs.Views.{everySlot}
 use Rattle.desk.specs.Sound.{Sound}
 use Rattle.desk.proofs.ReadLaws.{Paged}
 use Rattle.desk.proofs.UniqueLaws.{take-slots, same-store}
@@ -77,7 +79,7 @@ module _ (s : Store) where
 
 -- ---- desk and pages that have passed their own tests
 
-module _ (d : Desk) (b : List ℕ) (shape : Shaped d) (desk : deskSound d ≡ true) (x : PagesSound b (d .grid .cells) (d .grid .free)) where
+module _ (d : Desk) (b : List ℕ) (shape : Shaped d) (desk : deskSound d ≡ true) (x : PagesSound b (deskGrid d .cells) (deskGrid d .free)) where
   -- the store put together: what the desk shows, with the cells and the free chain that the pages have
   abbrev pub whole : Store
   whole = record {
@@ -95,7 +97,7 @@ module _ (d : Desk) (b : List ℕ) (shape : Shaped d) (desk : deskSound d ≡ tr
   unfolding deskOf gridOf
   whole-slots =
       sym (take-slots (shown d .cells))
-      ∙ sym (ap (λ (y : Desk). take (y .grid .cells .n) (y .grid .cells .slots)) (desk-shown d shape desk))
+      ∙ sym (ap (λ (y : Desk). take (deskGrid y .cells .n) (everySlot (deskGrid y .cells .words))) (desk-shown d shape desk))
       ∙ x .shown
 
   whole-count : length (shown d .cells) ≡ length (x .cells)
@@ -109,18 +111,14 @@ module _ (d : Desk) (b : List ℕ) (shape : Shaped d) (desk : deskSound d ≡ tr
       let l = whole-slots in
       let f = x .front in
       desk-shown d shape desk
-      ∙ (λ i. record {
-        grid = record {
-          easts = cutListOf (shown d .cuts .easts);
-          norths = cutListOf (shown d .cuts .norths);
-          cells = record { n = n i; slots = slotted maxCells noSlot (l i) };
-          free = f i;
-        };
-        waiting = waitingOf (shown d .waiting);
-        memo = memoOf (shown d .memo);
-        on = onOf (shown d .on);
-        tally = shown d .tally;
+      ∙ (λ i. deskHolding
+      (record {
+        easts = cutListOf (shown d .cuts .easts);
+        norths = cutListOf (shown d .cuts .norths);
+        cells = record { n = n i; words = slotWords (slotted maxCells noSlot (l i)) };
+        free = f i;
       })
+      (waitingOf (shown d .waiting)) (memoOf (shown d .memo)) (onOf (shown d .on)) (shown d .tally))
 
   -- it is sound if the radios' tests pass
   pub radios-sound : rowsTest whole ≡ true → Sound d b

@@ -19,16 +19,16 @@ use Rattle.lists.proofs.TestsLaws.{both-true, all-cons}
 use Rattle.rules.specs.Limits.{fullMemory}
 use Rattle.rules.specs.Store.{Report as StoreReport, Line as StoreLine}
 use Rattle.rules.specs.Sweep.{staleBy, stale}
-use Rattle.desk.specs.declared.Waiting.{Waiting}
+use Rattle.desk.specs.Held.{Memo, On, Waiting}
+use Rattle.desk.specs.declared.Report.{Report}
 use Rattle.desk.specs.declared.Line.{Line}
-use Rattle.desk.specs.declared.Memo.{Memo}
-use Rattle.desk.specs.declared.On.{On}
-use Rattle.desk.specs.Layout.{noReport, lineSlots, lineFields, noLine}
-use Rattle.desk.specs.Views.{linesIn, radioRow, radiosOf}
+use Rattle.desk.specs.Layout.{reportFields, noReport, lineSlots, lineFields, noLine}
+use Rattle.desk.specs.Views.{everyReport, linesIn, radioRow, radiosOf}
 use Rattle.desk.proofs.LinesLaws.{length-lines-in}
 use Rattle.memo.specs.Memo.{rowOf, linesOf}
 use Rattle.lists.proofs.SlotsLaws.{all-nil}
 use Rattle.waiting.specs.Waiting.{rowOf as reportRow, reportsOf}
+use Rattle.waiting.proofs.WaitingLaws.{every-size}
 use Rattle.sound_balance.specs.Tables.{tableSize, fieldEnd, half, Blank, added, written, Named, lineNamed, judged, markNew, belongsBy, missedOff, oneOff}
 use Rattle.sound_balance.proofs.TableLaws.{row-next, row-none, Adding, adding-start, adding-end, adding-key, adding-turn}
 
@@ -90,40 +90,39 @@ belonging-start r = record { rise = r; same = refl }
 module _ (w : Waiting) {t₀ : List ℕ} {i : ℕ} {t : List ℕ} (a : Adding markNew t₀ (reportsOf w) i t) where
   pub new-end : w .n ≤ i → t ≡ added markNew t₀ (reportsOf w)
   unfolding reportsOf
-  new-end h = adding-end a (row-none reportRow (w .rows) (w .n) i h)
+  new-end h = adding-end a (row-none reportRow (everyReport (w .words)) (w .n) i h)
 
   pub belonging-end : {so : Bool} → Belonging t₀ (reportsOf w) i so t → w .n ≤ i → so ≡ all (belongsBy t₀) (reportsOf w)
   unfolding reportsOf
   belonging-end {so} s h =
-      sym (both-true so) ∙ ap (both so) (sym (ap (all (belongsBy t)) (row-none reportRow (w .rows) (w .n) i h) ∙ all-nil (belongsBy t))) ∙ s .same
+      sym (both-true so) ∙ ap (both so) (sym (ap (all (belongsBy t)) (row-none reportRow (everyReport (w .words)) (w .n) i h) ∙ all-nil (belongsBy t))) ∙ s .same
 
-  module _ (size : length (w .rows) ≡ fullMemory) (few : w .n ≤ fullMemory) (more : i < w .n) where
-    new-next : drop i (reportsOf w) ≡ reportRow (getD (w .rows) i noReport) ∷ drop (i + 1) (reportsOf w)
+  module _ (size : length (w .words) ≡ reportFields * fullMemory) (few : w .n ≤ fullMemory) (more : i < w .n) {x : Report} (read : x ≡ getD (everyReport (w .words)) i noReport) where
+    new-next : drop i (reportsOf w) ≡ reportRow x ∷ drop (i + 1) (reportsOf w)
     unfolding reportsOf
-    new-next = row-next reportRow (w .rows) (w .n) i noReport (omega arith) more
+    new-next = rw read (row-next reportRow (everyReport (w .words)) (w .n) i noReport (let l = every-size (w .words) size in omega arith) more)
 
-    pub new-radio : getD (w .rows) i noReport .radio ≤ maxRadio
+    pub new-radio : x .radio ≤ maxRadio
     new-radio = adding-key a new-next
 
-    pub new-turn : {k m v : ℕ} → k ≡ getD (w .rows) i noReport .radio → m ≡ one-if (not (eqb (getD (w .rows) i noReport .new) 0)) → v ≡ (getD t k 0 + m) % fieldEnd
+    pub new-turn : {k m v : ℕ} → k ≡ x .radio → m ≡ one-if (not (eqb (x .new) 0)) → v ≡ (getD t k 0 + m) % fieldEnd
         → Adding markNew t₀ (reportsOf w) (i + 1) (set t k v)
     new-turn {k} e q r = adding-turn a new-next e (r ∙ ap (λ (n : ℕ). (getD t k 0 + n) % fieldEnd) q)
 
     -- a radio waits once, so its number is that of the start
-    pub belonging-turn : {so b : Bool} {k : ℕ} (v : ℕ) → Belonging t₀ (reportsOf w) i so t → k ≡ getD (w .rows) i noReport .radio
-        → b ≡ either (not (eqb (getD (w .rows) i noReport .new) 0)) (not (eqb (getD t k 0 % half) 0))
+    pub belonging-turn : {so b : Bool} {k : ℕ} (v : ℕ) → Belonging t₀ (reportsOf w) i so t → k ≡ x .radio → b ≡ either (not (eqb (x .new) 0)) (not (eqb (getD t k 0 % half) 0))
         → Belonging t₀ (reportsOf w) (i + 1) (so && b) (set t k v)
     belonging-turn {so} {b} {k} v s e q =
-        let x = reportRow (getD (w .rows) i noReport) in
+        let y = reportRow x in
         let l = drop (i + 1) (reportsOf w) in
-        let r : Rising 0 (x ∷ l) = subst (λ (y : Rows StoreReport). Rising 0 y) new-next (s .rise) in
-        let here : b ≡ belongsBy t x = q ∙ ap (λ (j : ℕ). either (x .val .new) (not (eqb (getD t j 0 % half) 0))) e in
+        let r : Rising 0 (y ∷ l) = subst (λ (z : Rows StoreReport). Rising 0 z) new-next (s .rise) in
+        let here : b ≡ belongsBy t y = q ∙ ap (λ (j : ℕ). either (y .val .new) (not (eqb (getD t j 0 % half) 0))) e in
         record {
-          rise = rising-less 0 (x .key) l (omega (arith, r .0)) (r .1);
+          rise = rising-less 0 (y .key) l (omega (arith, r .0)) (r .1);
           same =
-              ap (both (so && b)) (belongs-above t k v (x .key) l (omega (arith, e)) (r .1))
+              ap (both (so && b)) (belongs-above t k v (y .key) l (omega (arith, e)) (r .1))
               ∙ and-then so b (all (belongsBy t) l)
-              ∙ ap (both so) (ap (λ (y : Bool). both y (all (belongsBy t) l)) here ∙ sym (all-cons (belongsBy t) x l) ∙ ap (all (belongsBy t)) (sym new-next))
+              ∙ ap (both so) (ap (λ (z : Bool). both z (all (belongsBy t) l)) here ∙ sym (all-cons (belongsBy t) y l) ∙ ap (all (belongsBy t)) (sym new-next))
               ∙ s .same;
         }
 

@@ -10,15 +10,14 @@ ghost use Rattle.lists.specs.Rows.{Rising, UpTo};
 ghost use Rattle.lists.specs.Tests.{one-if, either, all};
 ghost use Rattle.rules.specs.Limits.{fullMemory};
 ghost use Rattle.rules.specs.Sweep.{stale};
-ghost use Rattle.desk.specs.Layout.{lineSlots, lineFields};
+ghost use Rattle.desk.specs.Layout.{reportFields, lineSlots, lineFields};
 ghost use Rattle.desk.specs.Views.{radiosOf};
-ghost use Rattle.memo.specs.Memo.{memoIn, linesOf};
-ghost use Rattle.waiting.specs.On.{onWith};
+ghost use Rattle.desk.specs.Held.{waitingWith, memoIn, onWith};
+ghost use Rattle.memo.specs.Memo.{linesOf};
 ghost use Rattle.waiting.specs.Waiting.{reportsOf};
 ghost use Rattle.sound_balance.specs.Tables.{tableSize, fieldEnd, half, Blank, added, written, allSettled, Named, judged, markNew, belongsBy, missedOff, oneOff};
 use desk::Desk;
 use desk::Line;
-use desk::Waiting;
 use terms::MAX_RADIO;
 
 // A number for each radio, and one for 0.
@@ -132,17 +131,22 @@ fn belongs(new: u16, number: u16) -> bool
     (new != UNMARKED) | (number % HALF != 0)
 }
 
-// Each waiting report marked new adds 1 to its radio's low half; whether each unmarked one belongs to a radio on. One loop does both, for another function
-// would get a copy of all slots; a radio waits once, so what others add does not change its number.
-pub fn tally_new<'a>(w: Waiting, balance: &'a mut [u16; RADIOS]) -> bool
-    requires { ⌜ (w .n ≤ fullMemory) × Rising 0 (reportsOf w) × UpTo maxRadio (reportsOf w) ⌝ }
-    ensures { λ r. ⌜ (now (balance .exit) ≡ added markNew (now (balance .entry)) (reportsOf w)) × (r ≡ all (belongsBy (now (balance .entry))) (reportsOf w)) ⌝ }
+// Each waiting report marked new adds 1 to its radio's low half; whether each unmarked one belongs to a radio on. One loop does both: a radio waits once, so
+// what others add does not change its number.
+pub fn tally_new<'a>(
+    waiting: &'a [u16; Desk::WAITING_WORDS],
+    n: usize,
+    balance: &'a mut [u16; RADIOS],
+) -> bool
+    requires { ⌜ (n ≤ fullMemory) × (length (now waiting) ≡ reportFields * fullMemory) × Rising 0 (reportsOf (waitingWith n (now waiting)))
+        × UpTo maxRadio (reportsOf (waitingWith n (now waiting))) ⌝ }
+    ensures { λ r. ⌜ (now (balance .exit) ≡ added markNew (now (balance .entry)) (reportsOf (waitingWith n (now (waiting .entry)))))
+        × (r ≡ all (belongsBy (now (balance .entry))) (reportsOf (waitingWith n (now (waiting .entry))))) ⌝ }
 {
-    let n = w.n as usize;
     let mut so = true;
     let mut i: usize = 0;
     while i < n {
-        let x = w.rows[i];
+        let x = desk::report_at(waiting, i);
         let k = radio_index(x.radio);
         let before = balance[k];
         so = so & belongs(x.new, before);

@@ -16,13 +16,10 @@ use Rattle.rules.specs.Grid.{Cuts, Rect}
 use Rattle.rules.specs.Store.{Store, Cell}
 use Rattle.desk.specs.declared.CutList.{CutList}
 use Rattle.desk.specs.declared.Slot.{Slot}
-use Rattle.desk.specs.declared.Directory.{Directory}
-use Rattle.desk.specs.declared.Waiting.{Waiting}
-use Rattle.desk.specs.declared.Memo.{Memo}
-use Rattle.desk.specs.declared.On.{On}
+use Rattle.desk.specs.Held.{Directory, Memo, On, Waiting, deskGrid, deskWaiting, deskMemo, deskOn, waitingWith}
 use Rattle.desk.specs.declared.Desk.{Desk}
-use Rattle.desk.specs.Layout.{lineSlots, slotted, cutListOf, slotOf, noSlot, directoryOf, gridOf, deskOf}
-use Rattle.desk.specs.Views.{cutsBy, slotsIn, directoryWith, edgesOf as rectOf}
+use Rattle.desk.specs.Layout.{lineSlots, slotted, cutListOf, slotOf, noSlot, slotWords, directoryOf, gridOf, deskHolding, deskOf}
+use Rattle.desk.specs.Views.{everyReport, cutsBy, slotsIn, directoryWith, edgesOf as rectOf}
 use Rattle.desk.proofs.UniqueLaws.{same-cuts, same-slots, same-waiting, same-memo, same-on, same-tally}
 use Rattle.sound_clauses.specs.Grid.{edgesTest, tileTest}
 use Rattle.sound_clauses.specs.Cells.{numbersOf, edgesOf, rowsOf, numbersTest, roundTest}
@@ -47,9 +44,11 @@ use Rattle.sound_desk.proofs.WholeLaws.{on-whole, whole-on, waiting-who
 
 -- ---- what a part that has passed gives to the tests after it
 
-pub waiting-room : {a : Bool} (w : Waiting) → a ≡ waitingSound w → not a ≡ false → w .n ≤ fullMemory
+pub waiting-room : {a : Bool} (n : ℕ) (words : List ℕ) → a ≡ waitingSound (waitingWith n words) → not a ≡ false → n ≤ fullMemory
 unfolding waitingSound
-waiting-room {a} w e f = let h = slots-count reportWeight (fullMemory - 1) (w .n) (w .rows) (both-left (slotsTest reportWeight (fullMemory - 1) (w .n) (w .rows)) _ (sym e ∙ not-false a f)) in omega arith
+waiting-room {a} n words e f =
+    let h = slots-count reportWeight (fullMemory - 1) n (everyReport words) (both-left (slotsTest reportWeight (fullMemory - 1) n (everyReport words)) _ (sym e ∙ not-false a f)) in
+    omega arith
 
 -- ---- waiting reports and radios on
 
@@ -69,22 +68,22 @@ module _ (easts norths : CutList) (w : Waiting) (on : On) {a : Bool} (waits : a 
 
 -- ---- the desk
 
-module _ (d : Desk) {a : Bool} (grid : a ≡ gridSound (d .grid .easts) (d .grid .norths) (d .grid .cells)) where
+module _ (d : Desk) {a : Bool} (grid : a ≡ gridSound (deskGrid d .easts) (deskGrid d .norths) (deskGrid d .cells)) where
   pub desk-grid : not a ≡ true → false ≡ deskSound d
   unfolding deskSound
   desk-grid f = stops _ grid f
 
-  module _ (passed : not a ≡ false) {b : Bool} (radios : b ≡ radiosSound (d .grid .easts) (d .grid .norths) (d .waiting) (d .on)) where
+  module _ (passed : not a ≡ false) {b : Bool} (radios : b ≡ radiosSound (deskGrid d .easts) (deskGrid d .norths) (deskWaiting d) (deskOn d)) where
     pub desk-radios : not b ≡ true → false ≡ deskSound d
     unfolding deskSound
     desk-radios f = goes grid passed (stops _ radios f)
 
-    module _ (passed′ : not b ≡ false) {k : Bool} (memo : k ≡ memoSound (d .memo)) where
+    module _ (passed′ : not b ≡ false) {k : Bool} (memo : k ≡ memoSound (deskMemo d)) where
       pub desk-memo : not k ≡ true → false ≡ deskSound d
       unfolding deskSound
       desk-memo f = goes grid passed (goes radios passed′ (stops _ memo f))
 
-      pub desk-tally : not k ≡ false → ltb (d .tally) sweepEvery ≡ deskSound d
+      pub desk-tally : not k ≡ false → ltb (d .parts .tally) sweepEvery ≡ deskSound d
       unfolding deskSound tallyTest
       desk-tally f = goes grid passed (goes radios passed′ (goes memo f refl))
 
@@ -93,7 +92,7 @@ module _ (d : Desk) {a : Bool} (grid : a ≡ gridSound (d .grid .easts) (d .grid
 -- the slots of a store's cells
 cells-slots : (cells : List Cell) → directoryOf cells ≡ directoryWith (map slotOf cells)
 unfolding directoryOf directoryWith
-cells-slots cells = let e = sym (length-map cells slotOf) in λ i. record { n = e i; slots = slotted maxCells noSlot (map slotOf cells) }
+cells-slots cells = let e = sym (length-map cells slotOf) in λ i. record { n = e i; words = slotWords (slotted maxCells noSlot (map slotOf cells)) }
 
 shown-slots : (l : List Slot) → map slotOf (map cellOf l) ≡ l
 shown-slots l = map-map slotOf cellOf l ∙ map-same (λ x. slotOf (cellOf x)) (λ x. refl) l
@@ -126,7 +125,7 @@ record Parts (easts norths : CutList) (cells : Directory) (w : Waiting) (memo : 
   lines : memoSound memo ≡ true
   tallied : tallyTest tally ≡ true
 
-desk-parts : (d : Desk) → deskSound d ≡ true → Parts (d .grid .easts) (d .grid .norths) (d .grid .cells) (d .waiting) (d .memo) (d .on) (d .tally)
+desk-parts : (d : Desk) → deskSound d ≡ true → Parts (deskGrid d .easts) (deskGrid d .norths) (deskGrid d .cells) (deskWaiting d) (deskMemo d) (deskOn d) (d .parts .tally)
 unfolding deskSound gridSound radiosSound
 desk-parts d t =
     let p = parts _ _ t in
@@ -140,52 +139,52 @@ desk-parts d t =
     let m = parts _ _ (q .1) in
     record { east = g .0; north = h .0; directory = k .0; edges = l .0; tile = l .1; waits = w .0; heard = x .0; few = x .1; lines = m .0; tallied = m .1 }
 
-parts-desk : (d : Desk) → Parts (d .grid .easts) (d .grid .norths) (d .grid .cells) (d .waiting) (d .memo) (d .on) (d .tally) → deskSound d ≡ true
+parts-desk : (d : Desk) → Parts (deskGrid d .easts) (deskGrid d .norths) (deskGrid d .cells) (deskWaiting d) (deskMemo d) (deskOn d) (d .parts .tally) → deskSound d ≡ true
 unfolding deskSound gridSound radiosSound
 parts-desk d p =
     both-intro (both-intro (p .east) (both-intro (p .north) (both-intro (p .directory) (both-intro (p .edges) (p .tile)))))
     (both-intro (both-intro (p .waits) (both-intro (p .heard) (p .few))) (both-intro (p .lines) (p .tallied)))
 
 module _ (d : Desk) (shape : Shaped d) (sound : deskSound d ≡ true) where
-  have : Parts (d .grid .easts) (d .grid .norths) (d .grid .cells) (d .waiting) (d .memo) (d .on) (d .tally)
+  have : Parts (deskGrid d .easts) (deskGrid d .norths) (deskGrid d .cells) (deskWaiting d) (deskMemo d) (deskOn d) (d .parts .tally)
   have = desk-parts d sound
 
-  cells-whole : d .grid .cells ≡ directoryOf (shown d .cells)
+  cells-whole : deskGrid d .cells ≡ directoryOf (shown d .cells)
   cells-whole =
-      directory-whole (d .grid .cells) (have .directory) (shape .cells) .0
-      ∙ ap directoryWith (sym (shown-slots (slotsIn (d .grid .cells))))
+      directory-whole (deskGrid d .cells) (have .directory) (shape .cells) .0
+      ∙ ap directoryWith (sym (shown-slots (slotsIn (deskGrid d .cells))))
       ∙ sym (cells-slots (shown d .cells))
 
   -- the desk is that of the store it shows
   pub desk-shown : d ≡ deskOf (shown d)
   unfolding deskOf gridOf
   desk-shown =
-      let e = cuts-whole (d .grid .easts) (shape .easts) (have .east) .0 in
-      let n = cuts-whole (d .grid .norths) (shape .norths) (have .north) .0 in
+      let e = cuts-whole (deskGrid d .easts) (shape .easts) (have .east) .0 in
+      let n = cuts-whole (deskGrid d .norths) (shape .norths) (have .north) .0 in
       let c = cells-whole in
-      let w = waiting-whole (d .waiting) (shape .waiting) (have .waits) .0 in
-      let m = memo-whole (d .memo) (shape .memo) (have .lines) .0 in
-      let o = on-whole (d .on) (shape .on) (have .heard) .0 in
-      λ i. record { grid = record { easts = e i; norths = n i; cells = c i; free = d .grid .free }; waiting = w i; memo = m i; on = o i; tally = d .tally }
+      let w = waiting-whole (deskWaiting d) (shape .waiting) (have .waits) .0 in
+      let m = memo-whole (deskMemo d) (shape .memo) (have .lines) .0 in
+      let o = on-whole (deskOn d) (shape .on) (have .heard) .0 in
+      λ i. deskHolding (record { easts = e i; norths = n i; cells = c i; free = deskGrid d .free }) (w i) (m i) (o i) (d .parts .tally)
 
-  few-cells : length (slotsIn (d .grid .cells)) ≤ maxCells
+  few-cells : length (slotsIn (deskGrid d .cells)) ≤ maxCells
   unfolding directoryWith
-  few-cells = omega (arith, ap (λ (x : Directory). x .n) (directory-whole (d .grid .cells) (have .directory) (shape .cells) .0), directory-count (d .grid .cells) (have .directory))
+  few-cells = omega (arith, ap (λ (x : Directory). x .n) (directory-whole (deskGrid d .cells) (have .directory) (shape .cells) .0), directory-count (deskGrid d .cells) (have .directory))
 
   -- and the mirror's tests hold of it
   pub desk-tested : DeskTests (shown d)
   unfolding edgesSound tileSound fewSound
   desk-tested =
-      let c = directory-whole (d .grid .cells) (have .directory) (shape .cells) in
-      let w = waiting-whole (d .waiting) (shape .waiting) (have .waits) in
-      let m = memo-whole (d .memo) (shape .memo) (have .lines) in
-      let slots = slotsIn (d .grid .cells) in
-      let cuts = cutsBy (d .grid .easts) (d .grid .norths) in
+      let c = directory-whole (deskGrid d .cells) (have .directory) (shape .cells) in
+      let w = waiting-whole (deskWaiting d) (shape .waiting) (have .waits) in
+      let m = memo-whole (deskMemo d) (shape .memo) (have .lines) in
+      let slots = slotsIn (deskGrid d .cells) in
+      let cuts = cutsBy (deskGrid d .easts) (deskGrid d .norths) in
       record {
         few = le-leb (length (numbersOf (shown d .cells))) maxCells (rw (shown-numbers slots, length-map slots (λ x. x .number)) few-cells);
-        on = on-whole (d .on) (shape .on) (have .heard) .1;
-        easts = cuts-whole (d .grid .easts) (shape .easts) (have .east) .1;
-        norths = cuts-whole (d .grid .norths) (shape .norths) (have .north) .1;
+        on = on-whole (deskOn d) (shape .on) (have .heard) .1;
+        easts = cuts-whole (deskGrid d .easts) (shape .easts) (have .east) .1;
+        norths = cuts-whole (deskGrid d .norths) (shape .norths) (have .north) .1;
         numbered = ap numbersTest (shown-numbers slots) ∙ c .1;
         edges = ap (all (edgesTest cuts)) (shown-edges slots) ∙ have .edges;
         tile = ap (tileTest cuts) (shown-edges slots) ∙ have .tile;

@@ -2,7 +2,7 @@
 use mathlib.Core.Path.{_≡_, refl, sym, ap}
 use mathlib.Core.Bool.{true, false}
 use mathlib.Core.List.{List, [], _∷_, _++_}
-use Prim.Native.Nat.{ℕ, _+_, _-_, _≤_, _<_}
+use Prim.Native.Nat.{ℕ, _+_, _-_, _*_, _≤_, _<_}
 use native.Mathlib.Omega.{arith}
 use lib.ListN.{length, getD, set, take, replicate}
 use lib.Seq.{take-all}
@@ -10,23 +10,23 @@ use Rattle.lists.specs.Rows.{Row, Rows}
 use Rattle.lists.specs.Tests.{one-if}
 use Rattle.lists.proofs.Cases.{by-cases}
 use Rattle.lists.proofs.SumsLaws.{sum-take-drop}
-use Rattle.rules.specs.Limits.{maxCuts, fullBox}
+use Rattle.rules.specs.Limits.{maxCuts, fullBox, fullMemory}
 use Rattle.rules.specs.Grid.{Box, Cuts, boxOf}
 use Rattle.rules.specs.Flush.{inBox}
 use Rattle.rules.specs.Carry.{waitingIn}
 use Rattle.rules.specs.Store.{Report as StoreReport}
 use Rattle.desk.specs.declared.CutList.{CutList}
-use Rattle.desk.specs.declared.Waiting.{Waiting}
-use Rattle.desk.specs.Layout.{noReport}
-use Rattle.desk.specs.Views.{cutsBy}
+use Rattle.desk.specs.Held.{Waiting, waitingWith}
+use Rattle.desk.specs.Layout.{reportFields, noReport}
+use Rattle.desk.specs.Views.{everyReport, cutsBy}
 use Rattle.sound_clauses.specs.Waiting.{fewTest}
 use Rattle.sound_clauses.proofs.WaitingLaws.{few-true, true-few}
-use Rattle.boxes.specs.Boxes.{tableSize, boxAt, Crowd}
+use Rattle.boxes.specs.Boxes.{tableSize, boxAt, Boxed, Crowd}
 use Rattle.boxes.specs.declared.Stripes.{Stripes}
 use Rattle.boxes.proofs.CrowdLaws.{few-cuts, box-in, in-box, none-wait, wait-last, crowd-start, crowd-here, crowd-turn}
 use Rattle.boxes.proofs.StripesLaws.{Seated, seat-at}
 use Rattle.waiting.specs.Waiting.{rowOf, reportsOf}
-use Rattle.waiting.proofs.WaitingLaws.{length-reports, reports-next}
+use Rattle.waiting.proofs.WaitingLaws.{length-reports, reports-next, every-size}
 use Rattle.sound_desk.specs.Sound.{fewSound}
 
 -- the reports up to i are counted at their memory cells, and none has 8
@@ -44,7 +44,7 @@ module _ {easts norths : CutList} {w : Waiting} {at : Stripes} (seats : Seated e
   cuts = cutsBy easts norths
 
   abbrev it : Row StoreReport
-  it = rowOf (getD (w .rows) i noReport)
+  it = rowOf (getD (everyReport (w .words)) i noReport)
 
   abbrev its : Box
   its = boxOf cuts (it .val .place)
@@ -107,3 +107,9 @@ few-start w at = record {
 pub few-turn : {w : Waiting} {at : Stripes} {i k : ℕ} {crowd : List ℕ} → FewAt w at i crowd → i < w .n → k ≡ boxAt (record { east = getD (at .easts) i 0; north = getD (at .norths) i 0 })
     → getD crowd k 0 < fullBox - 1 → FewAt w at (i + 1) (set crowd k (getD crowd k 0 + 1))
 few-turn f more said room = record { so = λ easts norths s. few-more s (f .so easts norths s) more said room }
+
+-- ---- the memory cells of an array's slots
+
+pub seated : (easts norths : CutList) (n : ℕ) (ws : List ℕ) {at : Stripes} → (easts .n ≤ maxCuts) × (norths .n ≤ maxCuts) × (n ≤ fullMemory) × (length ws ≡ reportFields * fullMemory)
+    → Boxed (cutsBy easts norths) (everyReport ws) at → Seated easts norths (waitingWith n ws) at
+seated easts norths n ws h b = record { size = every-size ws (h .3); fits = h .2; east-cuts = h .0; north-cuts = h .1; boxes = b }

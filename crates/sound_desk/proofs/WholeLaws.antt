@@ -15,13 +15,12 @@ use Rattle.lists.proofs.TestsLaws.{both-left, both-right, both-intro, either-ca
 use Rattle.rules.specs.Limits.{fullMemory}
 use Rattle.rules.specs.Store.{Report as StoreReport, Line as StoreLine}
 use Rattle.desk.specs.declared.Report.{Report}
-use Rattle.desk.specs.declared.Waiting.{Waiting}
+use Rattle.desk.specs.Held.{Memo, On, Waiting}
 use Rattle.desk.specs.declared.Line.{Line}
-use Rattle.desk.specs.declared.Memo.{Memo}
-use Rattle.desk.specs.declared.On.{On}
-use Rattle.desk.specs.Layout.{lineSlots, lineFields, slotted, reportOf, noReport, waitingOf, lineWith, lineOf, noLine, memoOf, onOf}
-use Rattle.desk.specs.Views.{linesIn, radioRow, radiosOf}
+use Rattle.desk.specs.Layout.{reportFields, lineSlots, lineFields, slotted, reportOf, noReport, waitingOf, lineWith, lineOf, noLine, memoOf, onOf}
+use Rattle.desk.specs.Views.{everyReport, linesIn, radioRow, radiosOf}
 use Rattle.desk.proofs.LinesLaws.{lines-laid, words-laid, length-lines-in}
+use Rattle.desk.proofs.ReportsLaws.{reports-of-words, waiting-is}
 use Rattle.desk.proofs.UniqueLaws.{take-waiting, take-memo}
 use Rattle.memo.specs.Memo.{rowOf, linesOf}
 use Rattle.memo.proofs.MemoLaws.{lines-memo, count-memo}
@@ -31,10 +30,10 @@ use Rattle.sound_clauses.specs.Waiting.{waitingTest, placesTest}
 use Rattle.sound_directory.specs.Sound.{slotsTest, number}
 use Rattle.sound_directory.proofs.SlotLaws.{slots-used, slots-slotted, slotted-slots}
 use Rattle.waiting.specs.Waiting.{rowOf as reportRow, reportsOf}
-use Rattle.waiting.proofs.WaitingLaws.{report-row, reports-waitingOf}
+use Rattle.waiting.proofs.WaitingLaws.{report-row, reports-waitingOf, every-size}
 use Rattle.waiting.proofs.OnLaws.{radios-onOf}
-use Rattle.sound_rows.specs.Sound.{onSound, reportWeight, reportMarked, waitingSound, lineWeight, lineMarked, missedTest, memoSound}
-use Rattle.sound_rows.proofs.CodeLaws.{keys-radios, heard, kept, reportsOk, noted, linesRest, linesOk}
+use Rattle.sound_rows.specs.Sound.{onSound, reportWeight, reportMarked, reportsTest, waitingSound, lineWeight, lineMarked, missedTest, memoSound}
+use Rattle.sound_rows.proofs.CodeLaws.{keys-radios, heard, kept, noted, linesRest, linesOk}
 
 -- there and back
 pub map-back : {A B : Type 0} (f : B → A) (g : A → B) (p : A → Bool) (l : List A) → ((x : A) → p x ≡ true → x ≡ f (g x)) → all p l ≡ true → l ≡ map f (map g l)
@@ -83,18 +82,19 @@ mark-le true = refl
 mark-le false = refl
 
 module _ (w : Waiting) where
-  waiting-laid : length (w .rows) ≡ fullMemory → slotsTest reportWeight (fullMemory - 1) (w .n) (w .rows) ≡ true → all reportMarked (kept w) ≡ true → w ≡ waitingOf (reportsOf w)
-  unfolding waitingOf reportsOf
-  waiting-laid l s m =
-      let n = slots-used reportWeight (fullMemory - 1) (w .n) (w .rows) s fullMemory l (omega arith) ∙ sym (length-map (kept w) reportRow) in
-      let a = slots-slotted reportWeight (fullMemory - 1) (w .n) (w .rows) s fullMemory l (omega arith) noReport report-nothing ∙ ap (slotted fullMemory noReport) (map-back reportOf reportRow reportMarked (kept w) report-back m) in
-      λ i. record { n = n i; rows = a i }
+  waiting-laid : length (w .words) ≡ reportFields * fullMemory → slotsTest reportWeight (fullMemory - 1) (w .n) (everyReport (w .words)) ≡ true → all reportMarked (kept w) ≡ true → w ≡ waitingOf (reportsOf w)
+  unfolding reportsOf
+  waiting-laid size s m =
+      let l = every-size (w .words) size in
+      let n = slots-used reportWeight (fullMemory - 1) (w .n) (everyReport (w .words)) s fullMemory l (omega arith) ∙ sym (length-map (kept w) reportRow) in
+      let a = slots-slotted reportWeight (fullMemory - 1) (w .n) (everyReport (w .words)) s fullMemory l (omega arith) noReport report-nothing ∙ ap (slotted fullMemory noReport) (map-back reportOf reportRow reportMarked (kept w) report-back m) in
+      waiting-is (w .words) (w .n) (map reportRow (kept w)) size n a
 
-  pub waiting-whole : length (w .rows) ≡ fullMemory → waitingSound w ≡ true → (w ≡ waitingOf (reportsOf w)) × (waitingTest (reportsOf w) ≡ true) × (placesTest (reportsOf w) ≡ true)
-  unfolding waitingSound
+  pub waiting-whole : length (w .words) ≡ reportFields * fullMemory → waitingSound w ≡ true → (w ≡ waitingOf (reportsOf w)) × (waitingTest (reportsOf w) ≡ true) × (placesTest (reportsOf w) ≡ true)
+  unfolding waitingSound reportsTest
   waiting-whole l t =
-      let s = both-left (slotsTest reportWeight (fullMemory - 1) (w .n) (w .rows)) (reportsOk w) t in
-      let o = both-right (slotsTest reportWeight (fullMemory - 1) (w .n) (w .rows)) (reportsOk w) t in
+      let s = both-left (slotsTest reportWeight (fullMemory - 1) (w .n) (everyReport (w .words))) (reportsTest w) t in
+      let o = both-right (slotsTest reportWeight (fullMemory - 1) (w .n) (everyReport (w .words))) (reportsTest w) t in
       let a = both-left (waitingTest (reportsOf w)) (both (all reportMarked (kept w)) (placesTest (reportsOf w))) o in
       let b = both-right (waitingTest (reportsOf w)) (both (all reportMarked (kept w)) (placesTest (reportsOf w))) o in
       (waiting-laid l s (both-left (all reportMarked (kept w)) (placesTest (reportsOf w)) b), a, both-right (all reportMarked (kept w)) (placesTest (reportsOf w)) b)
@@ -103,9 +103,9 @@ waiting-few : (l : Rows StoreReport) → waitingTest l ≡ true → length l < f
 unfolding waitingTest
 waiting-few l t = ltb-true (length l) fullMemory (both-left (ltb (length l) fullMemory) (risesTo maxRadio 0 (keys l)) t)
 
-waiting-slots : (l : Rows StoreReport) → length l < fullMemory → slotsTest reportWeight (fullMemory - 1) (waitingOf l .n) (waitingOf l .rows) ≡ true
+waiting-slots : (l : Rows StoreReport) → length l < fullMemory → slotsTest reportWeight (fullMemory - 1) (waitingOf l .n) (everyReport (waitingOf l .words)) ≡ true
 unfolding waitingOf
-waiting-slots l h = rw (← length-map l reportOf) (slotted-slots reportWeight (fullMemory - 1) fullMemory noReport (map reportOf l) refl (rw (length-map l reportOf) (omega arith)))
+waiting-slots l h = rw (reports-of-words, ← length-map l reportOf) (slotted-slots reportWeight (fullMemory - 1) fullMemory noReport (map reportOf l) refl (rw (length-map l reportOf) (omega arith)))
 
 reports-marked : (l : Rows StoreReport) → all reportMarked (map reportOf l) ≡ true
 unfolding all
@@ -113,7 +113,7 @@ reports-marked [] = refl
 reports-marked (x ∷ xs) = both-intro (mark-le (x .val .new)) (reports-marked xs)
 
 pub whole-waiting : (l : Rows StoreReport) → waitingTest l ≡ true → placesTest l ≡ true → waitingSound (waitingOf l) ≡ true
-unfolding waitingSound
+unfolding waitingSound reportsTest
 whole-waiting l t u =
     both-intro (waiting-slots l (waiting-few l t))
     (both-intro (ap waitingTest (reports-waitingOf l) ∙ t) (both-intro (ap (all reportMarked) (take-waiting l) ∙ reports-marked l) (ap placesTest (reports-waitingOf l) ∙ u)))

@@ -13,10 +13,9 @@ use Rattle.rules.specs.Limits.{maxCells, maxCuts, fullMemory}
 use Rattle.rules.specs.Grid.{Rect, Cuts}
 use Rattle.rules.specs.Store.{Store, Report as StoreReport, Line as StoreLine}
 use Rattle.desk.specs.declared.CutList.{CutList}
-use Rattle.desk.specs.declared.Waiting.{Waiting}
-use Rattle.desk.specs.declared.On.{On}
+use Rattle.desk.specs.Held.{On, Waiting, deskGrid, deskWaiting, deskMemo, deskOn}
 use Rattle.desk.specs.declared.Desk.{Desk}
-use Rattle.desk.specs.Layout.{lineSlots, lineFields}
+use Rattle.desk.specs.Layout.{slotFields, reportFields, lineSlots, lineFields}
 use Rattle.desk.specs.Views.{cutsBy, radiosOf, slotsIn}
 use Rattle.memo.specs.Memo.{linesOf}
 use Rattle.sound_clauses.specs.Grid.{cutsTest, edgesTest, tileTest}
@@ -41,21 +40,21 @@ radiosSound easts norths w on = both (waitingSound w) (both (onSound on) (fewSou
 
 unfoldable pub deskSound : Desk → Bool
 deskSound d =
-    both (gridSound (d .grid .easts) (d .grid .norths) (d .grid .cells))
-    (both (radiosSound (d .grid .easts) (d .grid .norths) (d .waiting) (d .on)) (both (memoSound (d .memo)) (tallyTest (d .tally))))
+    both (gridSound (deskGrid d .easts) (deskGrid d .norths) (deskGrid d .cells))
+    (both (radiosSound (deskGrid d .easts) (deskGrid d .norths) (deskWaiting d) (deskOn d)) (both (memoSound (deskMemo d)) (tallyTest (d .parts .tally))))
 
 -- ---- what it says
 
 -- the store that a desk shows: of each chain its first page, and no entries
 abbrev pub shown : Desk → Store
 shown d = record {
-  cuts = cutsBy (d .grid .easts) (d .grid .norths);
-  cells = map cellOf (slotsIn (d .grid .cells));
-  free = d .grid .free ∷ [];
-  waiting = reportsOf (d .waiting);
-  memo = linesOf (d .memo);
-  on = radiosOf (d .on);
-  tally = d .tally;
+  cuts = cutsBy (deskGrid d .easts) (deskGrid d .norths);
+  cells = map cellOf (slotsIn (deskGrid d .cells));
+  free = deskGrid d .free ∷ [];
+  waiting = reportsOf (deskWaiting d);
+  memo = linesOf (deskMemo d);
+  on = radiosOf (deskOn d);
+  tally = d .parts .tally;
 }
 
 -- the mirror's tests that look neither at chains nor at entries, by what they look at
@@ -82,9 +81,9 @@ DeskTests s = Tests (s .cuts) (numbersOf (s .cells)) (edgesOf (s .cells)) (s .wa
 
 -- each array has its slots: a value of the type always does
 pub record Shaped (d : Desk) : Type 0 where
-  pub easts : length (d .grid .easts .at) ≡ maxCuts
-  pub norths : length (d .grid .norths .at) ≡ maxCuts
-  pub cells : length (d .grid .cells .slots) ≡ maxCells
-  pub waiting : length (d .waiting .rows) ≡ fullMemory
-  pub memo : length (d .memo .words) ≡ lineFields * lineSlots
-  pub on : length (d .on .radios) ≡ maxOn
+  pub easts : length (deskGrid d .easts .at) ≡ maxCuts
+  pub norths : length (deskGrid d .norths .at) ≡ maxCuts
+  pub cells : length (d .cells) ≡ slotFields * maxCells
+  pub waiting : length (d .waiting) ≡ reportFields * fullMemory
+  pub memo : length (d .memo) ≡ lineFields * lineSlots
+  pub on : length (d .on) ≡ maxOn

@@ -3,16 +3,15 @@
 ghost use mathlib.Core.Path.{_≡_};
 ghost use Prim.Native.Nat.{_*_, _≤_};
 ghost use lib.ListN.{length};
-ghost use Rattle.rules.specs.Limits.{maxCuts, fullMemory};
-ghost use Rattle.desk.specs.Layout.{lineSlots, lineFields};
-ghost use Rattle.memo.specs.Memo.{memoIn};
+ghost use Rattle.rules.specs.Limits.{maxCells, maxCuts, fullMemory};
+ghost use Rattle.terms.specs.Terms.{maxOn};
+ghost use Rattle.desk.specs.Layout.{slotFields, reportFields, lineSlots, lineFields};
+ghost use Rattle.desk.specs.Held.{waitingWith, onWith, deskWith};
 ghost use Rattle.sound_desk.specs.Sound.{fewSound, radiosSound, deskSound};
 use boxes::BOXES;
 use desk::CutList;
 use desk::Desk;
-use desk::Grid;
-use desk::On;
-use desk::Waiting;
+use desk::Parts;
 use sound_grid::grid_sound;
 
 const MOST_IN_BOX: usize = Desk::FULL_BOX - 1;
@@ -20,14 +19,19 @@ const MOST_IN_BOX: usize = Desk::FULL_BOX - 1;
 // ---- fewer than 8 a memory cell
 
 // Whether fewer than 8 wait in each memory cell: each report counts in its own.
-fn few_sound(easts: CutList, norths: CutList, w: Waiting) -> bool
-    requires { ⌜ (easts .n ≤ maxCuts) × (norths .n ≤ maxCuts) × (w .n ≤ fullMemory) ⌝ }
-    ensures { λ r. ⌜ r ≡ fewSound easts norths w ⌝ }
+fn few_sound<'a>(
+    easts: CutList,
+    norths: CutList,
+    waiting: &'a [u16; Desk::WAITING_WORDS],
+    n: usize,
+) -> bool
+    requires { ⌜ (easts .n ≤ maxCuts) × (norths .n ≤ maxCuts) × (n ≤ fullMemory) × (length (now waiting) ≡ reportFields * fullMemory) ⌝ }
+    ensures { λ r. ⌜ r ≡ fewSound easts norths (waitingWith n (now (waiting .entry))) ⌝ }
 {
-    let at = boxes::boxes_of(easts, norths, w);
+    let at = boxes::boxes_of(easts, norths, waiting);
     let mut crowd: [usize; BOXES] = [0; BOXES];
     let mut i: usize = 0;
-    while i < w.n as usize {
+    while i < n {
         let k = boxes::box_index(at.easts[i], at.norths[i]);
         let others = crowd[k];
         if MOST_IN_BOX <= others {
@@ -42,39 +46,48 @@ fn few_sound(easts: CutList, norths: CutList, w: Waiting) -> bool
 // ---- the desk
 
 // Whether waiting reports and radios on are sound, but for entries and for each other.
-fn radios_sound(easts: CutList, norths: CutList, w: Waiting, on: On) -> bool
-    requires { ⌜ (easts .n ≤ maxCuts) × (norths .n ≤ maxCuts) ⌝ }
-    ensures { λ r. ⌜ r ≡ radiosSound easts norths w on ⌝ }
+fn radios_sound<'a>(
+    parts: Parts,
+    waiting: &'a [u16; Desk::WAITING_WORDS],
+    on: &'a [u16; Desk::MAX_ON],
+) -> bool
+    requires { ⌜ (parts .frame .easts .n ≤ maxCuts) × (parts .frame .norths .n ≤ maxCuts) × (length (now waiting) ≡ reportFields * fullMemory)
+        × (length (now on) ≡ maxOn) ⌝ }
+    ensures { λ r. ⌜ r
+        ≡ radiosSound (parts .frame .easts) (parts .frame .norths) (waitingWith (parts .waiting) (now (waiting .entry)))
+        (onWith (parts .on) (now (on .entry))) ⌝ }
 {
-    if !sound_rows::waiting_sound(w) {
+    let n = parts.waiting as usize;
+    if !sound_rows::waiting_sound(waiting, n) {
         return false;
     }
-    if !sound_rows::on_sound(on) {
+    if !sound_rows::on_sound(on, parts.on as usize) {
         return false;
     }
-    few_sound(easts, norths, w)
+    few_sound(parts.frame.easts, parts.frame.norths, waiting, n)
 }
 
-// Whether a desk in any condition is sound, as far as that shows without the pages. It comes in its parts, for the memo is lent.
+// Whether a desk in any condition is sound, as far as that shows without the pages. It comes in its parts and its arrays, for these are lent.
 pub fn desk_sound<'a>(
-    grid: Grid,
-    waiting: Waiting,
-    words: &'a [u16; Desk::MEMO_WORDS],
-    n: u16,
-    on: On,
-    tally: u16,
+    parts: Parts,
+    cells: &'a [u16; Desk::CELL_WORDS],
+    waiting: &'a [u16; Desk::WAITING_WORDS],
+    memo: &'a [u16; Desk::MEMO_WORDS],
+    on: &'a [u16; Desk::MAX_ON],
 ) -> bool
-    requires { ⌜ length (now words) ≡ lineFields * lineSlots ⌝ }
-    ensures { λ r. ⌜ r ≡ deskSound (record { grid = grid; waiting = waiting; memo = memoIn n (now (words .entry)); on = on; tally = tally }) ⌝ }
+    requires { ⌜ (length (now cells) ≡ slotFields * maxCells) × (length (now waiting) ≡ reportFields * fullMemory)
+        × (length (now memo) ≡ lineFields * lineSlots) × (length (now on) ≡ maxOn) ⌝ }
+    ensures { λ r. ⌜ r ≡ deskSound (deskWith parts (now (cells .entry)) (now (waiting .entry)) (now (memo .entry)) (now (on .entry))) ⌝ }
 {
-    if !grid_sound(grid.easts, grid.norths, grid.cells) {
+    let n = parts.frame.cells as usize;
+    if !grid_sound(parts.frame.easts, parts.frame.norths, cells, n) {
         return false;
     }
-    if !radios_sound(grid.easts, grid.norths, waiting, on) {
+    if !radios_sound(parts, waiting, on) {
         return false;
     }
-    if !sound_rows::memo_sound(words, n) {
+    if !sound_rows::memo_sound(memo, parts.lines) {
         return false;
     }
-    tally < Desk::SWEEP_EVERY
+    parts.tally < Desk::SWEEP_EVERY
 }

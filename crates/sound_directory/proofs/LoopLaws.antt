@@ -1,18 +1,20 @@
 -- Loops over the slots of a part of the desk: over those in use, that they rise, and over the others, that they are zero.
 use mathlib.Core.Path.{_≡_, refl, sym, ap, _∙_}
 use mathlib.Core.Bool.{Bool, true, not, _&&_}
-use mathlib.Core.List.{List}
-use Prim.Native.Nat.{ℕ, _+_, _≤_, _<_}
+use mathlib.Core.List.{List, [], _∷_, _++_, map}
+use Prim.Native.Nat.{ℕ, zero, suc, _+_, _*_, _≤_, _<_}
+use native.Mathlib.Nat.{mul-zero, mul-suc}
 use native.Mathlib.Omega.{arith}
 use native.Mathlib.Numerals.{add-one}
 use lib.Dec.{eqb, leb, ltb}
 use lib.ListN.{length, getD, take, drop, drop-of-length-le}
-use lib.Seq.{drop-cons}
+use lib.Seq.{drop-cons, drop-append-add}
 use borrow.Author.Tests.{eqb-true, eqb-false, eq-eqb, ne-eqb}
-use Rattle.lists.specs.Sums.{sumBy}
+use Rattle.lists.specs.Sums.{sumBy, concat}
 use Rattle.lists.specs.Tests.{both}
 use Rattle.lists.proofs.Cases.{by-cases}
 use Rattle.lists.proofs.SlotsLaws.{used-cons, used-none}
+use Rattle.lists.proofs.SumsLaws.{sum-ext, sum-concat-map}
 use Rattle.lists.proofs.TestsLaws.{both-true, and-both}
 use Rattle.sound_clauses.specs.Loops.{risesTo}
 use Rattle.sound_clauses.proofs.LoopsLaws.{rises-nil, rises-cons}
@@ -29,7 +31,7 @@ pub rise-start : (top : ℕ) (xs : List ℕ) (n : ℕ) → n ≤ length xs → R
 unfolding both
 rise-start top xs n h = record { fits = h; same = refl }
 
-both-then : (a b c : Bool) → both (both a b) c ≡ both a (both b c)
+pub both-then : (a b c : Bool) → both (both a b) c ≡ both a (both b c)
 unfolding both
 both-then a b c = by-cases a (λ t. rw t) (λ t. rw t)
 
@@ -52,28 +54,13 @@ module _ {top : ℕ} {xs : List ℕ} {n : ℕ} {so : Bool} {last i : ℕ} (r : R
 
 -- ---- what the slots that are not used weigh
 
--- those up to i weigh sum: with the rest it is the whole
-pub record Weighed {A : Type 0} (w : A → ℕ) (xs : List A) (size n i sum : ℕ) : Type 0 where
-  pub sized : length xs ≡ size
-  pub same : sum + weighs w i xs ≡ weighs w n xs
-
-pub weighed-start : {A : Type 0} (w : A → ℕ) (xs : List A) (size n : ℕ) → length xs ≡ size → Weighed w xs size n n 0
-weighed-start w xs size n e = record { sized = e; same = omega arith }
-
-weigh-cons : {A : Type 0} (w : A → ℕ) (xs : List A) (i : ℕ) (d : A) → i < length xs → weighs w i xs ≡ w (getD xs i d) + weighs w (i + 1) xs
+weigh-cons : (xs : List ℕ) (i : ℕ) → i < length xs → weighs number i xs ≡ getD xs i 0 + weighs number (i + 1) xs
 unfolding weighs sumBy
-weigh-cons w xs i d h = rw (add-one, drop-cons xs i d h)
+weigh-cons xs i h = rw (add-one, drop-cons xs i 0 h)
 
-weigh-none : {A : Type 0} (w : A → ℕ) (xs : List A) (i : ℕ) → length xs ≤ i → weighs w i xs ≡ 0
+weigh-none : (xs : List ℕ) (i : ℕ) → length xs ≤ i → weighs number i xs ≡ 0
 unfolding weighs sumBy
-weigh-none w xs i h = rw (drop-of-length-le xs {i = i} h)
-
-module _ {A : Type 0} {w : A → ℕ} {xs : List A} {size n i sum : ℕ} (r : Weighed w xs size n i sum) where
-  pub weighed-turn : {e : ℕ} (d : A) → i < size → e ≡ w (getD xs i d) → Weighed w xs size n (i + 1) (sum + e)
-  weighed-turn d h q = record { sized = r .sized; same = omega (arith, weigh-cons w xs i d (omega (arith, r .sized)), r .same) }
-
-  pub weighed-end : size ≤ i → sum ≡ weighs w n xs
-  weighed-end h = omega (arith, weigh-none w xs i (omega (arith, r .sized)), r .same)
+weigh-none xs i h = rw (drop-of-length-le xs {i = i} h)
 
 -- ---- whether the slots that are not used are zero
 
@@ -86,7 +73,7 @@ unfolding both
 clear-start xs n = record { same = refl }
 
 -- a sum is 0 just if its parts are
-sum-clear : (a b : ℕ) → eqb (a + b) 0 ≡ both (eqb a 0) (eqb b 0)
+pub sum-clear : (a b : ℕ) → eqb (a + b) 0 ≡ both (eqb a 0) (eqb b 0)
 unfolding both
 sum-clear a b =
     by-cases (eqb a 0)
@@ -102,9 +89,23 @@ module _ {xs : List ℕ} {n : ℕ} {so : Bool} {i : ℕ} (r : Clear xs n so i) w
         same =
             ap (λ (y : Bool). both y rest) (and-both so x)
             ∙ both-then so x rest
-            ∙ ap (both so) (sym (sum-clear (getD xs i 0) (weighs number (i + 1) xs)) ∙ ap (λ (k : ℕ). eqb k 0) (sym (weigh-cons number xs i 0 more)))
+            ∙ ap (both so) (sym (sum-clear (getD xs i 0) (weighs number (i + 1) xs)) ∙ ap (λ (k : ℕ). eqb k 0) (sym (weigh-cons xs i more)))
             ∙ r .same;
       }
 
   pub clear-end : length xs ≤ i → so ≡ eqb (weighs number n xs) 0
-  clear-end h = sym (both-true so) ∙ ap (both so) (sym (eq-eqb (weighs number i xs) 0 (weigh-none number xs i h))) ∙ r .same
+  clear-end h = sym (both-true so) ∙ ap (both so) (sym (eq-eqb (weighs number i xs) 0 (weigh-none xs i h))) ∙ r .same
+
+-- ---- an array that has the fields of one slot after the other
+
+-- its numbers from a slot's first field on weigh what the slots from there on weigh
+module _ {A : Type 0} (fields : A → List ℕ) (w : A → ℕ) (size : ℕ) (long : (x : A) → length (fields x) ≡ size) (heavy : (x : A) → sumBy number (fields x) ≡ w x) where
+  pub fields-rest : (i : ℕ) (l : List A) → weighs number (size * i) (concat (map fields l)) ≡ weighs w i l
+  unfolding weighs sumBy concat
+  fields-rest zero l = rw (mul-zero size) (sum-concat-map number fields l ∙ sum-ext (λ x. sumBy number (fields x)) w l heavy)
+  fields-rest (suc i) [] = ap (sumBy number) (drop-of-length-le [] {i = size * suc i} (omega arith))
+  fields-rest (suc i) (x ∷ l) =
+      let e : size * suc i ≡ length (fields x) + size * i = omega (arith, long x, mul-suc size i) in
+      ap (λ (k : ℕ). sumBy number (drop k (fields x ++ concat (map fields l)))) e
+      ∙ ap (sumBy number) (drop-append-add (fields x) (concat (map fields l)) (size * i))
+      ∙ fields-rest i l

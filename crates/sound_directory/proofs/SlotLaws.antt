@@ -2,13 +2,12 @@
 use mathlib.Core.Path.{_≡_, refl, sym, ap, ap₂, _∙_}
 use mathlib.Core.Bool.{Bool, true, false, not}
 use mathlib.Core.List.{List, [], _∷_, _++_}
-use mathlib.Core.Logic.{_≢_}
 use Prim.Native.Nat.{ℕ, zero, suc, _-_, _≤_, _<_}
 use native.Mathlib.Omega.{arith}
 use lib.Dec.{eqb, leb}
 use lib.ListN.{length, take, drop, replicate, length-drop, take-append-drop}
 use lib.Seq.{drop-append-seam, length-take-le}
-use borrow.Author.Tests.{le-leb, lt-leb, leb-true, eqb-true, eq-eqb, ne-eqb}
+use borrow.Author.Tests.{le-leb, lt-leb, leb-true, eqb-true, eq-eqb}
 use Rattle.lists.specs.Sums.{sumBy}
 use Rattle.lists.proofs.TestsLaws.{both-left, both-right, both-intro, both-left-false, both-right-false, not-true, not-false}
 use Rattle.desk.specs.Layout.{slotted}
@@ -33,14 +32,6 @@ module _ {A : Type 0} (w : A → ℕ) (most n : ℕ) (xs : List A) where
   pub slots-long : most < n → slotsTest w most n xs ≡ false
   unfolding slotsTest
   slots-long h = both-left-false (eqb (weighs w n xs) 0) (lt-leb n most h)
-
-  pub slots-heavy : {s : ℕ} → s ≡ weighs w n xs → s ≢ 0 → slotsTest w most n xs ≡ false
-  unfolding slotsTest
-  slots-heavy e h = both-right-false (leb n most) (ne-eqb (weighs w n xs) 0 (λ z. h (e ∙ z)))
-
-  pub slots-fit : {s : ℕ} → n ≤ most → s ≡ weighs w n xs → s ≡ 0 → slotsTest w most n xs ≡ true
-  unfolding slotsTest
-  slots-fit h e z = both-intro (le-leb n most h) (eq-eqb (weighs w n xs) 0 (sym e ∙ z))
 
   pub slots-unclear : {b : Bool} → b ≡ eqb (weighs w n xs) 0 → not b ≡ true → slotsTest w most n xs ≡ false
   unfolding slotsTest

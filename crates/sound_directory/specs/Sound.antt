@@ -10,8 +10,8 @@ use Rattle.lists.specs.Tests.{both}
 use Rattle.rules.specs.Limits.{maxCells, maxCuts}
 use Rattle.desk.specs.declared.CutList.{CutList}
 use Rattle.desk.specs.declared.Slot.{Slot}
-use Rattle.desk.specs.declared.Directory.{Directory}
-use Rattle.desk.specs.Views.{cutsIn}
+use Rattle.desk.specs.Held.{Directory}
+use Rattle.desk.specs.Views.{everySlot, cutsIn}
 use Rattle.sound_clauses.specs.Grid.{cutsTest}
 use Rattle.sound_clauses.specs.Cells.{numbersTest, roundTest}
 use Rattle.sound_directory.specs.Views.{numbersIn}
@@ -24,10 +24,6 @@ module _ {A : Type 0} where
   -- a count within its limit, and zero in the slots past it
   unfoldable pub slotsTest : (A → ℕ) → ℕ → ℕ → List A → Bool
   slotsTest w most n slots = both (leb n most) (eqb (weighs w n slots) 0)
-
--- the greatest number that a 16-bit field holds
-abbrev pub mostField : ℕ
-mostField = 65535
 
 -- ---- cuts
 
@@ -47,4 +43,4 @@ unfoldable pub namesSound : Directory → Bool
 namesSound d = both (numbersTest (numbersIn d)) (roundTest (numbersIn d))
 
 unfoldable pub directorySound : Directory → Bool
-directorySound d = both (slotsTest slotWeight maxCells (d .n) (d .slots)) (namesSound d)
+directorySound d = both (slotsTest slotWeight maxCells (d .n) (everySlot (d .words))) (namesSound d)

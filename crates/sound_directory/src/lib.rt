@@ -2,23 +2,17 @@
 // before a slot is looked at.
 ghost use mathlib.Core.Bool.{true};
 ghost use mathlib.Core.Path.{_≡_};
-ghost use Prim.Native.Nat.{_+_, _*_, _<_, _≤_};
+ghost use Prim.Native.Nat.{_*_, _≤_};
 ghost use lib.Dec.{eqb, leb, ltb};
 ghost use lib.ListN.{length, take};
 ghost use Rattle.lists.specs.Tests.{both};
 ghost use Rattle.rules.specs.Limits.{maxCells};
+ghost use Rattle.desk.specs.Layout.{slotFields};
+ghost use Rattle.desk.specs.Held.{directoryIn};
 ghost use Rattle.sound_clauses.specs.Loops.{risesTo};
-ghost use Rattle.sound_directory.specs.Sound.{weighs, mostField, number, cutsSound, slotWeight, namesSound, directorySound};
+ghost use Rattle.sound_directory.specs.Sound.{weighs, number, cutsSound, namesSound, directorySound};
 use desk::CutList;
 use desk::Desk;
-use desk::Directory;
-use desk::Slot;
-
-pub fn wide(x: u16) -> u32
-    ensures { λ r. ⌜ (r ≡ x) × (r ≤ mostField) ⌝ }
-{
-    x as u32
-}
 
 // ---- numbers in slots
 
@@ -77,26 +71,6 @@ pub fn cuts_sound(c: CutList) -> bool
 
 // ---- the directory
 
-fn slot_weight(x: Slot) -> u32
-    ensures { λ r. ⌜ (r ≡ slotWeight x) × (r ≤ 6 * mostField) ⌝ }
-{
-    wide(x.number) + wide(x.west) + wide(x.east) + wide(x.south) + wide(x.north) + wide(x.first)
-}
-
-// What the slots past the cells weigh.
-fn slots_rest(d: Directory) -> u32
-    requires { ⌜ d .n ≤ maxCells ⌝ }
-    ensures { λ r. ⌜ r ≡ weighs slotWeight (d .n) (d .slots) ⌝ }
-{
-    let mut sum: u32 = 0;
-    let mut i = d.n as usize;
-    while i < Desk::MAX_CELLS {
-        sum = sum + slot_weight(d.slots[i]);
-        i += 1;
-    }
-    sum
-}
-
 fn index(x: u16) -> usize
     ensures { λ r. ⌜ r ≡ x ⌝ }
 {
@@ -104,14 +78,14 @@ fn index(x: u16) -> usize
 }
 
 // Whether the cells have numbers from 0 to 63, each once: each marks its own.
-fn names_sound(d: Directory) -> bool
-    requires { ⌜ d .n ≤ maxCells ⌝ }
-    ensures { λ r. ⌜ r ≡ namesSound d ⌝ }
+fn names_sound<'a>(cells: &'a [u16; Desk::CELL_WORDS], n: usize) -> bool
+    requires { ⌜ (n ≤ maxCells) × (length (now cells) ≡ slotFields * maxCells) ⌝ }
+    ensures { λ r. ⌜ r ≡ namesSound (directoryIn n (now (cells .entry))) ⌝ }
 {
     let mut marks = [false; Desk::MAX_CELLS];
     let mut i: usize = 0;
-    while i < d.n as usize {
-        let x = d.slots[i];
+    while i < n {
+        let x = desk::slot_at(cells, i);
         let k = index(x.number);
         if Desk::MAX_CELLS <= k {
             return false;
@@ -126,14 +100,15 @@ fn names_sound(d: Directory) -> bool
 }
 
 // Whether the directory is sound, but for edges and pages.
-pub fn directory_sound(d: Directory) -> bool
-    ensures { λ r. ⌜ r ≡ directorySound d ⌝ }
+pub fn directory_sound<'a>(cells: &'a [u16; Desk::CELL_WORDS], n: usize) -> bool
+    requires { ⌜ length (now cells) ≡ slotFields * maxCells ⌝ }
+    ensures { λ r. ⌜ r ≡ directorySound (directoryIn n (now (cells .entry))) ⌝ }
 {
-    if Desk::MAX_CELLS < d.n as usize {
+    if Desk::MAX_CELLS < n {
         return false;
     }
-    if slots_rest(d) != 0 {
+    if !is_clear(cells, Desk::CELL_FIELDS * n) {
         return false;
     }
-    names_sound(d)
+    names_sound(cells, n)
 }

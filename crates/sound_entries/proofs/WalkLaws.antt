@@ -25,9 +25,11 @@ use Rattle.page.specs.Buffer.{pageAt, there, chainFrom, entriesOn, entriesFrom}
 use Rattle.page.proofs.PageLaws.{count-le}
 use Rattle.page.proofs.ChainLaws.{there-bounds, was-there, chain-ended, chain-not-there, chain-there, chain-out}
 use Rattle.rules.specs.Limits.{maxCells}
-use Rattle.desk.specs.declared.Directory.{Directory}
-use Rattle.desk.specs.Layout.{noSlot}
-use Rattle.desk.specs.Views.{slotsIn}
+use Rattle.desk.specs.declared.Slot.{Slot}
+use Rattle.desk.specs.Held.{Directory}
+use Rattle.desk.specs.Layout.{noSlot, slotFields}
+use Rattle.desk.specs.Views.{everySlot, slotsIn}
+use Rattle.desk.proofs.SlotsLaws.{length-slots}
 use Rattle.sound_balance.specs.Tables.{fieldEnd, half, added}
 use Rattle.sound_balance.proofs.TableLaws.{row-next, row-none, addedOne, Adding, adding-start, adding-end, adding-key, adding-turn}
 use Rattle.sound_entries.specs.Entries.{rowsRead, weight, weigh, staleSum}
@@ -187,20 +189,22 @@ module _ {old : Row Fix → Bool} {b : List ℕ} (d : Directory) {t₀ t counts 
   pub cells-end : i ≤ d .n → d .n ≤ i → (t ≡ added (weigh old) t₀ (concat (rowsRead b d))) × (take (d .n) counts ≡ map (staleSum old) (rowsRead b d))
   unfolding rowsRead slotsIn added
   cells-end h k =
-      let e = row-none (λ s. entriesFrom b (s .first)) (d .slots) (d .n) i k in
+      let e = row-none (λ s. entriesFrom b (s .first)) (everySlot (d .words)) (d .n) i k in
       let z : i ≡ d .n = omega arith in
       let m : take i counts ++ map (staleSum old) [] ≡ map (staleSum old) (rowsRead b d) = ap (λ (l : List (Rows Fix)). take i counts ++ map (staleSum old) l) (sym e) ∙ a .counted in (
         ap (added (weigh old) t) (sym (ap concat e ∙ concat-none)) ∙ a .same,
         ap (λ (n : ℕ). take n counts) (sym z) ∙ sym (append-nil (take i counts)) ∙ m,
       )
 
-  module _ (slots : length (d .slots) ≡ maxCells) (few : d .n ≤ maxCells) (more : i < d .n) where
+  module _ (slots : length (d .words) ≡ slotFields * maxCells) (few : d .n ≤ maxCells) (more : i < d .n) (x : Slot) (read : x ≡ getD (everySlot (d .words)) i noSlot) where
     abbrev here : Rows Fix
-    here = entriesFrom b (getD (d .slots) i noSlot .first)
+    here = entriesFrom b (x .first)
 
     rows-next : drop i (rowsRead b d) ≡ here ∷ drop (i + 1) (rowsRead b d)
     unfolding rowsRead slotsIn
-    rows-next = row-next (λ s. entriesFrom b (s .first)) (d .slots) (d .n) i noSlot (omega arith) more
+    rows-next =
+        row-next (λ s. entriesFrom b (s .first)) (everySlot (d .words)) (d .n) i noSlot (let l = length-slots (d .words) slots in omega arith) more
+        ∙ ap (λ (s : Slot). entriesFrom b (s .first) ∷ drop (i + 1) (rowsRead b d)) (sym read)
 
     all-next : concat (drop i (rowsRead b d)) ≡ here ++ concat (drop (i + 1) (rowsRead b d))
     all-next = ap concat rows-next ∙ concat-cons here (drop (i + 1) (rowsRead b d))
@@ -208,11 +212,10 @@ module _ {old : Row Fix → Bool} {b : List ℕ} (d : Directory) {t₀ t counts 
     radios-here : UpTo maxRadio here × UpTo maxRadio (concat (drop (i + 1) (rowsRead b d)))
     radios-here = each-split (λ x. x .key ≤ maxRadio) here (concat (drop (i + 1) (rowsRead b d))) (subst (λ (es : Rows Fix). UpTo maxRadio es) all-next (a .radios))
 
-    pub cells-radios : UpTo maxRadio (entriesFrom b (getD (d .slots) i noSlot .first))
+    pub cells-radios : UpTo maxRadio (entriesFrom b (x .first))
     cells-radios = radios-here .0
 
-    pub cells-turn : {u : List ℕ} {s : ℕ} → u ≡ added (weigh old) t (entriesFrom b (getD (d .slots) i noSlot .first)) → s ≡ staleSum old (entriesFrom b (getD (d .slots) i noSlot .first))
-        → Cells old b d t₀ u (set counts i s) (i + 1)
+    pub cells-turn : {u : List ℕ} {s : ℕ} → u ≡ added (weigh old) t (entriesFrom b (x .first)) → s ≡ staleSum old (entriesFrom b (x .first)) → Cells old b d t₀ u (set counts i s) (i + 1)
     cells-turn {u} {s} g h =
         let rest = drop (i + 1) (rowsRead b d) in
         let f = staleSum old in

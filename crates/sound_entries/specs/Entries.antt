@@ -7,7 +7,7 @@ use Rattle.lists.specs.Rows.{Row, Rows}
 use Rattle.lists.specs.Sums.{sumBy}
 use Rattle.lists.specs.Tests.{one-if}
 use Rattle.page.specs.Buffer.{entriesFrom}
-use Rattle.desk.specs.declared.Directory.{Directory}
+use Rattle.desk.specs.Held.{Directory}
 use Rattle.desk.specs.Views.{slotsIn}
 use Rattle.sound_balance.specs.Tables.{half}
 

@@ -12,12 +12,13 @@ ghost use Rattle.entries.specs.Entries.{rowOf, placeOf};
 ghost use Rattle.page.specs.Page.{pageBytes, entries};
 ghost use Rattle.rules.specs.Limits.{maxCells};
 ghost use Rattle.rules.specs.Sweep.{isAt};
+ghost use Rattle.desk.specs.Layout.{slotFields};
+ghost use Rattle.desk.specs.Held.{directoryIn};
 ghost use Rattle.memo.specs.Memo.{lastOf};
 ghost use Rattle.sound_balance.specs.Tables.{fieldEnd, half, added, Named, judged};
 ghost use Rattle.page.specs.Buffer.{entriesFrom};
 ghost use Rattle.sound_entries.specs.Entries.{rowsRead, weigh, staleSum};
 use desk::Desk;
-use desk::Directory;
 use desk::Line;
 use entries::Entry;
 use sound_balance::HALF;
@@ -134,21 +135,24 @@ fn tally_chain<'a>(
 // The entries of all cells, in the order of the round; how many of each cell's are stale.
 pub fn tally_cells<'a>(
     pages: &'a [u8],
-    cells: Directory,
+    cells: &'a [u16; Desk::CELL_WORDS],
+    n: usize,
     words: &'a [u16; Desk::MEMO_WORDS],
     lines: &'a [u16; RADIOS],
     balance: &'a mut [u16; RADIOS],
 ) -> [u16; CELLS]
-    requires { ⌜ (cells .n ≤ maxCells) × Named (now words) (now lines) × UpTo maxRadio (concat (rowsRead (now pages) cells)) ⌝ }
+    requires { ⌜ (n ≤ maxCells) × (length (now cells) ≡ slotFields * maxCells) × Named (now words) (now lines)
+        × UpTo maxRadio (concat (rowsRead (now pages) (directoryIn n (now cells)))) ⌝ }
     ensures { λ r. ⌜ (now (balance .exit)
-        ≡ added (weigh (judged (now (words .entry)) (now (lines .entry)))) (now (balance .entry)) (concat (rowsRead (now (pages .entry)) cells)))
-        × (take (cells .n) r ≡ map (staleSum (judged (now (words .entry)) (now (lines .entry)))) (rowsRead (now (pages .entry)) cells)) ⌝ }
+        ≡ added (weigh (judged (now (words .entry)) (now (lines .entry)))) (now (balance .entry))
+        (concat (rowsRead (now (pages .entry)) (directoryIn n (now (cells .entry))))))
+        × (take n r
+        ≡ map (staleSum (judged (now (words .entry)) (now (lines .entry)))) (rowsRead (now (pages .entry)) (directoryIn n (now (cells .entry))))) ⌝ }
 {
     let mut counts = [0u16; CELLS];
-    let n = cells.n as usize;
     let mut i: usize = 0;
     while i < n {
-        let s = cells.slots[i];
+        let s = desk::slot_at(cells, i);
         counts[i] = tally_chain(pages, s.first, words, lines, balance);
         i += 1;
     }

@@ -18,7 +18,10 @@ pub pass-start : {A : Type 0} (p : A → Bool) (xs : List A) (n size : ℕ) → 
 pass-start p xs n size e h = record { fits = omega arith; same = refl }
 
 module _ {A : Type 0} {p : A → Bool} {xs : List A} {n i : ℕ} (r : Passes p xs n i) where
-  module _ (more : i < n) (d : A) {b : Bool} (said : b ≡ p (getD xs i d)) where
+  module _ (more : i < n) (d : A) {x : A} (read : x ≡ getD xs i d) {b : Bool} (told : b ≡ p x) where
+    said : b ≡ p (getD xs i d)
+    said = told ∙ ap p read
+
     one : both (p (getD xs i d)) (all p (drop (i + 1) (take n xs))) ≡ all p (take n xs)
     one = sym (all-cons p (getD xs i d) (drop (i + 1) (take n xs))) ∙ ap (all p) (sym (used-cons xs n i d (r .fits) more)) ∙ r .same
 

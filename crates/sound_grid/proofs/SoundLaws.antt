@@ -1,12 +1,13 @@
 -- The test of the whole grid: what its parts' tests come to.
 use mathlib.Core.Path.{_≡_, refl, sym, _∙_}
 use mathlib.Core.Bool.{Bool, true, false, not}
-use Prim.Native.Nat.{_≤_}
+use mathlib.Core.List.{List}
+use Prim.Native.Nat.{ℕ, _≤_}
 use Rattle.lists.specs.Tests.{both}
 use Rattle.lists.proofs.TestsLaws.{both-left, both-right, not-false}
 use Rattle.rules.specs.Limits.{maxCells, maxCuts}
 use Rattle.desk.specs.declared.CutList.{CutList}
-use Rattle.desk.specs.declared.Directory.{Directory}
+use Rattle.desk.specs.Held.{Directory, directoryIn}
 use Rattle.sound_grid.specs.Sound.{edgesSound, tileSound, gridSound}
 use Rattle.sound_directory.specs.Sound.{slotsTest, number, cutsSound, directorySound}
 use Rattle.lists.proofs.SlotsLaws.{stops, goes}
@@ -19,8 +20,8 @@ pub cuts-room : {a : Bool} (c : CutList) → a ≡ cutsSound c → not a ≡ fal
 unfolding cutsSound
 cuts-room {a} c e f = slots-count number maxCuts (c .n) (c .at) (both-left (slotsTest number maxCuts (c .n) (c .at)) _ (sym e ∙ not-false a f))
 
-pub cells-room : {a : Bool} (d : Directory) → a ≡ directorySound d → not a ≡ false → d .n ≤ maxCells
-cells-room {a} d e f = directory-count d (sym e ∙ not-false a f)
+pub cells-room : {a : Bool} (n : ℕ) (words : List ℕ) → a ≡ directorySound (directoryIn n words) → not a ≡ false → n ≤ maxCells
+cells-room {a} n words e f = directory-count (directoryIn n words) (sym e ∙ not-false a f)
 
 -- ---- the grid
 

@@ -22,9 +22,10 @@ use Rattle.rules.specs.Grid.{Rect, Cuts, cutsOf, Box, boxes}
 use Rattle.rules.specs.WellFormed.{RisingCuts}
 use Rattle.desk.specs.declared.CutList.{CutList}
 use Rattle.desk.specs.declared.Slot.{Slot}
-use Rattle.desk.specs.declared.Directory.{Directory}
-use Rattle.desk.specs.Layout.{noSlot}
-use Rattle.desk.specs.Views.{cutsIn, cutsBy, slotsIn, edgesOf as rectOf}
+use Rattle.desk.specs.Held.{Directory}
+use Rattle.desk.specs.Layout.{noSlot, slotFields}
+use Rattle.desk.proofs.SlotsLaws.{length-slots}
+use Rattle.desk.specs.Views.{everySlot, cutsIn, cutsBy, slotsIn, edgesOf as rectOf}
 use Rattle.sound_clauses.specs.Loops.{allTo}
 use Rattle.sound_clauses.specs.Grid.{cutsTest, spanTest, edgesTest, stripes, holdsBox, holdingBox, tileBoxesTest}
 use Rattle.sound_clauses.proofs.LoopsLaws.{allTo-zero, allTo-suc, allTo-false, allTo-ext, all-allTo}
@@ -189,23 +190,23 @@ module _ {west east south : ℕ} {t : List ℕ} {j : ℕ} {u : List ℕ} (r : Ce
 
 -- those up to i have added theirs
 pub record Marked (easts norths : CutList) (d : Directory) (t : List ℕ) (i : ℕ) (u : List ℕ) : Type 0 where
-  pub fits : d .n ≤ length (d .slots)
+  pub fits : d .n ≤ length (everySlot (d .words))
   pub raised : Raised t u (holders (cutsBy easts norths) (take i (rectsIn d)))
 
-pub marked-start : {t : List ℕ} (easts norths : CutList) (d : Directory) → length (d .slots) ≡ maxCells → d .n ≤ maxCells → length t ≡ tableSize → Marked easts norths d t 0 t
+pub marked-start : {t : List ℕ} (easts norths : CutList) (d : Directory) → length (d .words) ≡ slotFields * maxCells → d .n ≤ maxCells → length t ≡ tableSize → Marked easts norths d t 0 t
 unfolding holders holdingBox
 marked-start easts norths d l h k = record {
-  fits = omega arith;
+  fits = omega (arith, length-slots (d .words) l);
   raised = raised-same (holders (cutsBy easts norths) []) k (λ m. sum-nil (λ (r : Rect). one-if (holdsBox (cutsBy easts norths) m r)));
 }
 
-length-rects : (d : Directory) → d .n ≤ length (d .slots) → length (rectsIn d) ≡ d .n
+length-rects : (d : Directory) → d .n ≤ length (everySlot (d .words)) → length (rectsIn d) ≡ d .n
 unfolding slotsIn
-length-rects d h = length-map (take (d .n) (d .slots)) rectOf ∙ length-take-le (d .n) (d .slots) h
+length-rects d h = length-map (take (d .n) (everySlot (d .words))) rectOf ∙ length-take-le (d .n) (everySlot (d .words)) h
 
-rect-at : (d : Directory) (i : ℕ) → i < d .n → getD (rectsIn d) i (rectOf noSlot) ≡ rectOf (getD (d .slots) i noSlot)
+rect-at : (d : Directory) (i : ℕ) → i < d .n → getD (rectsIn d) i (rectOf noSlot) ≡ rectOf (getD (everySlot (d .words)) i noSlot)
 unfolding slotsIn
-rect-at d i h = List·getD-map rectOf (take (d .n) (d .slots)) i noSlot ∙ ap rectOf (getD-take (d .n) (d .slots) i noSlot h)
+rect-at d i h = List·getD-map rectOf (take (d .n) (everySlot (d .words))) i noSlot ∙ ap rectOf (getD-take (d .n) (everySlot (d .words)) i noSlot h)
 
 -- a cell's memory cells are those of its stripes
 pub slot-held : (easts norths : CutList) (x : Slot) {t u : List ℕ} {o p : Extent} {west east south north : ℕ}
@@ -229,12 +230,13 @@ unfolding holders holdingBox
 holders-last cuts rects i m x h = rw (add-one, take-suc rects i x h) (sum-append (λ (r : Rect). one-if (holdsBox cuts m r)) (take i rects) (getD rects i x ∷ []))
 
 module _ {easts norths : CutList} {d : Directory} {t u : List ℕ} {i : ℕ} (r : Marked easts norths d t i u) where
-  pub marked-turn : {v : List ℕ} {b : Bool} → i < d .n → RaisedIf b u v (holders (cutsBy easts norths) (rectOf (getD (d .slots) i noSlot) ∷ [])) → not b ≡ false → Marked easts norths d t (i + 1) v
-  marked-turn {b = b} more q f = record {
+  pub marked-turn : {v : List ℕ} {b : Bool} (x : Slot) → i < d .n → x ≡ getD (everySlot (d .words)) i noSlot
+      → RaisedIf b u v (holders (cutsBy easts norths) (rectOf x ∷ [])) → not b ≡ false → Marked easts norths d t (i + 1) v
+  marked-turn {b = b} x more read q f = record {
     fits = r .fits;
     raised = raised-then (holders (cutsBy easts norths) (take (i + 1) (rectsIn d))) (r .raised) (q .raised (not-false b f))
         (λ m. holders-last (cutsBy easts norths) (rectsIn d) i m (rectOf noSlot) (omega (arith, length-rects d (r .fits)))
-        ∙ ap (λ (x : Rect). holders (cutsBy easts norths) (take i (rectsIn d)) m + holders (cutsBy easts norths) (x ∷ []) m) (rect-at d i more));
+        ∙ ap (λ (y : Rect). holders (cutsBy easts norths) (take i (rectsIn d)) m + holders (cutsBy easts norths) (y ∷ []) m) (rect-at d i more ∙ sym (ap rectOf read)));
   }
 
   pub marked-end : d .n ≤ i → RaisedIf true t u (holders (cutsBy easts norths) (rectsIn d))

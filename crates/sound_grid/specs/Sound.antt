@@ -9,7 +9,7 @@ use lib.ListN.{length, getD}
 use Rattle.lists.specs.Tests.{one-if, both, all}
 use Rattle.rules.specs.Grid.{within, Rect, Cuts, Box}
 use Rattle.desk.specs.declared.CutList.{CutList}
-use Rattle.desk.specs.declared.Directory.{Directory}
+use Rattle.desk.specs.Held.{Directory}
 use Rattle.desk.specs.Views.{cutsBy}
 use Rattle.sound_clauses.specs.Loops.{allTo}
 use Rattle.sound_clauses.specs.Grid.{edgesTest, holdingBox, tileTest}

@@ -3,10 +3,12 @@
 ghost use mathlib.Core.Bool.{true};
 ghost use mathlib.Core.Path.{_≡_};
 ghost use mathlib.Core.List.{[], _∷_};
-ghost use Prim.Native.Nat.{_+_, _<_, _≤_, min};
+ghost use Prim.Native.Nat.{_+_, _*_, _<_, _≤_, min};
 ghost use lib.ListN.{length};
 ghost use Rattle.lists.specs.Tests.{both};
 ghost use Rattle.rules.specs.Limits.{maxCells, maxCuts};
+ghost use Rattle.desk.specs.Layout.{slotFields};
+ghost use Rattle.desk.specs.Held.{directoryIn};
 ghost use Rattle.desk.specs.Views.{cutsBy, edgesOf as rectOf};
 ghost use Rattle.sound_clauses.specs.Grid.{edgesTest};
 ghost use Rattle.boxes.specs.Boxes.{maxStripes, tableSize};
@@ -16,7 +18,7 @@ ghost use Rattle.sound_grid.specs.Views.{rectsIn};
 use boxes::BOXES;
 use boxes::STRIPES;
 use desk::CutList;
-use desk::Directory;
+use desk::Desk;
 use desk::Slot;
 use sound_edges::Extent;
 use sound_edges::extent_of;
@@ -78,14 +80,22 @@ fn mark_slot<'a>(easts: CutList, norths: CutList, x: Slot, table: &'a mut [u8; B
 }
 
 // So are those of all cells, if each is such a rectangle.
-fn mark_cells<'a>(easts: CutList, norths: CutList, d: Directory, table: &'a mut [u8; BOXES]) -> bool
-    requires { ⌜ (easts .n ≤ maxCuts) × (norths .n ≤ maxCuts) × (d .n ≤ maxCells) × (cutsSound easts ≡ true) × (cutsSound norths ≡ true)
-        × (length (now table) ≡ tableSize) ⌝ }
-    ensures { λ r. ⌜ (r ≡ edgesSound easts norths d) × RaisedIf r (now (table .entry)) (now (table .exit)) (holders (cutsBy easts norths) (rectsIn d)) ⌝ }
+fn mark_cells<'a>(
+    easts: CutList,
+    norths: CutList,
+    cells: &'a [u16; Desk::CELL_WORDS],
+    n: usize,
+    table: &'a mut [u8; BOXES],
+) -> bool
+    requires { ⌜ (easts .n ≤ maxCuts) × (norths .n ≤ maxCuts) × (n ≤ maxCells) × (cutsSound easts ≡ true) × (cutsSound norths ≡ true)
+        × (length (now cells) ≡ slotFields * maxCells) × (length (now table) ≡ tableSize) ⌝ }
+    ensures { λ r. ⌜ (r ≡ edgesSound easts norths (directoryIn n (now (cells .entry))))
+        × RaisedIf r (now (table .entry)) (now (table .exit)) (holders (cutsBy easts norths) (rectsIn (directoryIn n (now (cells .entry))))) ⌝ }
 {
     let mut i: usize = 0;
-    while i < d.n as usize {
-        if !mark_slot(easts, norths, d.slots[i], table) {
+    while i < n {
+        let x = desk::slot_at(cells, i);
+        if !mark_slot(easts, norths, x, table) {
             return false;
         }
         i += 1;
@@ -125,12 +135,19 @@ fn rows_once<'a>(table: &'a [u8; BOXES], columns: usize, rows: usize) -> bool
 }
 
 // Whether each cell is a rectangle of whole memory cells, and the cells tile the square: on cuts that rise.
-fn cells_sound(easts: CutList, norths: CutList, d: Directory) -> bool
-    requires { ⌜ (easts .n ≤ maxCuts) × (norths .n ≤ maxCuts) × (d .n ≤ maxCells) × (cutsSound easts ≡ true) × (cutsSound norths ≡ true) ⌝ }
-    ensures { λ r. ⌜ r ≡ both (edgesSound easts norths d) (tileSound easts norths d) ⌝ }
+fn cells_sound<'a>(
+    easts: CutList,
+    norths: CutList,
+    cells: &'a [u16; Desk::CELL_WORDS],
+    n: usize,
+) -> bool
+    requires { ⌜ (easts .n ≤ maxCuts) × (norths .n ≤ maxCuts) × (n ≤ maxCells) × (cutsSound easts ≡ true) × (cutsSound norths ≡ true)
+        × (length (now cells) ≡ slotFields * maxCells) ⌝ }
+    ensures { λ r. ⌜ r
+        ≡ both (edgesSound easts norths (directoryIn n (now (cells .entry)))) (tileSound easts norths (directoryIn n (now (cells .entry)))) ⌝ }
 {
     let mut table = [0u8; BOXES];
-    if !mark_cells(easts, norths, d, &mut table) {
+    if !mark_cells(easts, norths, cells, n, &mut table) {
         return false;
     }
     rows_once(&table, easts.n as usize + 1, norths.n as usize + 1)
@@ -139,8 +156,14 @@ fn cells_sound(easts: CutList, norths: CutList, d: Directory) -> bool
 // ---- the grid
 
 // Whether cuts and directory are sound, but for pages.
-pub fn grid_sound(easts: CutList, norths: CutList, d: Directory) -> bool
-    ensures { λ r. ⌜ r ≡ gridSound easts norths d ⌝ }
+pub fn grid_sound<'a>(
+    easts: CutList,
+    norths: CutList,
+    cells: &'a [u16; Desk::CELL_WORDS],
+    n: usize,
+) -> bool
+    requires { ⌜ length (now cells) ≡ slotFields * maxCells ⌝ }
+    ensures { λ r. ⌜ r ≡ gridSound easts norths (directoryIn n (now (cells .entry))) ⌝ }
 {
     if !sound_directory::cuts_sound(easts) {
         return false;
@@ -148,8 +171,8 @@ pub fn grid_sound(easts: CutList, norths: CutList, d: Directory) -> bool
     if !sound_directory::cuts_sound(norths) {
         return false;
     }
-    if !sound_directory::directory_sound(d) {
+    if !sound_directory::directory_sound(cells, n) {
         return false;
     }
-    cells_sound(easts, norths, d)
+    cells_sound(easts, norths, cells, n)
 }

@@ -21,9 +21,9 @@ use Rattle.rules.specs.Grid.{Rect}
 use Rattle.rules.specs.Limits.{maxCells}
 use Rattle.rules.specs.Store.{Cell, pagesFor}
 use Rattle.desk.specs.declared.Slot.{Slot}
-use Rattle.desk.specs.declared.Directory.{Directory}
+use Rattle.desk.specs.Held.{Directory}
 use Rattle.desk.specs.Layout.{slotOf, At, cellLeaves, cellsLeaves}
-use Rattle.desk.specs.Views.{edgesOf}
+use Rattle.desk.specs.Views.{everySlot, edgesOf}
 use Rattle.sound_pages.specs.PagesSound.{CellSound, PagesSound}
 use Rattle.sound_pages.specs.Walks.{Walk, noMarks, passed, failed, slotTest, slotsTest, frontTest, restTest, pagesTest}
 use Rattle.sound_pages.proofs.MarksLaws.{Marked, Room, Passes, mark-none, mark-then, room-length, length-noMarks, no-mark, all-marked, marked-all}
@@ -116,10 +116,10 @@ module _ (b : List ℕ) where
 -- ---- the theorem
 
 -- the first slots are no more than there are
-pub sound-few : (b : List ℕ) (d : Directory) (free : ℕ) → length (d .slots) ≡ maxCells → PagesSound b d free → d .n ≤ maxCells
-sound-few b d free l s = omega (arith, s .number, length-take (d .n) (d .slots), ap length (s .shown), length-map (s .cells) slotOf)
+pub sound-few : (b : List ℕ) (d : Directory) (free : ℕ) → length (everySlot (d .words)) ≡ maxCells → PagesSound b d free → d .n ≤ maxCells
+sound-few b d free l s = omega (arith, s .number, length-take (d .n) (everySlot (d .words)), ap length (s .shown), length-map (s .cells) slotOf)
 
-module _ (b : List ℕ) (d : Directory) (free : ℕ) (small : Bytes b) (slots : length (d .slots) ≡ maxCells) where
+module _ (b : List ℕ) (d : Directory) (free : ℕ) (small : Bytes b) (slots : length (everySlot (d .words)) ≡ maxCells) where
   pub test-sound : pagesTest b d free ≡ true → PagesSound b d free
   unfolding pagesTest restTest frontTest
   test-sound t =
@@ -134,7 +134,7 @@ module _ (b : List ℕ) (d : Directory) (free : ℕ) (small : Bytes b) (slots : 
         cells = c .cells;
         freeChain = f .chain;
         size = whole;
-        number = omega (arith, length-take (d .n) (d .slots), ap length (c .shown), length-map (c .cells) slotOf);
+        number = omega (arith, length-take (d .n) (everySlot (d .words)), ap length (c .shown), length-map (c .cells) slotOf);
         shown = c .shown;
         front = f .front;
         leaf = c .laid;

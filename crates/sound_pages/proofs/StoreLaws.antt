@@ -9,7 +9,7 @@ use Rattle.lists.specs.Tests.{Each}
 use Rattle.lists.proofs.TestsLaws.{each-map, each-append, each-split}
 use Rattle.rules.specs.Store.{Cell, Store}
 use Rattle.rules.specs.WellFormed.{chains, GoodCell, WellFormed, PagesOnce}
-use Rattle.desk.specs.declared.Directory.{Directory}
+use Rattle.desk.specs.Held.{Directory, deskGrid}
 use Rattle.desk.specs.declared.Desk.{Desk}
 use Rattle.desk.specs.Layout.{directoryOf, gridOf, deskOf, At, cellsLeaves, freeLeaves, storeLeaves, Laid}
 use Rattle.desk.specs.Sound.{Sound}
@@ -36,9 +36,9 @@ store-pages s b w l =
     }
 
 -- the pages of a sound desk are sound
-pub desk-pages : (d : Desk) (b : List ℕ) → Sound d b → PagesSound b (d .grid .cells) (d .grid .free)
+pub desk-pages : (d : Desk) (b : List ℕ) → Sound d b → PagesSound b (deskGrid d .cells) (deskGrid d .free)
 unfolding deskOf gridOf
-desk-pages d b s = subst (λ (x : Desk). PagesSound b (x .grid .cells) (x .grid .free)) (sym (s .held)) (store-pages (s .store) b (s .well) (s .laid))
+desk-pages d b s = subst (λ (x : Desk). PagesSound b (deskGrid x .cells) (deskGrid x .free)) (sym (s .held)) (store-pages (s .store) b (s .well) (s .laid))
 
 -- ---- to a store
 

@@ -3,22 +3,23 @@ use mathlib.Core.Bool.{Bool, true, false, not}
 use mathlib.Core.List.{List, _∷_}
 use mathlib.Core.Path.{_≡_, sym, ap, _∙_}
 use Prim.Native.Nat.{ℕ, suc, _+_, _-_, _*_, _≤_, _<_}
-use native.Mathlib.Numerals.{add-one}
 use native.Mathlib.Omega.{arith}
 use lib.Dec.{eqb}
-use lib.ListN.{length, getD, set, take, drop, length-take, drop-of-length-le}
-use lib.Seq.{drop-cons, getD-take}
+use lib.ListN.{length, getD, set, take, drop}
 use borrow.Author.Tests.{eq-eqb, ne-eqb, le-leb}
 use Rattle.terms.specs.Terms.{pages, noPage, noCell}
 use Rattle.lists.specs.Tests.{both, all}
 use Rattle.lists.specs.Words.{Bytes}
+use Rattle.lists.proofs.SlotsLaws.{used-cons, used-none}
 use Rattle.lists.proofs.TestsLaws.{not-true, not-false}
 use Rattle.page.specs.Page.{pageBytes, kindFree, kindFurther, next, entries}
 use Rattle.page.specs.Buffer.{bufferBytes, pageAt}
 use Rattle.rules.specs.Limits.{maxCells}
 use Rattle.desk.specs.declared.Slot.{Slot}
-use Rattle.desk.specs.declared.Directory.{Directory}
-use Rattle.desk.specs.Layout.{noSlot}
+use Rattle.desk.specs.Held.{Directory}
+use Rattle.desk.specs.Views.{everySlot}
+use Rattle.desk.specs.Layout.{noSlot, slotFields}
+use Rattle.desk.proofs.SlotsLaws.{length-slots}
 use Rattle.sound_page.specs.PageTest.{isPage, lastRadio, pageOk}
 use Rattle.sound_page.proofs.CodeLaws.{both-no, both-next}
 use Rattle.sound_pages.specs.PagesSound.{PagesSound}
@@ -120,28 +121,28 @@ run-less fuel h e = omega (arith, ap leftBy e)
 
 -- ---- walk_slots
 
-module _ (b : List ℕ) (d : Directory) (m : List Bool) (i : ℕ) {t : Walk} (so : slotsTest b m (drop i (take (d .n) (d .slots))) ≡ t) where
-  pub slots-end : d .n ≤ i → passed m ≡ t
-  slots-end h =
-      let l = length-take (d .n) (d .slots) in
-      sym (slots-none b m) ∙ rw (drop-of-length-le (take (d .n) (d .slots)) {i = i} (omega arith)) at so
+module _ (b ws : List ℕ) (n : ℕ) (m : List Bool) (i : ℕ) {t : Walk} (so : slotsTest b m (drop i (take n (everySlot ws))) ≡ t) where
+  pub slots-end : n ≤ i → passed m ≡ t
+  slots-end h = sym (slots-none b m) ∙ rw (used-none (everySlot ws) n i h) at so
 
-  module _ (below : i < d .n) (few : d .n ≤ maxCells) (size : length (d .slots) ≡ maxCells) {r : Bool} {m′ : List Bool} (walk : record { ok = r; marks = m′ } ≡ slotTest b m (getD (d .slots) i noSlot)) where
-    slots-open : slotsTest b m (getD (d .slots) i noSlot ∷ drop (suc i) (take (d .n) (d .slots))) ≡ t
+  module _ (below : i < n) (few : n ≤ maxCells) (size : length ws ≡ slotFields * maxCells) {s : Slot} (read : s ≡ getD (everySlot ws) i noSlot)
+      {r : Bool} {m′ : List Bool} (walk : record { ok = r; marks = m′ } ≡ slotTest b m s) where
+    slots-open : slotsTest b m (s ∷ drop (i + 1) (take n (everySlot ws))) ≡ t
     slots-open =
-        let l = length-take (d .n) (d .slots) in
-        rw (drop-cons (take (d .n) (d .slots)) i noSlot (omega arith), getD-take (d .n) (d .slots) i noSlot below) at so
+        let l = length-slots ws size in
+        ap (λ (x : Slot). slotsTest b m (x ∷ drop (i + 1) (take n (everySlot ws)))) read
+        ∙ ap (slotsTest b m) (sym (used-cons (everySlot ws) n i noSlot (omega arith) below))
+        ∙ so
 
     pub slots-fail : not r ≡ true → failed m′ ≡ t
     slots-fail e =
         ap (λ (x : Walk). failed (x .marks)) walk
-        ∙ sym (slots-out b m _ (drop (suc i) (take (d .n) (d .slots))) (sym (ap (λ (x : Walk). x .ok) walk) ∙ not-true r e)) ∙ slots-open
+        ∙ sym (slots-out b m s (drop (i + 1) (take n (everySlot ws))) (sym (ap (λ (x : Walk). x .ok) walk) ∙ not-true r e)) ∙ slots-open
 
-    pub slots-turn : not r ≡ false → slotsTest b m′ (drop (i + 1) (take (d .n) (d .slots))) ≡ t
+    pub slots-turn : not r ≡ false → slotsTest b m′ (drop (i + 1) (take n (everySlot ws))) ≡ t
     slots-turn e =
-        rw (add-one i)
-        (ap (λ (x : Walk). slotsTest b (x .marks) (drop (suc i) (take (d .n) (d .slots)))) walk
-        ∙ sym (slots-more b m _ (drop (suc i) (take (d .n) (d .slots))) (sym (ap (λ (x : Walk). x .ok) walk) ∙ not-false r e)) ∙ slots-open)
+        ap (λ (x : Walk). slotsTest b (x .marks) (drop (i + 1) (take n (everySlot ws)))) walk
+        ∙ sym (slots-more b m s (drop (i + 1) (take n (everySlot ws))) (sym (ap (λ (x : Walk). x .ok) walk) ∙ not-false r e)) ∙ slots-open
 
 -- ---- the free chain, after the walk over the directory
 
@@ -173,16 +174,19 @@ says-no n = ((λ t. let z : _≡_ {A = ℕ} 0 1 = cc in absurd (omega arith)), (
 pub sound-short : (b : List ℕ) (d : Directory) (free : ℕ) → (length b ≡ bufferBytes → ⊥) → Says b d free false
 sound-short b d free n = says-no (λ s. n (s .size))
 
-module _ (b : List ℕ) (d : Directory) (free : ℕ) (slots : length (d .slots) ≡ maxCells) where
+module _ (b : List ℕ) (d : Directory) (free : ℕ) (sized : length (d .words) ≡ slotFields * maxCells) where
+  slots : length (everySlot (d .words)) ≡ maxCells
+  slots = length-slots (d .words) sized
+
   pub sound-many : maxCells < d .n → Says b d free false
   sound-many h = says-no (λ s. omega (arith, sound-few b d free slots s))
 
-  module _ (small : Bytes b) (whole : length b ≡ bufferBytes) (few : d .n ≤ maxCells) {z : List Bool} (none : z ≡ noMarks) {r : Bool} {m : List Bool} (walk : record { ok = r; marks = m } ≡ slotsTest b z (take (d .n) (d .slots))) where
+  module _ (small : Bytes b) (whole : length b ≡ bufferBytes) (few : d .n ≤ maxCells) {z : List Bool} (none : z ≡ noMarks) {r : Bool} {m : List Bool} (walk : record { ok = r; marks = m } ≡ slotsTest b z (take (d .n) (everySlot (d .words)))) where
     sound-walked : {v : Bool} → v ≡ restTest b free (record { ok = r; marks = m }) → Says b d free v
     unfolding pagesTest
     sound-walked e =
         let g =
-        e ∙ ap (restTest b free) (walk ∙ ap (λ (z : List Bool). slotsTest b z (take (d .n) (d .slots))) none)
+        e ∙ ap (restTest b free) (walk ∙ ap (λ (z : List Bool). slotsTest b z (take (d .n) (everySlot (d .words)))) none)
         ∙ both-next _ (le-leb (d .n) maxCells few) ∙ both-next _ (eq-eqb (length b) bufferBytes whole) in
         ((λ t. test-sound b d free small slots (sym g ∙ t)), (λ s. g ∙ sound-test b d free small slots s))
 

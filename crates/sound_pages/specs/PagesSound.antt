@@ -8,13 +8,14 @@ use lib.Dec.{ltb}
 use lib.ListN.{length, take}
 use Rattle.terms.specs.Terms.{maxRadio, pages, noPage}
 use Rattle.lists.specs.Chains.{firstOf}
+use Rattle.desk.specs.Views.{everySlot}
 use Rattle.lists.specs.Rows.{Rising, UpTo}
 use Rattle.lists.specs.Sums.{concat, count}
 use Rattle.lists.specs.Tests.{Each, one-if}
 use Rattle.page.specs.Buffer.{bufferBytes}
 use Rattle.rules.specs.Grid.{inside}
 use Rattle.rules.specs.Store.{Cell, pagesFor}
-use Rattle.desk.specs.declared.Directory.{Directory}
+use Rattle.desk.specs.Held.{Directory}
 use Rattle.desk.specs.Layout.{slotOf, At, cellsLeaves, freeLeaves}
 
 -- what pages and entries of a cell must be, wherever its edges lie
@@ -34,7 +35,7 @@ pub record PagesSound (bytes : List ℕ) (directory : Directory) (free : ℕ) : 
   pub size : length bytes ≡ bufferBytes
   -- the directory's slots are those of the cells, and the front is that of the free chain
   pub number : directory .n ≡ length cells
-  pub shown : take (directory .n) (directory .slots) ≡ map slotOf cells
+  pub shown : take (directory .n) (everySlot (directory .words)) ≡ map slotOf cells
   pub front : free ≡ firstOf noPage freeChain
   -- "laid out as above"
   pub leaf : Each (At bytes) (cellsLeaves cells)

@@ -6,11 +6,12 @@ use lib.Dec.{eqb, leb, ltb}
 use lib.ListN.{length, getD, set, take, replicate}
 use Rattle.terms.specs.Terms.{pages, noPage, noCell}
 use Rattle.lists.specs.Tests.{both, all}
+use Rattle.desk.specs.Views.{everySlot}
 use Rattle.page.specs.Page.{kindFree, kindFirst, kindFurther, next, entries}
 use Rattle.page.specs.Buffer.{bufferBytes, pageAt}
 use Rattle.rules.specs.Limits.{maxCells}
 use Rattle.desk.specs.declared.Slot.{Slot}
-use Rattle.desk.specs.declared.Directory.{Directory}
+use Rattle.desk.specs.Held.{Directory}
 use Rattle.sound_page.specs.PageTest.{isPage, lastRadio, pageOk}
 use Rattle.sound_pages.specs.declared.Run.{Run}
 use Rattle.sound_pages.specs.declared.Run.the-variants.{To, Broken}
@@ -85,4 +86,4 @@ restTest b free w = both (w .ok) (both (frontTest b (w .marks) free .ok) (all (�
 
 unfoldable pub pagesTest : List ℕ → Directory → ℕ → Bool
 pagesTest b d free =
-    both (eqb (length b) bufferBytes) (both (leb (d .n) maxCells) (restTest b free (slotsTest b noMarks (take (d .n) (d .slots)))))
+    both (eqb (length b) bufferBytes) (both (leb (d .n) maxCells) (restTest b free (slotsTest b noMarks (take (d .n) (everySlot (d .words))))))

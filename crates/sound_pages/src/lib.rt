@@ -1,16 +1,18 @@
 // The test of soundness, its part that looks at pages, chains and the directory: on any bytes and any directory whatever.
 ghost use mathlib.Core.Bool.{true};
 ghost use mathlib.Core.Path.{_≡_};
-ghost use Prim.Native.Nat.{_≤_, _<_};
+ghost use Prim.Native.Nat.{_*_, _≤_, _<_};
 ghost use lib.ListN.{length, take};
 ghost use Rattle.terms.specs.Terms.{noPage};
 ghost use Rattle.lists.specs.Tests.{both, all};
 ghost use Rattle.page.specs.Buffer.{bufferBytes};
 ghost use Rattle.rules.specs.Limits.{maxCells};
+ghost use Rattle.desk.specs.Layout.{slotFields};
+ghost use Rattle.desk.specs.Held.{directoryIn};
+ghost use Rattle.desk.specs.Views.{everySlot};
 ghost use Rattle.sound_pages.specs.PagesSound.{PagesSound};
 ghost use Rattle.sound_pages.specs.Walks.{noMarks, unmarked, slotTest, slotsTest, freeTest, frontTest, afterRun, leftBy};
 use desk::Desk;
-use desk::Directory;
 use desk::Slot;
 use page::KIND_FIRST;
 use page::KIND_FURTHER;
@@ -96,7 +98,8 @@ enum Run {
 // A run of the free chain: pages one behind the other, as most of it lies. Where the next one lies is then known before the field that names it is read.
 fn walk_run<'a>(pages: &'a [u8], marks: &'a mut [bool; PAGES], first: usize, fuel: usize) -> Run
     requires { ⌜ (length (now pages) ≡ bufferBytes) × (0 < fuel) × (first ≡ noPage → ⊥) ⌝ }
-    ensures { λ r. ⌜ (afterRun (now (pages .entry)) (now (marks .exit)) r ≡ freeTest fuel (now (pages .entry)) (now (marks .entry)) first) × (leftBy r < fuel) ⌝ }
+    ensures { λ r. ⌜ (afterRun (now (pages .entry)) (now (marks .exit)) r ≡ freeTest fuel (now (pages .entry)) (now (marks .entry)) first)
+        × (leftBy r < fuel) ⌝ }
 {
     let mut p = first;
     let mut left = fuel;
@@ -140,14 +143,19 @@ fn walk_free<'a>(pages: &'a [u8], marks: &'a mut [bool; PAGES], front: u16) -> b
 }
 
 // The chains of the directory's cells, one after the other.
-fn walk_slots<'a>(pages: &'a [u8], cells: Directory, marks: &'a mut [bool; PAGES]) -> bool
-    requires { ⌜ (length (now pages) ≡ bufferBytes) × (cells .n ≤ maxCells) ⌝ }
-    ensures { λ r. ⌜ record { ok = r; marks = now (marks .exit) } ≡ slotsTest (now (pages .entry)) (now (marks .entry)) (take (cells .n) (cells .slots)) ⌝ }
+fn walk_slots<'a>(
+    pages: &'a [u8],
+    cells: &'a [u16; Desk::CELL_WORDS],
+    n: usize,
+    marks: &'a mut [bool; PAGES],
+) -> bool
+    requires { ⌜ (length (now pages) ≡ bufferBytes) × (n ≤ maxCells) × (length (now cells) ≡ slotFields * maxCells) ⌝ }
+    ensures { λ r. ⌜ record { ok = r; marks = now (marks .exit) }
+        ≡ slotsTest (now (pages .entry)) (now (marks .entry)) (take n (everySlot (now (cells .entry)))) ⌝ }
 {
-    let n = cells.n as usize;
     let mut i: usize = 0;
     while i < n {
-        let s = cells.slots[i];
+        let s = desk::slot_at(cells, i);
         if !walk_chain(pages, s, marks) {
             return false;
         }
@@ -157,17 +165,24 @@ fn walk_slots<'a>(pages: &'a [u8], cells: Directory, marks: &'a mut [bool; PAGES
 }
 
 // Pages, chains and directory are those of some cells and a free chain.
-pub fn pages_sound(pages: &[u8], cells: Directory, free: u16) -> bool
-    ensures { λ r. ⌜ (r ≡ true → PagesSound (now (pages .entry)) cells free) × (PagesSound (now (pages .entry)) cells free → r ≡ true) ⌝ }
+pub fn pages_sound<'a>(
+    pages: &'a [u8],
+    cells: &'a [u16; Desk::CELL_WORDS],
+    n: usize,
+    free: u16,
+) -> bool
+    requires { ⌜ length (now cells) ≡ slotFields * maxCells ⌝ }
+    ensures { λ r. ⌜ (r ≡ true → PagesSound (now (pages .entry)) (directoryIn n (now (cells .entry))) free)
+        × (PagesSound (now (pages .entry)) (directoryIn n (now (cells .entry))) free → r ≡ true) ⌝ }
 {
     if pages.len() != PAGE_BYTES * PAGES {
         return false;
     }
-    if Desk::MAX_CELLS < cells.n as usize {
+    if Desk::MAX_CELLS < n {
         return false;
     }
     let mut marks = no_marks();
-    if !walk_slots(pages, cells, &mut marks) {
+    if !walk_slots(pages, cells, n, &mut marks) {
         return false;
     }
     if !walk_free(pages, &mut marks, free) {

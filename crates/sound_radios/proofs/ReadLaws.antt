@@ -14,7 +14,7 @@ use Rattle.lists.proofs.SumsLaws.{sum-map, length-sum}
 use Rattle.lists.proofs.TestsLaws.{each-map, each-zip, each-concat-map}
 use Rattle.rules.specs.Limits.{maxCells}
 use Rattle.rules.specs.Store.{Store}
-use Rattle.desk.specs.declared.Directory.{Directory}
+use Rattle.desk.specs.Held.{Directory}
 use Rattle.desk.specs.Layout.{slotOf}
 use Rattle.desk.specs.Views.{slotsIn}
 use Rattle.desk.proofs.ReadLaws.{CellRead, Paged, cells-read, pages-enough}

@@ -2,7 +2,7 @@
 use mathlib.Core.Path.{_≡_, refl, sym, ap, ap₂, _∙_}
 use mathlib.Core.Bool.{Bool, true, false, not}
 use mathlib.Core.List.{List, map}
-use Prim.Native.Nat.{ℕ, _≤_}
+use Prim.Native.Nat.{ℕ, _*_, _≤_}
 use native.Mathlib.Omega.{arith}
 use lib.ListN.{length, take}
 use Rattle.terms.specs.Terms.{Fix, maxRadio, maxOn}
@@ -14,7 +14,8 @@ use Rattle.rules.specs.Limits.{maxCells, fullMemory}
 use Rattle.rules.specs.Store.{Report as StoreReport, Line as StoreLine}
 use Rattle.rules.specs.Sweep.{stale}
 use Rattle.desk.specs.declared.Desk.{Desk}
-use Rattle.desk.specs.Layout.{lineSlots}
+use Rattle.desk.specs.Held.{deskGrid, deskWaiting, deskMemo, deskOn}
+use Rattle.desk.specs.Layout.{slotFields, reportFields, lineSlots}
 use Rattle.desk.specs.Views.{radiosOf}
 use Rattle.memo.specs.Memo.{linesOf}
 use Rattle.sound_clauses.specs.Radios.{onAt, presentTest, unmarkedTest, linesTest}
@@ -41,37 +42,38 @@ goes-two false false c e = cc
 module _ {b : List ℕ} {d : Desk} (k : Known b d) where
   -- ---- what the calls ask
 
-  pub on-asks : (d .on .n ≤ maxOn) × UpTo maxRadio (radiosOf (d .on))
+  pub on-asks : (deskOn d .n ≤ maxOn) × UpTo maxRadio (radiosOf (deskOn d))
   on-asks = (k .few-on, k .radios)
 
-  pub lines-asks : {z : List ℕ} → Blank z → (d .memo .n ≤ lineSlots) × Rising 0 (linesOf (d .memo)) × UpTo maxRadio (linesOf (d .memo)) × Blank z
+  pub lines-asks : {z : List ℕ} → Blank z → (deskMemo d .n ≤ lineSlots) × Rising 0 (linesOf (deskMemo d)) × UpTo maxRadio (linesOf (deskMemo d)) × Blank z
   lines-asks z = (k .few-lines, k .rise, k .lines, z)
 
-  pub new-asks : (d .waiting .n ≤ fullMemory) × Rising 0 (reportsOf (d .waiting)) × UpTo maxRadio (reportsOf (d .waiting))
-  new-asks = (k .few-waiting, k .reports-rise, k .reports)
+  pub new-asks : length (d .waiting) ≡ reportFields * fullMemory → (deskWaiting d .n ≤ fullMemory) × (length (d .waiting) ≡ reportFields * fullMemory) × Rising 0 (reportsOf (deskWaiting d)) × UpTo maxRadio (reportsOf (deskWaiting d))
+  new-asks size = (k .few-waiting, size, k .reports-rise, k .reports)
 
-  pub cells-asks : {words lines : List ℕ} → Named words lines → (d .grid .cells .n ≤ maxCells) × Named words lines × UpTo maxRadio (concat (rowsRead b (d .grid .cells)))
-  cells-asks n = (k .few-cells, n, k .entries)
+  pub cells-asks : {words lines : List ℕ} → length (d .cells) ≡ slotFields * maxCells → Named words lines
+      → (deskGrid d .cells .n ≤ maxCells) × (length (d .cells) ≡ slotFields * maxCells) × Named words lines × UpTo maxRadio (concat (rowsRead b (deskGrid d .cells)))
+  cells-asks size n = (k .few-cells, size, n, k .entries)
 
-  pub bound-asks : (d .grid .cells .n ≤ maxCells) × (d .waiting .n ≤ fullMemory)
+  pub bound-asks : (deskGrid d .cells .n ≤ maxCells) × (deskWaiting d .n ≤ fullMemory)
   bound-asks = (k .few-cells, k .few-waiting)
 
   -- ---- the verdict
 
   abbrev lines : Rows StoreLine
-  lines = linesOf (d .memo)
+  lines = linesOf (deskMemo d)
 
   abbrev waits : Rows StoreReport
-  waits = reportsOf (d .waiting)
+  waits = reportsOf (deskWaiting d)
 
   abbrev heard : Rows (Unit {0})
-  heard = radiosOf (d .on)
+  heard = radiosOf (deskOn d)
 
   abbrev rows : List (Rows Fix)
-  rows = rowsRead b (d .grid .cells)
+  rows = rowsRead b (deskGrid d .cells)
 
-  module _ {z t₁ t₂ : List ℕ} {so : Bool} (blank : Blank z) (all-on : t₁ ≡ written oneOff z (radiosOf (d .on)))
-      (all-missed : t₂ ≡ added missedOff t₁ (linesOf (d .memo))) (belong : so ≡ all (belongsBy t₂) (reportsOf (d .waiting))) where
+  module _ {z t₁ t₂ : List ℕ} {so : Bool} (blank : Blank z) (all-on : t₁ ≡ written oneOff z (radiosOf (deskOn d)))
+      (all-missed : t₂ ≡ added missedOff t₁ (linesOf (deskMemo d))) (belong : so ≡ all (belongsBy t₂) (reportsOf (deskWaiting d))) where
     due : t₂ ≡ added missedOff (written oneOff z heard) lines
     due = all-missed ∙ ap (λ (t : List ℕ). added missedOff t lines) all-on
 
@@ -79,13 +81,13 @@ module _ {b : List ℕ} {d : Desk} (k : Known b d) where
     unfolding onAt
     unmarked = belong ∙ ap (λ (t : List ℕ). all (belongsBy t) waits) due ∙ belong-unmarked lines (k .rise) (k .lines) blank heard (k .radios-rise) (k .radios) (k .on-once) waits
 
-    pub radios-off : not so ≡ true → false ≡ entriesTest (linesOf (d .memo)) (reportsOf (d .waiting)) (radiosOf (d .on)) (d .tally) (rowsRead b (d .grid .cells))
+    pub radios-off : not so ≡ true → false ≡ entriesTest (linesOf (deskMemo d)) (reportsOf (deskWaiting d)) (radiosOf (deskOn d)) (d .parts .tally) (rowsRead b (deskGrid d .cells))
     unfolding entriesTest
     radios-off f = stops _ unmarked f
 
-    module _ (passed : not so ≡ false) {t₃ t₄ : List ℕ} {old : Row Fix → Bool} (counts : List ℕ) {settled : Bool} (as-memo : old ≡ stale (linesOf (d .memo)))
-        (all-new : t₃ ≡ added markNew t₂ (reportsOf (d .waiting))) (all-found : t₄ ≡ added (weigh old) t₃ (concat (rowsRead b (d .grid .cells))))
-        (all-stale : take (d .grid .cells .n) counts ≡ map (staleSum old) (rowsRead b (d .grid .cells)))
+    module _ (passed : not so ≡ false) {t₃ t₄ : List ℕ} {old : Row Fix → Bool} (counts : List ℕ) {settled : Bool} (as-memo : old ≡ stale (linesOf (deskMemo d)))
+        (all-new : t₃ ≡ added markNew t₂ (reportsOf (deskWaiting d))) (all-found : t₄ ≡ added (weigh old) t₃ (concat (rowsRead b (deskGrid d .cells))))
+        (all-stale : take (deskGrid d .cells .n) counts ≡ map (staleSum old) (rowsRead b (deskGrid d .cells)))
         (said : settled ≡ allSettled t₄) where
       balance : t₄ ≡ added (weigh (stale lines)) (added markNew (added missedOff (written oneOff z heard) lines) waits) (concat rows)
       balance =
@@ -99,20 +101,20 @@ module _ {b : List ℕ} {d : Desk} (k : Known b d) where
           (balance-counts lines (k .rise) (k .lines) blank heard (k .radios-rise) (k .radios) (k .on-once) (concat rows) waits (k .entries) (k .reports) balance)
           (k .rise) (k .lines) (k .missed)
 
-      counted : take (d .grid .cells .n) counts ≡ staleCounts lines rows
+      counted : take (deskGrid d .cells .n) counts ≡ staleCounts lines rows
       unfolding staleSum staleCount
       counted = all-stale ∙ ap (λ (old : Row Fix → Bool). map (staleSum old) rows) as-memo
 
-      pub radios-fail : not settled ≡ true → false ≡ entriesTest (linesOf (d .memo)) (reportsOf (d .waiting)) (radiosOf (d .on)) (d .tally) (rowsRead b (d .grid .cells))
+      pub radios-fail : not settled ≡ true → false ≡ entriesTest (linesOf (deskMemo d)) (reportsOf (deskWaiting d)) (radiosOf (deskOn d)) (d .parts .tally) (rowsRead b (deskGrid d .cells))
       unfolding entriesTest
       radios-fail t =
           goes unmarked passed
-          (stops-two (presentTest lines (concat rows) waits heard) (linesTest lines (concat rows)) (boundTest (staleCounts lines rows) (length waits) (d .tally)) (sym tests ∙ sym said ∙ not-true settled t))
+          (stops-two (presentTest lines (concat rows) waits heard) (linesTest lines (concat rows)) (boundTest (staleCounts lines rows) (length waits) (d .parts .tally)) (sym tests ∙ sym said ∙ not-true settled t))
 
-      pub radios-bound : not settled ≡ false → {r : Bool} → r ≡ boundTest (take (d .grid .cells .n) counts) (d .waiting .n) (d .tally)
-          → r ≡ entriesTest (linesOf (d .memo)) (reportsOf (d .waiting)) (radiosOf (d .on)) (d .tally) (rowsRead b (d .grid .cells))
+      pub radios-bound : not settled ≡ false → {r : Bool} → r ≡ boundTest (take (deskGrid d .cells .n) counts) (deskWaiting d .n) (d .parts .tally)
+          → r ≡ entriesTest (linesOf (deskMemo d)) (reportsOf (deskWaiting d)) (radiosOf (deskOn d)) (d .parts .tally) (rowsRead b (deskGrid d .cells))
       unfolding entriesTest
       radios-bound t {r} e =
           goes unmarked passed
-          (e ∙ ap₂ (λ (l : List ℕ) (n : ℕ). boundTest l n (d .tally)) counted (sym (k .waits))
-          ∙ goes-two (presentTest lines (concat rows) waits heard) (linesTest lines (concat rows)) (boundTest (staleCounts lines rows) (length waits) (d .tally)) (sym tests ∙ sym said ∙ not-false settled t))
+          (e ∙ ap₂ (λ (l : List ℕ) (n : ℕ). boundTest l n (d .parts .tally)) counted (sym (k .waits))
+          ∙ goes-two (presentTest lines (concat rows) waits heard) (linesTest lines (concat rows)) (boundTest (staleCounts lines rows) (length waits) (d .parts .tally)) (sym tests ∙ sym said ∙ not-false settled t))

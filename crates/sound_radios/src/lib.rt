@@ -4,10 +4,12 @@ ghost use mathlib.Core.Bool.{true};
 ghost use mathlib.Core.Path.{_≡_};
 ghost use Prim.Native.Nat.{_+_, _-_, _*_, _<_, _≤_};
 ghost use lib.ListN.{length, take};
+ghost use Rattle.terms.specs.Terms.{maxOn};
 ghost use Rattle.rules.specs.Limits.{maxCells, fullMemory, sweepEvery};
-ghost use Rattle.desk.specs.Layout.{lineSlots, lineFields};
+ghost use Rattle.desk.specs.Layout.{slotFields, reportFields, lineSlots, lineFields};
 ghost use Rattle.desk.specs.Views.{radiosOf};
-ghost use Rattle.memo.specs.Memo.{memoIn, linesOf};
+ghost use Rattle.desk.specs.Held.{directoryIn, waitingWith, memoIn, onWith, deskWith};
+ghost use Rattle.memo.specs.Memo.{linesOf};
 ghost use Rattle.sound_clauses.specs.Round.{boundTest};
 ghost use Rattle.sound_pages.specs.PagesSound.{PagesSound};
 ghost use Rattle.waiting.specs.Waiting.{reportsOf};
@@ -15,9 +17,7 @@ ghost use Rattle.sound_desk.specs.Sound.{deskSound};
 ghost use Rattle.sound_entries.specs.Entries.{rowsRead};
 ghost use Rattle.sound_radios.specs.Entries.{entriesTest};
 use desk::Desk;
-use desk::Grid;
-use desk::On;
-use desk::Waiting;
+use desk::Parts;
 use sound_balance::RADIOS;
 use sound_balance::SETTLED;
 use sound_balance::all_settled;
@@ -55,33 +55,36 @@ fn bound_ok(counts: [u16; CELLS], n: usize, waiting: usize, c: u16) -> bool
 }
 
 // Whether unmarked reports belong to radios on, the entries are those that memo, marks and who is on call for, and no more stale ones wait for the cleaner than
-// may. The desk comes in its parts, for the memo is lent.
+// may. The desk comes in its parts and its arrays, for these are lent.
 pub fn radios_sound<'a>(
     pages: &'a [u8],
-    grid: Grid,
-    waiting: Waiting,
-    words: &'a [u16; Desk::MEMO_WORDS],
-    n: u16,
-    on: On,
-    tally: u16,
+    parts: Parts,
+    cells: &'a [u16; Desk::CELL_WORDS],
+    waiting: &'a [u16; Desk::WAITING_WORDS],
+    memo: &'a [u16; Desk::MEMO_WORDS],
+    on: &'a [u16; Desk::MAX_ON],
 ) -> bool
-    requires { ⌜ (length (now words) ≡ lineFields * lineSlots)
-        × (deskSound (record { grid = grid; waiting = waiting; memo = memoIn n (now words); on = on; tally = tally }) ≡ true)
-        × PagesSound (now pages) (grid .cells) (grid .free) ⌝ }
+    requires { ⌜ (length (now cells) ≡ slotFields * maxCells) × (length (now waiting) ≡ reportFields * fullMemory)
+        × (length (now memo) ≡ lineFields * lineSlots) × (length (now on) ≡ maxOn)
+        × (deskSound (deskWith parts (now cells) (now waiting) (now memo) (now on)) ≡ true)
+        × PagesSound (now pages) (directoryIn (parts .frame .cells) (now cells)) (parts .frame .free) ⌝ }
     ensures { λ r. ⌜ r
-        ≡ entriesTest (linesOf (memoIn n (now (words .entry)))) (reportsOf waiting) (radiosOf on) tally
-        (rowsRead (now (pages .entry)) (grid .cells)) ⌝ }
+        ≡ entriesTest (linesOf (memoIn (parts .lines) (now (memo .entry)))) (reportsOf (waitingWith (parts .waiting) (now (waiting .entry))))
+        (radiosOf (onWith (parts .on) (now (on .entry)))) (parts .tally) (rowsRead (now (pages .entry)) (directoryIn (parts .frame .cells)
+        (now (cells .entry)))) ⌝ }
 {
     let mut balance = [SETTLED; RADIOS];
     let mut lines = [NO_LINE; RADIOS];
-    on_due(&on.radios, on.n as usize, &mut balance);
-    lines_due(words, n, &mut balance, &mut lines);
-    if !tally_new(waiting, &mut balance) {
+    let n = parts.frame.cells as usize;
+    let waits = parts.waiting as usize;
+    on_due(on, parts.on as usize, &mut balance);
+    lines_due(memo, parts.lines, &mut balance, &mut lines);
+    if !tally_new(waiting, waits, &mut balance) {
         return false;
     }
-    let counts = tally_cells(pages, grid.cells, words, &lines, &mut balance);
+    let counts = tally_cells(pages, cells, n, memo, &lines, &mut balance);
     if !all_settled(&balance) {
         return false;
     }
-    bound_ok(counts, grid.cells.n as usize, waiting.n as usize, tally)
+    bound_ok(counts, n, waits, parts.tally)
 }

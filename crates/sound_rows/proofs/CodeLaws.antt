@@ -1,11 +1,11 @@
 -- Radios on, waiting reports and memo lines: what the code's tests come to.
 use mathlib.Core.Path.{_≡_, refl, sym, ap, ap₂, _∙_}
 use mathlib.Core.Bool.{Bool, true, false, not, cond}
-use mathlib.Core.List.{List, [], _∷_, map}
+use mathlib.Core.List.{List, map}
 use mathlib.Core.Logic.{_≢_}
-use Prim.Native.Nat.{ℕ, zero, suc, _-_, _*_, _≤_, _<_}
+use Prim.Native.Nat.{ℕ, _-_, _*_, _≤_, _<_}
 use native.Mathlib.Omega.{arith}
-use lib.Dec.{eqb, leb, ltb}
+use lib.Dec.{eqb, ltb}
 use lib.ListN.{length, take, length-map}
 use borrow.Author.Tests.{lt-ltb, le-ltb, le-leb, eq-eqb, ne-eqb}
 use Rattle.terms.specs.Terms.{maxRadio, maxOn}
@@ -14,28 +14,24 @@ use Rattle.lists.specs.Sums.{sumBy}
 use Rattle.lists.specs.Tests.{both, either, all}
 use Rattle.lists.proofs.TestsLaws.{both-left-false, both-right-false}
 use Rattle.rules.specs.Limits.{lastMetre, fullMemory}
-use Rattle.rules.specs.Store.{Report as StoreReport, Line as StoreLine}
+use Rattle.rules.specs.Store.{Line as StoreLine}
 use Rattle.desk.specs.declared.Report.{Report}
-use Rattle.desk.specs.declared.Waiting.{Waiting}
+use Rattle.desk.specs.Held.{Memo, On, Waiting}
 use Rattle.desk.specs.declared.Line.{Line}
-use Rattle.desk.specs.declared.Memo.{Memo}
-use Rattle.desk.specs.declared.On.{On}
-use Rattle.desk.specs.Layout.{lineSlots, lineFields}
-use Rattle.desk.specs.Views.{linesIn, radioRow, radiosOf}
+use Rattle.desk.specs.Layout.{lineSlots, lineFields, fieldsOf}
+use Rattle.desk.specs.Views.{everyReport, linesIn, radioRow, radiosOf}
+use Rattle.desk.proofs.LinesLaws.{words-lines}
 use Rattle.memo.specs.Memo.{lastOf, rowOf, linesOf}
 use Rattle.sound_clauses.specs.Loops.{risesTo, keys}
 use Rattle.sound_clauses.specs.Grid.{placeTest}
 use Rattle.sound_clauses.specs.Radios.{onTest, memoTest, lastTest, lastsTest}
-use Rattle.sound_clauses.specs.Waiting.{waitingTest, placesTest}
 use Rattle.sound_clauses.proofs.LoopsLaws.{all-both}
 use Rattle.sound_directory.specs.Sound.{weighs, number}
 use Rattle.lists.proofs.MapLaws.{map-map, map-same}
 use Rattle.lists.proofs.SlotsLaws.{true-both, all-map, few-used}
-use Rattle.sound_directory.proofs.LoopLaws.{Weighed, weighed-end}
-use Rattle.sound_directory.proofs.SlotLaws.{slots-long, slots-heavy, slots-fit, slots-unclear, slots-clear}
-use Rattle.waiting.specs.Waiting.{rowOf as reportRow, reportsOf}
-use Rattle.sound_rows.specs.Views.{placeOf}
-use Rattle.sound_rows.specs.Sound.{onSound, reportWeight, reportMarked, reportTest, waitingSound, lineWeight, lineMarked, missedTest, lineTest, memoSound}
+use Rattle.sound_directory.proofs.LoopLaws.{fields-rest}
+use Rattle.sound_directory.proofs.SlotLaws.{slots-long, slots-unclear, slots-clear}
+use Rattle.sound_rows.specs.Sound.{onSound, reportWeight, reportsTest, waitingSound, lineWeight, lineMarked, missedTest, lineTest, memoSound}
 use Rattle.sound_rows.proofs.ClimbLaws.{climbs}
 
 -- ---- who is on
@@ -67,41 +63,22 @@ module _ (on : On) where
 
 -- ---- waiting reports
 
-pub report-marked : (x : Report) → x .east ≤ lastMetre → x .north ≤ lastMetre → leb (x .new) 1 ≡ reportTest x
-unfolding both placeTest
-report-marked x h k = rw (le-leb (x .east) lastMetre h, le-leb (x .north) lastMetre k) (same (leb (x .new) 1))
-  where
-    same : (b : Bool) → b ≡ cond b true false
-    same true = refl
-    same false = refl
-
 module _ (w : Waiting) where
   abbrev pub kept : List Report
-  kept = take (w .n) (w .rows)
-
-  abbrev pub reportsOk : Bool
-  reportsOk = both (waitingTest (reportsOf w)) (both (all reportMarked kept) (placesTest (reportsOf w)))
+  kept = take (w .n) (everyReport (w .words))
 
   pub waiting-long : fullMemory - 1 < w .n → false ≡ waitingSound w
   unfolding waitingSound
-  waiting-long h = sym (both-left-false reportsOk (slots-long reportWeight (fullMemory - 1) (w .n) (w .rows) h))
+  waiting-long h = sym (both-left-false (reportsTest w) (slots-long reportWeight (fullMemory - 1) (w .n) (everyReport (w .words)) h))
 
-  pub waiting-heavy : {k s : ℕ} → Weighed reportWeight (w .rows) fullMemory (w .n) k s → fullMemory ≤ k → s ≢ 0 → false ≡ waitingSound w
-  unfolding waitingSound
-  waiting-heavy r e h = sym (both-left-false reportsOk (slots-heavy reportWeight (fullMemory - 1) (w .n) (w .rows) (weighed-end r e) h))
+  module _ {b : Bool} (said : b ≡ eqb (weighs reportWeight (w .n) (everyReport (w .words))) 0) where
+    pub waiting-unclear : not b ≡ true → false ≡ waitingSound w
+    unfolding waitingSound
+    waiting-unclear f = sym (both-left-false (reportsTest w) (slots-unclear reportWeight (fullMemory - 1) (w .n) (everyReport (w .words)) said f))
 
-  waiting-used : w .n ≤ fullMemory - 1 → climbs (λ x. x .radio) reportTest 0 kept ≡ reportsOk
-  unfolding climbs waitingTest placesTest reportsOf
-  waiting-used h =
-      let f = few-used (w .n) (fullMemory - 1) (w .rows) h in
-      ap₂ both
-      (ap (risesTo maxRadio 0) (sym (map-map (λ x. x .key) reportRow kept))
-      ∙ sym (true-both (risesTo maxRadio 0 (keys (map reportRow kept))) (lt-ltb (length (map reportRow kept)) fullMemory (rw (length-map kept reportRow) (omega arith)))))
-      (all-both reportMarked (λ x. placeTest (placeOf x)) kept ∙ ap (both (all reportMarked kept)) (sym (all-map (λ (x : Row StoreReport). placeTest (x .val .place)) reportRow kept)))
-
-  pub waiting-climb : {k s : ℕ} {r : Bool} → w .n ≤ fullMemory - 1 → Weighed reportWeight (w .rows) fullMemory (w .n) k s → fullMemory ≤ k → s ≡ 0 → r ≡ climbs (λ x. x .radio) reportTest 0 (take (w .n) (w .rows)) → r ≡ waitingSound w
-  unfolding waitingSound
-  waiting-climb h r e z q = q ∙ waiting-used h ∙ sym (true-both reportsOk (slots-fit reportWeight (fullMemory - 1) (w .n) (w .rows) h (weighed-end r e) z))
+    pub waiting-tested : {r : Bool} → w .n ≤ fullMemory - 1 → not b ≡ false → r ≡ reportsTest w → r ≡ waitingSound w
+    unfolding waitingSound
+    waiting-tested h f q = q ∙ sym (true-both (reportsTest w) (slots-clear reportWeight (fullMemory - 1) (w .n) (everyReport (w .words)) h said f))
 
 -- ---- the memo
 
@@ -130,29 +107,14 @@ module _ (x : Line) where
       same true = refl
       same false = refl
 
--- the array's numbers from a line on weigh what its lines from there on weigh
-lines-weigh : (k : ℕ) (ws : List ℕ) → length ws ≡ lineFields * k → sumBy number ws ≡ sumBy lineWeight (linesIn ws)
-unfolding sumBy linesIn
-lines-weigh k [] h = refl
-lines-weigh zero (r ∷ ws) h = absurd (omega arith)
-lines-weigh (suc k) (r ∷ []) h = absurd (omega arith)
-lines-weigh (suc k) (r ∷ m ∷ []) h = absurd (omega arith)
-lines-weigh (suc k) (r ∷ m ∷ p ∷ []) h = absurd (omega arith)
-lines-weigh (suc k) (r ∷ m ∷ p ∷ e ∷ []) h = absurd (omega arith)
-lines-weigh (suc k) (r ∷ m ∷ p ∷ e ∷ n ∷ rest) h = let q = lines-weigh k rest (omega arith) in omega arith
+line-heavy : (x : Line) → sumBy number (fieldsOf x) ≡ lineWeight x
+unfolding sumBy
+line-heavy x = omega arith
 
-rest-weighs : (i k : ℕ) (ws : List ℕ) → length ws ≡ lineFields * k → weighs number (lineFields * i) ws ≡ weighs lineWeight i (linesIn ws)
-unfolding weighs sumBy linesIn
-rest-weighs zero k ws h = lines-weigh k ws h
-rest-weighs (suc i) k [] h = let z : lineFields * suc i ≡ suc (suc (suc (suc (suc (lineFields * i))))) = omega arith in rw z refl
-rest-weighs (suc i) zero (r ∷ ws) h = absurd (omega arith)
-rest-weighs (suc i) (suc k) (r ∷ []) h = absurd (omega arith)
-rest-weighs (suc i) (suc k) (r ∷ m ∷ []) h = absurd (omega arith)
-rest-weighs (suc i) (suc k) (r ∷ m ∷ p ∷ []) h = absurd (omega arith)
-rest-weighs (suc i) (suc k) (r ∷ m ∷ p ∷ e ∷ []) h = absurd (omega arith)
-rest-weighs (suc i) (suc k) (r ∷ m ∷ p ∷ e ∷ n ∷ rest) h =
-    let z : lineFields * suc i ≡ suc (suc (suc (suc (suc (lineFields * i))))) = omega arith in
-    rw z (rest-weighs i k rest (omega arith))
+-- the array's numbers from a line on weigh what its lines from there on weigh
+rest-weighs : (i : ℕ) (ws : List ℕ) → length ws ≡ lineFields * lineSlots → weighs number (lineFields * i) ws ≡ weighs lineWeight i (linesIn ws)
+rest-weighs i ws h =
+    ap (weighs number (lineFields * i)) (sym (words-lines lineSlots ws h)) ∙ fields-rest fieldsOf lineWeight lineFields (λ x. refl) line-heavy i (linesIn ws)
 
 module _ (m : Memo) where
   abbrev pub noted : List Line
@@ -179,7 +141,7 @@ module _ (m : Memo) where
 
   module _ (size : length (m .words) ≡ lineFields * lineSlots) {k : ℕ} (from : k ≡ lineFields * m .n) {b : Bool} (said : b ≡ eqb (weighs number k (m .words)) 0) where
     cleared : b ≡ eqb (weighs lineWeight (m .n) (linesIn (m .words))) 0
-    cleared = said ∙ ap (λ (w : ℕ). eqb w 0) (ap (λ (j : ℕ). weighs number j (m .words)) from ∙ rest-weighs (m .n) lineSlots (m .words) size)
+    cleared = said ∙ ap (λ (w : ℕ). eqb w 0) (ap (λ (j : ℕ). weighs number j (m .words)) from ∙ rest-weighs (m .n) (m .words) size)
 
     pub memo-unclear : not b ≡ true → false ≡ memoSound m
     unfolding memoSound

@@ -1,2 +1,3 @@
 pub mod ClimbLaws
+pub mod ColumnsLaws
 pub mod CodeLaws

@@ -10,19 +10,15 @@ use Rattle.lists.specs.Tests.{both, either, all}
 use Rattle.rules.specs.Limits.{fullMemory}
 use Rattle.rules.specs.Store.{Line as StoreLine}
 use Rattle.desk.specs.declared.Report.{Report}
-use Rattle.desk.specs.declared.Waiting.{Waiting}
+use Rattle.desk.specs.Held.{Memo, On, Waiting}
 use Rattle.desk.specs.declared.Line.{Line}
-use Rattle.desk.specs.declared.Memo.{Memo}
-use Rattle.desk.specs.declared.On.{On}
 use Rattle.desk.specs.Layout.{lineSlots}
-use Rattle.desk.specs.Views.{linesIn, radiosOf}
+use Rattle.desk.specs.Views.{everyReport, linesIn, radiosOf}
 use Rattle.memo.specs.Memo.{lastOf, linesOf}
-use Rattle.sound_clauses.specs.Grid.{placeTest}
 use Rattle.sound_clauses.specs.Radios.{onTest, memoTest, lastTest, lastsTest}
 use Rattle.sound_clauses.specs.Waiting.{waitingTest, placesTest}
 use Rattle.sound_directory.specs.Sound.{slotsTest, number}
 use Rattle.waiting.specs.Waiting.{reportsOf}
-use Rattle.sound_rows.specs.Views.{placeOf}
 
 -- ---- who is on
 
@@ -34,17 +30,19 @@ onSound on = both (slotsTest number maxOn (on .n) (on .radios)) (onTest (radiosO
 abbrev pub reportWeight : Report → ℕ
 reportWeight x = x .radio + x .east + x .north + x .new
 
--- marked 1 or 0
-abbrev pub reportMarked : Report → Bool
-reportMarked x = leb (x .new) 1
+-- 1 or 0
+abbrev pub isMark : ℕ → Bool
+isMark x = leb x 1
 
-abbrev pub reportTest : Report → Bool
-reportTest x = both (reportMarked x) (placeTest (placeOf x))
+abbrev pub reportMarked : Report → Bool
+reportMarked x = isMark (x .new)
+
+-- what is tested of the reports that wait
+unfoldable pub reportsTest : Waiting → Bool
+reportsTest w = both (waitingTest (reportsOf w)) (both (all reportMarked (take (w .n) (everyReport (w .words)))) (placesTest (reportsOf w)))
 
 unfoldable pub waitingSound : Waiting → Bool
-waitingSound w =
-    both (slotsTest reportWeight (fullMemory - 1) (w .n) (w .rows))
-    (both (waitingTest (reportsOf w)) (both (all reportMarked (take (w .n) (w .rows))) (placesTest (reportsOf w))))
+waitingSound w = both (slotsTest reportWeight (fullMemory - 1) (w .n) (everyReport (w .words))) (reportsTest w)
 
 -- ---- the memo
 

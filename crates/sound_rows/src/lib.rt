@@ -1,23 +1,32 @@
 // The test of soundness as far as it looks at radios on, at waiting reports or at memo lines, each by itself. They may be in any condition: a count is tested
 // before a slot is looked at.
 ghost use mathlib.Core.Path.{_≡_};
-ghost use Prim.Native.Nat.{_*_, _≤_};
-ghost use lib.ListN.{length};
-ghost use Rattle.desk.specs.Layout.{lineSlots, lineFields};
-ghost use Rattle.memo.specs.Memo.{memoIn};
-ghost use Rattle.sound_directory.specs.Sound.{mostField};
-ghost use Rattle.sound_rows.specs.Sound.{onSound, reportWeight, reportTest, waitingSound, lineTest, memoSound};
+ghost use Prim.Native.Nat.{_*_, _<_, _≤_};
+ghost use lib.Dec.{eqb};
+ghost use lib.ListN.{length, take};
+ghost use Rattle.terms.specs.Terms.{maxOn};
+ghost use Rattle.lists.specs.Parts.{part};
+ghost use Rattle.lists.specs.Tests.{all};
+ghost use Rattle.rules.specs.Limits.{fullMemory};
+ghost use Rattle.desk.specs.Layout.{reportFields, lineSlots, lineFields};
+ghost use Rattle.desk.specs.Held.{waitingWith, memoIn, onWith};
+ghost use Rattle.desk.specs.Views.{everyReport};
+ghost use Rattle.sound_directory.specs.Sound.{weighs, number};
+ghost use Rattle.sound_rows.specs.Sound.{onSound, reportWeight, isMark, reportsTest, waitingSound, lineTest, memoSound};
 use desk::Desk;
 use desk::Line;
-use desk::On;
-use desk::Report;
-use desk::Waiting;
 use sound_directory::goes_on;
 use sound_directory::is_clear;
 use sound_directory::rises;
-use sound_directory::wide;
 
-const WAITING_SLOTS: usize = Desk::MAX_WAITING + 1;
+// The columns of the waiting reports' array.
+const RADIOS: usize = 0;
+
+const EASTS: usize = 1;
+
+const NORTHS: usize = 2;
+
+const MARKS: usize = 3;
 
 const LINE_SLOTS: usize = Desk::MAX_LINES + 1;
 
@@ -28,64 +37,93 @@ const UNMARKED: u16 = 0;
 // ---- who is on
 
 // Whether the radios on are sound.
-pub fn on_sound(on: On) -> bool
-    ensures { λ r. ⌜ r ≡ onSound on ⌝ }
+pub fn on_sound<'a>(radios: &'a [u16; Desk::MAX_ON], n: usize) -> bool
+    requires { ⌜ length (now radios) ≡ maxOn ⌝ }
+    ensures { λ r. ⌜ r ≡ onSound (onWith n (now (radios .entry))) ⌝ }
 {
-    if Desk::MAX_ON < on.n as usize {
+    if Desk::MAX_ON < n {
         return false;
     }
-    if !is_clear(&on.radios, on.n as usize) {
+    if !is_clear(radios, n) {
         return false;
     }
-    rises(&on.radios, on.n as usize, terms::MAX_RADIO)
+    rises(radios, n, terms::MAX_RADIO)
 }
 
 // ---- waiting reports
 
-fn report_weight(x: Report) -> u32
-    ensures { λ r. ⌜ (r ≡ reportWeight x) × (r ≤ 4 * mostField) ⌝ }
+// A column of the waiting reports' array: one field of every slot.
+fn column(waiting: &[u16], k: usize) -> &[u16]
+    requires { ⌜ (k < reportFields) × (length (now waiting) ≡ reportFields * fullMemory) ⌝ }
+    ensures { λ r. ⌜ (now r ≡ part (now (waiting .entry)) (fullMemory * k) fullMemory) × (length (now r) ≡ fullMemory) ⌝ }
 {
-    wide(x.radio) + wide(x.east) + wide(x.north) + wide(x.new)
+    let start = Desk::WAITING_SLOTS * k;
+    let end = start + Desk::WAITING_SLOTS;
+    &waiting[start..end]
 }
 
-// Whether a report is marked 1 or 0; its place is one, for its fields have 16 bits.
-fn report_ok(x: Report) -> bool
-    ensures { λ r. ⌜ r ≡ reportTest x ⌝ }
+// Whether each slot from n on is zero in a column.
+fn column_clear(waiting: &[u16], k: usize, n: usize) -> bool
+    requires { ⌜ (k < reportFields) × (n ≤ fullMemory) × (length (now waiting) ≡ reportFields * fullMemory) ⌝ }
+    ensures { λ r. ⌜ r ≡ eqb (weighs number n (part (now (waiting .entry)) (fullMemory * k) fullMemory)) 0 ⌝ }
 {
-    x.new <= MARKED
+    is_clear(column(waiting, k), n)
 }
 
-// Whether the waiting reports are sound: the slots past them are zero, their radios rise and each is marked. Both loops stand here, for another function would
-// get a copy of all slots.
-pub fn waiting_sound(w: Waiting) -> bool
-    ensures { λ r. ⌜ r ≡ waitingSound w ⌝ }
+// Whether each slot from n on is zero, column after column.
+fn reports_clear(waiting: &[u16], n: usize) -> bool
+    requires { ⌜ (n ≤ fullMemory) × (length (now waiting) ≡ reportFields * fullMemory) ⌝ }
+    ensures { λ r. ⌜ r ≡ eqb (weighs reportWeight n (everyReport (now (waiting .entry)))) 0 ⌝ }
 {
-    if Desk::MAX_WAITING < w.n as usize {
+    if !column_clear(waiting, RADIOS, n) {
         return false;
     }
-    let mut sum: u32 = 0;
-    let mut k = w.n as usize;
-    while k < WAITING_SLOTS {
-        sum = sum + report_weight(w.rows[k]);
-        k += 1;
-    }
-    if sum != 0 {
+    if !column_clear(waiting, EASTS, n) {
         return false;
     }
-    let mut last: u16 = 0;
+    if !column_clear(waiting, NORTHS, n) {
+        return false;
+    }
+    column_clear(waiting, MARKS, n)
+}
+
+// Whether each of the first n is 1 or 0. It never leaves early, so that many marks are looked at at a time.
+fn are_marks(marks: &[u16], n: usize) -> bool
+    requires { ⌜ n ≤ length (now marks) ⌝ }
+    ensures { λ r. ⌜ r ≡ all isMark (take n (now (marks .entry))) ⌝ }
+{
+    let mut so = true;
     let mut i: usize = 0;
-    while i < w.n as usize {
-        let x = w.rows[i];
-        if !goes_on(last, x.radio, terms::MAX_RADIO) {
-            return false;
-        }
-        if !report_ok(x) {
-            return false;
-        }
-        last = x.radio;
+    while i < n {
+        so = so & (marks[i] <= MARKED);
         i += 1;
     }
-    true
+    so
+}
+
+// Whether the radios of the first n rise and each is marked; their places are some, for fields have 16 bits.
+fn reports_ok(waiting: &[u16], n: usize) -> bool
+    requires { ⌜ (n < fullMemory) × (length (now waiting) ≡ reportFields * fullMemory) ⌝ }
+    ensures { λ r. ⌜ r ≡ reportsTest (waitingWith n (now (waiting .entry))) ⌝ }
+{
+    if !rises(column(waiting, RADIOS), n, terms::MAX_RADIO) {
+        return false;
+    }
+    are_marks(column(waiting, MARKS), n)
+}
+
+// Whether the waiting reports are sound: the slots past them are zero, their radios rise and each is marked.
+pub fn waiting_sound<'a>(waiting: &'a [u16; Desk::WAITING_WORDS], n: usize) -> bool
+    requires { ⌜ length (now waiting) ≡ reportFields * fullMemory ⌝ }
+    ensures { λ r. ⌜ r ≡ waitingSound (waitingWith n (now (waiting .entry))) ⌝ }
+{
+    if Desk::MAX_WAITING < n {
+        return false;
+    }
+    if !reports_clear(waiting, n) {
+        return false;
+    }
+    reports_ok(waiting, n)
 }
 
 // ---- the memo

@@ -21,7 +21,7 @@ use Rattle.rules.specs.WellFormed.{WellFormed, chains, staleIn}
 use Rattle.rules.proofs.BooksLaws.{entries-total}
 use Rattle.rules.specs.Parts.{Core, Rowed}
 use Rattle.rules.proofs.WellLaws.{well-core}
-use Rattle.desk.specs.declared.Memo.{Memo}
+use Rattle.desk.specs.Held.{Memo}
 use Rattle.desk.specs.Layout.{lineSlots, memoOf, Laid}
 use Rattle.desk.proofs.ReadLaws.{CellRead, Paged, cells-read, pages-enough}
 use Rattle.memo.specs.Memo.{linesOf, Whole}

@@ -20,7 +20,7 @@ use Rattle.entries.specs.Entries.{rowOf, placeOf}
 use Rattle.rules.specs.Store.{Line as StoreLine}
 use Rattle.rules.specs.Sweep.{isAt, stale}
 use Rattle.desk.specs.declared.Line.{Line}
-use Rattle.desk.specs.declared.Memo.{Memo}
+use Rattle.desk.specs.Held.{Memo}
 use Rattle.desk.specs.Layout.{noLine}
 use Rattle.desk.specs.Views.{linesIn}
 use Rattle.memo.specs.Memo.{lastOf, noRow, linesOf, Whole}

@@ -21,7 +21,7 @@ use Rattle.entries.specs.Entries.{rowsOf}
 use Rattle.rules.specs.Store.{Line as StoreLine}
 use Rattle.rules.specs.Sweep.{stale, lowered, lowerEach, sweptEntries, sweptMemo}
 use Rattle.rules.proofs.BooksLaws.{loweredIf, find-sweptMemo}
-use Rattle.desk.specs.declared.Memo.{Memo}
+use Rattle.desk.specs.Held.{Memo}
 use Rattle.desk.specs.Layout.{lineSlots, memoOf}
 use Rattle.memo.specs.Memo.{linesOf, Whole}
 use Rattle.memo_sweep.specs.Lowering.{lowerIf, lowerWhere, markOf}

@@ -19,15 +19,13 @@ use Rattle.rules.proofs.PagedLaws.{pagesFor-le}
 use Rattle.rules.proofs.TilingLaws.{some-cell}
 use Rattle.lists.specs.Rows.{Rows}
 use Rattle.lists.proofs.AmongLaws.{each-among}
-use Rattle.desk.specs.declared.Grid.{Grid}
-use Rattle.desk.specs.declared.Memo.{Memo}
+use Rattle.desk.specs.Held.{Grid, Memo, memoIn}
 use Rattle.desk.specs.Laid.{LaidGrid, LaidMemo}
 use Rattle.directory.proofs.DirectoryLaws.{stands-index}
 use Rattle.cell_last.specs.Settling.{HandFits, BeforeSettle, movedLast}
-use Rattle.memo.specs.Memo.{memoIn}
 use Rattle.tally.specs.declared.Hand.{Hand}
 use Rattle.tally.specs.Tally.{BeforeSweepAt, InHand, BeforeTally, BeforeSweep, AfterTally}
-use Rattle.tally.proofs.HandLaws.{memo-same, laid-cells, among-place}
+use Rattle.tally.proofs.HandLaws.{memo-same, laid-cells, frameOf, among-place}
 
 -- ---- the front of the round
 
@@ -36,16 +34,16 @@ unfolding swept sweptEntries
 few-stay memo c = omega (arith, length-filter-not (stale memo) (c .entries))
 
 module _ {grid : Grid} {memo : Memo} {b : List ℕ} (x : BeforeSweep grid memo b) where
-  abbrev pub front-place : BeforeSweepAt grid 0 memo b
+  abbrev pub front-place : BeforeSweepAt (grid .cells .words) 0 memo b
   front-place =
       let f = stands-index (x .store .cells) (laid-cells (x .laid)) 0 (some-cell (x .roomy .mid .core .tiling)) in
-      record { store = x .store; c = sweepEvery; mid = x .roomy .mid; late = omega arith; laid = x .laid; cell = f .0; stands = f .1 }
+      record { frame = frameOf grid; store = x .store; c = sweepEvery; mid = x .roomy .mid; late = omega arith; laid = x .laid; cell = f .0; stands = f .1 }
 
   abbrev front : Cell
   front = front-place .cell
 
   -- `swept_at` has read it
-  module _ (hand : Hand) (ws : List ℕ) (given : (y : BeforeSweepAt grid 0 memo b) → InHand (swept (y .store .memo) (y .cell)) (sweptMemo (y .store .memo) (y .cell .entries)) hand ws) where
+  module _ (hand : Hand) (ws : List ℕ) (given : (y : BeforeSweepAt (grid .cells .words) 0 memo b) → InHand (swept (y .store .memo) (y .cell)) (sweptMemo (y .store .memo) (y .cell .entries)) hand ws) where
     front-swept : InHand (swept (x .store .memo) front) (sweptMemo (x .store .memo) (front .entries)) hand ws
     front-swept = given front-place
 

@@ -11,25 +11,25 @@ use Rattle.rules.specs.Limits.{sweepEvery}
 use Rattle.rules.specs.Store.{Line, Cell, Store}
 use Rattle.rules.specs.Sweep.{tick}
 use Rattle.rules.specs.Midway.{MidCall, MidCallRoomy}
-use Rattle.desk.specs.declared.Grid.{Grid}
-use Rattle.desk.specs.declared.Memo.{Memo}
+use Rattle.desk.specs.declared.Frame.{Frame}
+use Rattle.desk.specs.Held.{Grid, Memo, directoryIn, gridIn, memoIn}
 use Rattle.desk.specs.Layout.{memoOf}
 use Rattle.desk.specs.Laid.{LaidMemo}
-use Rattle.memo.specs.Memo.{memoIn}
 use Rattle.directory.specs.Directory.{Stands}
 use Rattle.tally.specs.declared.Hand.{Hand}
 
 -- ---- a cell at hand
 
--- a cell at place `at` of the round is to be swept, in the middle of a call whose tally to come is c
-pub record BeforeSweepAt (grid : Grid) (at : ℕ) (memo : Memo) (bytes : List ℕ) : Type 0 where
+-- a cell at place `at` of the round is to be swept, in the middle of a call whose tally to come is c: the directory's array is at hand, with some frame
+pub record BeforeSweepAt (words : List ℕ) (at : ℕ) (memo : Memo) (bytes : List ℕ) : Type 0 where
+  pub frame : Frame
   pub store : Store
   pub c : ℕ
   pub mid : MidCall store c
   pub late : c ≤ sweepEvery
-  pub laid : LaidMemo store grid memo bytes
+  pub laid : LaidMemo store (gridIn frame words) memo bytes
   pub cell : Cell
-  pub stands : Stands (grid .cells) (store .cells) cell at
+  pub stands : Stands (directoryIn (frame .cells) words) (store .cells) cell at
 
 -- a cell's old pages and its entries are at hand, and the memo in these words
 pub record InHand (c : Cell) (memo : Rows Line) (hand : Hand) (words : List ℕ) : Type 0 where

@@ -1,11 +1,11 @@
 // The tally counts each accepted sign-on, report and sign-off, and at the 16th the cell at the front of the round is swept and goes last.
 ghost use mathlib.Core.Path.{_≡_};
 ghost use Rattle.rules.specs.Sweep.{swept, sweptMemo, sweepFront};
-ghost use Rattle.memo.specs.Memo.{memoIn};
+ghost use Rattle.desk.specs.Held.{gridIn, memoIn};
 ghost use Rattle.desk.specs.Laid.{LaidMemo};
 ghost use Rattle.tally.specs.Tally.{BeforeSweepAt, InHand, BeforeTally, BeforeSweep, AfterTally};
 use desk::Desk;
-use desk::Grid;
+use desk::Frame;
 use entries::Entries;
 use page::Chain;
 
@@ -19,17 +19,16 @@ pub struct Hand {
 // "Sweep a cell": the one at place `at` of the round.
 pub fn swept_at(
     buffer: &[u8],
-    grid: Grid,
+    cells: &[u16; Desk::CELL_WORDS],
     at: usize,
     words: &mut [u16; Desk::MEMO_WORDS],
     lines: u16,
 ) -> Hand
-    requires { ⌜ BeforeSweepAt grid at (memoIn lines (now words)) (now buffer) ⌝ }
-    ensures { λ r. ⌜ ((x : BeforeSweepAt grid at (memoIn lines (now (words .entry))) (now (buffer .entry)))
+    requires { ⌜ BeforeSweepAt (now cells) at (memoIn lines (now words)) (now buffer) ⌝ }
+    ensures { λ r. ⌜ ((x : BeforeSweepAt (now (cells .entry)) at (memoIn lines (now (words .entry))) (now (buffer .entry)))
         → InHand (swept (x .store .memo) (x .cell)) (sweptMemo (x .store .memo) (x .cell .entries)) r (now (words .exit))) ⌝ }
 {
-    let cells = grid.cells;
-    let d = cells.slots[at];
+    let d = desk::slot_at(cells, at);
     let chain = page_chain::read_chain(buffer, d.first);
     let swept = sweep::sweep_chain(buffer, chain, words, lines);
     let table = swept.table;
@@ -42,9 +41,9 @@ pub fn swept_at(
 
 // ---- the tally
 
-// What the tally changes, beside the memo's array.
+// What the tally changes, beside the arrays.
 pub struct Ticked {
-    pub grid: Grid,
+    pub frame: Frame,
     pub lines: u16,
     pub tally: u16,
 }
@@ -52,20 +51,23 @@ pub struct Ticked {
 // "sweep the cell at the front of the round, move it to the end, set c to 0"
 fn sweep_front(
     buffer: &mut [u8],
-    grid: Grid,
+    frame: Frame,
+    cells: &mut [u16; Desk::CELL_WORDS],
     words: &mut [u16; Desk::MEMO_WORDS],
     lines: u16,
 ) -> Ticked
-    requires { ⌜ BeforeSweep grid (memoIn lines (now words)) (now buffer) ⌝ }
-    ensures { λ r. ⌜ (r .tally ≡ 0) × ((x : BeforeSweep grid (memoIn lines (now (words .entry))) (now (buffer .entry)))
-        → LaidMemo (sweepFront (x .store .cells) (x .store)) (r .grid) (memoIn (r .lines) (now (words .exit))) (now (buffer .exit))) ⌝ }
+    requires { ⌜ BeforeSweep (gridIn frame (now cells)) (memoIn lines (now words)) (now buffer) ⌝ }
+    ensures { λ r. ⌜ (r .tally ≡ 0)
+        × ((x : BeforeSweep (gridIn frame (now (cells .entry))) (memoIn lines (now (words .entry))) (now (buffer .entry)))
+        → LaidMemo (sweepFront (x .store .cells) (x .store)) (gridIn (r .frame) (now (cells .exit))) (memoIn (r .lines) (now (words .exit)))
+        (now (buffer .exit))) ⌝ }
 {
-    let d = swept_at(buffer, grid, 0, words, lines);
+    let d = swept_at(buffer, cells, 0, words, lines);
     let chain = d.chain;
     let table = d.table;
-    let moved = cell_last::settled_last(buffer, grid, 0, chain, table);
+    let moved = cell_last::settled_last(buffer, frame, cells, 0, chain, table);
     Ticked {
-        grid: moved,
+        frame: moved,
         lines: d.lines,
         tally: 0,
     }
@@ -74,22 +76,23 @@ fn sweep_front(
 // "Each accepted sign-on, report or sign-off adds 1 to c. At 16, sweep the cell at the front of the round, move it to the end, set c to 0."
 pub fn tick(
     buffer: &mut [u8],
-    grid: Grid,
+    frame: Frame,
+    cells: &mut [u16; Desk::CELL_WORDS],
     words: &mut [u16; Desk::MEMO_WORDS],
     lines: u16,
     tally: u16,
 ) -> Ticked
-    requires { ⌜ BeforeTally grid (memoIn lines (now words)) tally (now buffer) ⌝ }
-    ensures { λ r. ⌜ ((x : BeforeTally grid (memoIn lines (now (words .entry))) tally (now (buffer .entry)))
-        → AfterTally (x .store) (r .grid) (memoIn (r .lines) (now (words .exit))) (r .tally) (now (buffer .exit))) ⌝ }
+    requires { ⌜ BeforeTally (gridIn frame (now cells)) (memoIn lines (now words)) tally (now buffer) ⌝ }
+    ensures { λ r. ⌜ ((x : BeforeTally (gridIn frame (now (cells .entry))) (memoIn lines (now (words .entry))) tally (now (buffer .entry)))
+        → AfterTally (x .store) (gridIn (r .frame) (now (cells .exit))) (memoIn (r .lines) (now (words .exit))) (r .tally) (now (buffer .exit))) ⌝ }
 {
     let c = tally + 1;
     if c < Desk::SWEEP_EVERY {
         return Ticked {
-            grid,
+            frame,
             lines,
             tally: c,
         };
     }
-    sweep_front(buffer, grid, words, lines)
+    sweep_front(buffer, frame, cells, words, lines)
 }

@@ -5,12 +5,8 @@ use Prim.Native.Nat.{ℕ, _≤_, _<_}
 use Rattle.terms.specs.Terms.{maxOn}
 use Rattle.lists.specs.Rows.{Rising}
 use Rattle.desk.specs.Layout.{onOf}
-use Rattle.desk.specs.declared.On.{On}
+use Rattle.desk.specs.Held.{On}
 use Rattle.desk.specs.Views.{radiosOf}
-
--- n radios on, in an array that is lent
-abbrev pub onWith : ℕ → List ℕ → On
-onWith n radios = record { n = n; radios = radios }
 
 -- unused slots are zero
 abbrev pub WholeOn : On → Type 0

@@ -7,11 +7,12 @@ use Prim.Native.Nat.{ℕ, _≤_, _<_}
 use lib.Dec.{eqb}
 use lib.ListN.{take}
 use Rattle.lists.specs.Rows.{Row, Rows, Rising}
+use Rattle.desk.specs.Views.{everyReport}
 use Rattle.rules.specs.Limits.{fullMemory}
 use Rattle.rules.specs.Store.{Report as StoreReport}
 use Rattle.desk.specs.Layout.{reportOf, waitingOf}
 use Rattle.desk.specs.declared.Report.{Report}
-use Rattle.desk.specs.declared.Waiting.{Waiting}
+use Rattle.desk.specs.Held.{Waiting}
 use Rattle.waiting.specs.declared.Waited.{Waited}
 use Rattle.waiting.specs.declared.Waited.the-variants.{Found, Missing}
 
@@ -25,7 +26,7 @@ rowOf w = record { key = w .radio; val = waits w }
 
 -- the rows that the desk holds
 unfoldable pub reportsOf : Waiting → Rows StoreReport
-reportsOf w = map rowOf (take (w .n) (w .rows))
+reportsOf w = map rowOf (take (w .n) (everyReport (w .words)))
 
 -- marks are 0 or 1, unused slots zero
 abbrev pub WholeWaiting : Waiting → Type 0

@@ -81,7 +81,7 @@ mod tests {
             tally: 0,
         };
         assert_eq!(Sizes::of(&store), sizes);
-        let missed: u16 = store.desk().memo.rows.iter().map(|line| line.missed).sum();
+        let missed: u16 = store.desk().memo.iter().map(|line| line.missed).sum();
         assert_eq!(usize::from(missed), STALE);
     }
 }

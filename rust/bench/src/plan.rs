@@ -44,9 +44,9 @@ impl Plan {
     pub fn store(&self) -> Store {
         let mut store = Store::fresh();
         let (desk, pages) = store.parts_mut();
-        desk.grid.easts = cut_list(&self.easts);
-        desk.grid.norths = cut_list(&self.norths);
-        desk.tally = self.tally;
+        desk.parts.frame.easts = cut_list(&self.easts);
+        desk.parts.frame.norths = cut_list(&self.norths);
+        desk.parts.tally = self.tally;
         self.fill_cells(desk, pages);
         self.fill_waiting(desk);
         self.fill_on(desk);
@@ -57,9 +57,9 @@ impl Plan {
 
     /// Chains stand one after the other from page 0 on, and the free chain behind them.
     fn fill_cells(&self, desk: &mut Desk, pages: &mut [u8]) {
-        desk.grid.cells.n = self.cells.len() as u16;
+        desk.parts.frame.cells = self.cells.len() as u16;
         let mut first = 0;
-        for (number, (slot, cell)) in desk.grid.cells.slots.iter_mut().zip(&self.cells).enumerate() {
+        for (number, (slot, cell)) in desk.cells.iter_mut().zip(&self.cells).enumerate() {
             let Edges {
                 west,
                 east,
@@ -76,7 +76,7 @@ impl Plan {
             };
             first = fill_chain(pages, first, number as u16, &cell.entries());
         }
-        desk.grid.free = page_or_none(first, PAGES);
+        desk.parts.frame.free = page_or_none(first, PAGES);
         for page in first..PAGES {
             fill_page(pages, page, [KIND_FREE, page_or_none(page + 1, PAGES), NONE], &[]);
         }
@@ -85,8 +85,10 @@ impl Plan {
     fn fill_waiting(&self, desk: &mut Desk) {
         let mut waiting = self.waiting.clone();
         waiting.sort_unstable_by_key(|report| report.radio);
-        desk.waiting.n = waiting.len() as u16;
-        desk.waiting.rows[..waiting.len()].copy_from_slice(&waiting);
+        desk.parts.waiting = waiting.len() as u16;
+        for (i, report) in waiting.into_iter().enumerate() {
+            desk.waiting.put_report(i, report);
+        }
     }
 
     /// A radio is on if it has a live entry or a waiting report marked new.
@@ -95,8 +97,8 @@ impl Plan {
         let mut on: Vec<u16> = self.live().keys().copied().collect();
         on.extend(new.map(|report| report.radio));
         on.sort_unstable();
-        desk.on.n = on.len() as u16;
-        desk.on.radios[..on.len()].copy_from_slice(&on);
+        desk.parts.on = on.len() as u16;
+        desk.on[..on.len()].copy_from_slice(&on);
     }
 
     /// A line for each radio with stale entries: how many, and the place of its live entry, or none.
@@ -106,8 +108,8 @@ impl Plan {
         for (radio, _) in self.cells.iter().flat_map(|cell| &cell.stale) {
             *missed.entry(*radio).or_insert(0) += 1;
         }
-        desk.memo.n = missed.len() as u16;
-        for (line, (radio, missed)) in desk.memo.rows.iter_mut().zip(missed) {
+        desk.parts.lines = missed.len() as u16;
+        for (line, (radio, missed)) in desk.memo.iter_mut().zip(missed) {
             let (east, north) = live.get(&radio).copied().unwrap_or_default();
             *line = Line {
                 radio,
@@ -190,19 +192,19 @@ pub struct Sizes {
 impl Sizes {
     /// Counted on desk and pages.
     pub fn of(store: &Store) -> Sizes {
-        let desk = store.desk();
+        let parts = &store.desk().parts;
         let field = |page: &[u8], at: usize| u16::from_le_bytes([page[2 * at], page[2 * at + 1]]);
         let pages = store.pages().chunks_exact(PAGE_BYTES);
         let used = pages.filter(|page| field(page, 1) != KIND_FREE);
         let bytes: usize = used.clone().map(|page| usize::from(field(page, 0)) - HEAD_BYTES).sum();
         Sizes {
-            cells: desk.grid.cells.n.into(),
-            on: desk.on.n.into(),
+            cells: parts.frame.cells.into(),
+            on: parts.on.into(),
             entries: bytes / ENTRY_BYTES,
             pages: used.count(),
-            lines: desk.memo.n.into(),
-            waiting: desk.waiting.n.into(),
-            tally: desk.tally.into(),
+            lines: parts.lines.into(),
+            waiting: parts.waiting.into(),
+            tally: parts.tally.into(),
         }
     }
 }

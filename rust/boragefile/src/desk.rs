@@ -1,6 +1,6 @@
-//! The desk, field by field as the proved code has it. Every field is a 16-bit number, with nothing between the fields. Counts
-//! come first in each part; slots past the count are zero.
-use std::mem::{align_of, size_of};
+//! The desk, field by field as the proved code has it: first its parts, with every count, then four arrays. Every field is a
+//! 16-bit number, with nothing between the fields. Slots past a count are zero.
+use std::mem::{align_of, offset_of, size_of};
 use std::slice;
 
 /// The bytes of a desk.
@@ -13,6 +13,35 @@ pub const DESK_BYTES: usize = 14402;
 pub struct CutList {
     pub n: u16,
     pub at: [u16; 15],
+}
+
+/// The grid but for its cells.
+#[allow(missing_docs)]
+#[repr(C)]
+#[derive(Clone, PartialEq, Eq, Debug)]
+pub struct Frame {
+    pub easts: CutList,
+    pub norths: CutList,
+    /// How many cells there are.
+    pub cells: u16,
+    /// The front of the free chain.
+    pub free: u16,
+}
+
+/// The desk but for its arrays.
+#[allow(missing_docs)]
+#[repr(C)]
+#[derive(Clone, PartialEq, Eq, Debug)]
+pub struct Parts {
+    pub frame: Frame,
+    /// How many reports wait.
+    pub waiting: u16,
+    /// How many lines the memo has.
+    pub lines: u16,
+    /// How many radios are on.
+    pub on: u16,
+    /// Accepted sign-ons, reports and sign-offs since the last sweep of the round.
+    pub tally: u16,
 }
 
 /// A cell of the directory: its number, its edges and the first page of its chain.
@@ -28,30 +57,8 @@ pub struct Slot {
     pub first: u16,
 }
 
-/// The directory, in the order of the round, its front first.
+/// A waiting report; `new` is 1 where it is marked new, else 0. The desk has its fields apart: [`Waiting`].
 #[allow(missing_docs)]
-#[repr(C)]
-#[derive(Clone, PartialEq, Eq, Debug)]
-pub struct Directory {
-    pub n: u16,
-    pub slots: [Slot; 64],
-}
-
-/// What a split or a join changes.
-#[allow(missing_docs)]
-#[repr(C)]
-#[derive(Clone, PartialEq, Eq, Debug)]
-pub struct Grid {
-    pub easts: CutList,
-    pub norths: CutList,
-    pub cells: Directory,
-    /// The front of the free chain.
-    pub free: u16,
-}
-
-/// A waiting report; `new` is 1 where it is marked new, else 0.
-#[allow(missing_docs)]
-#[repr(C)]
 #[derive(Clone, Copy, PartialEq, Eq, Debug, Default)]
 pub struct Report {
     pub radio: u16,
@@ -60,13 +67,16 @@ pub struct Report {
     pub new: u16,
 }
 
-/// The waiting reports, by rising radio: room for one more than may wait between two calls.
+/// The waiting reports, by rising radio, field by field: report i has number i of each. There is room for one more than may
+/// wait between two calls.
 #[allow(missing_docs)]
 #[repr(C)]
 #[derive(Clone, PartialEq, Eq, Debug)]
 pub struct Waiting {
-    pub n: u16,
-    pub rows: [Report; 128],
+    pub radios: [u16; 128],
+    pub easts: [u16; 128],
+    pub norths: [u16; 128],
+    pub news: [u16; 128],
 }
 
 /// A memo line; `placed` is 1 where it has a place, and 0, with the place zero, where it has none.
@@ -81,91 +91,124 @@ pub struct Line {
     pub north: u16,
 }
 
-/// The memo, by rising radio: room for one line more than there may be between two calls.
-#[allow(missing_docs)]
-#[repr(C)]
-#[derive(Clone, PartialEq, Eq, Debug)]
-pub struct Memo {
-    pub n: u16,
-    pub rows: [Line; 1151],
-}
-
-/// The radios on, rising.
-#[allow(missing_docs)]
-#[repr(C)]
-#[derive(Clone, PartialEq, Eq, Debug)]
-pub struct On {
-    pub n: u16,
-    pub radios: [u16; 512],
-}
-
 /// The desk.
 #[allow(missing_docs)]
 #[repr(C)]
 #[derive(Clone, PartialEq, Eq, Debug)]
 pub struct Desk {
-    pub grid: Grid,
+    pub parts: Parts,
+    /// The directory, in the order of the round, its front first: [`Desk::cells_in_use`].
+    pub cells: [Slot; 64],
+    /// [`Desk::reports_in_use`].
     pub waiting: Waiting,
-    pub memo: Memo,
-    pub on: On,
-    /// Accepted sign-ons, reports and sign-offs since the last sweep of the round.
-    pub tally: u16,
+    /// The memo, by rising radio, with room for one line more than there may be between two calls: [`Desk::lines_in_use`].
+    pub memo: [Line; 1151],
+    /// The radios on, rising: [`Desk::radios_on`].
+    pub on: [u16; 512],
 }
 
 // The archive's sizes. A desk of so many bytes has room for its 7,201 numbers and for nothing between them.
 const _: () = assert!(size_of::<CutList>() == 2 * (1 + 15));
-const _: () = assert!(size_of::<Directory>() == 2 * (1 + 64 * 6));
-const _: () = assert!(size_of::<Grid>() == 2 * (2 * 16 + 385 + 1));
-const _: () = assert!(size_of::<Waiting>() == 2 * (1 + 128 * 4));
-const _: () = assert!(size_of::<Memo>() == 2 * (1 + 1151 * 5));
-const _: () = assert!(size_of::<On>() == 2 * (1 + 512));
-const _: () = assert!(size_of::<Desk>() == 2 * (418 + 513 + 5756 + 513 + 1));
+const _: () = assert!(size_of::<Frame>() == 2 * (2 * 16 + 2));
+const _: () = assert!(size_of::<Parts>() == 2 * (34 + 4));
+const _: () = assert!(size_of::<Slot>() == 2 * 6);
+const _: () = assert!(size_of::<Waiting>() == 2 * 4 * 128);
+const _: () = assert!(size_of::<Line>() == 2 * 5);
+const _: () = assert!(size_of::<Desk>() == 2 * (38 + 64 * 6 + 4 * 128 + 1151 * 5 + 512));
 const _: () = assert!(size_of::<Desk>() == DESK_BYTES && align_of::<Desk>() == 2);
+const _: () = assert!(offset_of!(Desk, cells) == 2 * 38);
+const _: () = assert!(offset_of!(Desk, waiting) == 2 * (38 + 384));
+const _: () = assert!(offset_of!(Desk, memo) == 2 * (38 + 384 + 512));
+const _: () = assert!(offset_of!(Desk, on) == 2 * (38 + 384 + 512 + 5755));
 
-// Each part with a count gives the slots that it counts.
-macro_rules! in_use {
-    ($($part:ty, $slots:ident: $slot:ty;)*) => {$(
-        impl $part {
-            /// The slots in use: as many as the count says, or all where it is beyond them.
-            pub fn in_use(&self) -> &[$slot] {
-                &self.$slots[..self.$slots.len().min(self.n.into())]
-            }
-        }
-    )*};
+/// As many of these as the count says, or all where it is beyond them.
+fn counted<T>(slots: &[T], count: u16) -> &[T] {
+    &slots[..slots.len().min(count.into())]
 }
 
-in_use! {
-    CutList, at: u16;
-    Directory, slots: Slot;
-    Waiting, rows: Report;
-    Memo, rows: Line;
-    On, radios: u16;
+impl CutList {
+    /// The cuts in use: as many as the count says, or all slots where it is beyond them.
+    pub fn in_use(&self) -> &[u16] {
+        counted(&self.at, self.n)
+    }
+}
+
+impl Waiting {
+    /// Report `i`, put together from its fields.
+    ///
+    /// # Panics
+    ///
+    /// If `i` is 128 or more.
+    pub fn report_at(&self, i: usize) -> Report {
+        Report {
+            radio: self.radios[i],
+            east: self.easts[i],
+            north: self.norths[i],
+            new: self.news[i],
+        }
+    }
+
+    /// Writes the fields of report `i`.
+    ///
+    /// # Panics
+    ///
+    /// If `i` is 128 or more.
+    pub fn put_report(&mut self, i: usize, report: Report) {
+        self.radios[i] = report.radio;
+        self.easts[i] = report.east;
+        self.norths[i] = report.north;
+        self.news[i] = report.new;
+    }
 }
 
 impl Desk {
     /// A desk with zero in every field. It is no store's desk until [`begin`](crate::begin) fills it.
     pub fn blank() -> Desk {
+        let no_cuts = CutList { n: 0, at: [0; 15] };
         Desk {
-            grid: Grid {
-                easts: CutList { n: 0, at: [0; 15] },
-                norths: CutList { n: 0, at: [0; 15] },
-                cells: Directory {
-                    n: 0,
-                    slots: [Slot::default(); 64],
+            parts: Parts {
+                frame: Frame {
+                    easts: no_cuts.clone(),
+                    norths: no_cuts,
+                    cells: 0,
+                    free: 0,
                 },
-                free: 0,
+                waiting: 0,
+                lines: 0,
+                on: 0,
+                tally: 0,
             },
+            cells: [Slot::default(); 64],
             waiting: Waiting {
-                n: 0,
-                rows: [Report::default(); 128],
+                radios: [0; 128],
+                easts: [0; 128],
+                norths: [0; 128],
+                news: [0; 128],
             },
-            memo: Memo {
-                n: 0,
-                rows: [Line::default(); 1151],
-            },
-            on: On { n: 0, radios: [0; 512] },
-            tally: 0,
+            memo: [Line::default(); 1151],
+            on: [0; 512],
         }
+    }
+
+    /// The cells, in the order of the round: as many as the count says, or all slots where it is beyond them.
+    pub fn cells_in_use(&self) -> &[Slot] {
+        counted(&self.cells, self.parts.frame.cells)
+    }
+
+    /// The waiting reports, by rising radio: as many as the count says, or all slots where it is beyond them.
+    pub fn reports_in_use(&self) -> impl DoubleEndedIterator<Item = Report> + ExactSizeIterator + Clone + '_ {
+        let n = counted(&self.waiting.radios, self.parts.waiting).len();
+        (0..n).map(|i| self.waiting.report_at(i))
+    }
+
+    /// The memo lines, by rising radio: as many as the count says, or all slots where it is beyond them.
+    pub fn lines_in_use(&self) -> &[Line] {
+        counted(&self.memo, self.parts.lines)
+    }
+
+    /// The radios on, rising: as many as the count says, or all slots where it is beyond them.
+    pub fn radios_on(&self) -> &[u16] {
+        counted(&self.on, self.parts.on)
     }
 
     /// Its bytes, in the machine's order, as it may be saved. Desks with equal fields have equal bytes.
@@ -193,15 +236,96 @@ impl Desk {
 mod tests {
     use super::*;
 
+    /// A desk whose number i is i.
+    fn numbered() -> Desk {
+        let bytes: Vec<u8> = (0..7201u16).flat_map(u16::to_ne_bytes).collect();
+        Desk::from_bytes(&bytes).expect("a desk's bytes")
+    }
+
+    /// With each count below the slots, at them and above them.
+    fn for_counts(slots: u16, count: impl Fn(&mut Desk) -> &mut u16, in_use: impl Fn(&Desk) -> usize) {
+        let mut desk = numbered();
+        for n in [0, 1, slots - 1, slots, slots + 1, u16::MAX] {
+            *count(&mut desk) = n;
+            assert_eq!(in_use(&desk), n.min(slots).into(), "{n} of {slots}");
+        }
+    }
+
     #[test]
     fn slots_in_use_are_those_that_the_count_counts() {
-        let mut desk = Desk::blank();
-        for (n, in_use) in [(0, 0), (1, 1), (511, 511), (512, 512), (513, 512), (u16::MAX, 512)] {
-            desk.on.n = n;
-            assert_eq!(desk.on.in_use().len(), in_use);
+        for_counts(
+            15,
+            |desk| &mut desk.parts.frame.easts.n,
+            |desk| desk.parts.frame.easts.in_use().len(),
+        );
+        for_counts(
+            15,
+            |desk| &mut desk.parts.frame.norths.n,
+            |desk| desk.parts.frame.norths.in_use().len(),
+        );
+        for_counts(64, |desk| &mut desk.parts.frame.cells, |desk| desk.cells_in_use().len());
+        for_counts(128, |desk| &mut desk.parts.waiting, |desk| desk.reports_in_use().len());
+        for_counts(1151, |desk| &mut desk.parts.lines, |desk| desk.lines_in_use().len());
+        for_counts(512, |desk| &mut desk.parts.on, |desk| desk.radios_on().len());
+    }
+
+    #[test]
+    fn slots_in_use_are_the_first() {
+        let mut desk = numbered();
+        desk.parts.frame.easts.n = 2;
+        desk.parts.frame.norths.n = 1;
+        desk.parts.frame.cells = 2;
+        desk.parts.waiting = 2;
+        desk.parts.lines = 2;
+        desk.parts.on = 2;
+        assert_eq!(desk.parts.frame.easts.in_use(), [1, 2]);
+        assert_eq!(desk.parts.frame.norths.in_use(), [17]);
+        let slot = |at| Slot {
+            number: at,
+            west: at + 1,
+            east: at + 2,
+            south: at + 3,
+            north: at + 4,
+            first: at + 5,
+        };
+        assert_eq!(desk.cells_in_use(), [slot(38), slot(44)]);
+        let report = |at| Report {
+            radio: at,
+            east: at + 128,
+            north: at + 256,
+            new: at + 384,
+        };
+        assert!(desk.reports_in_use().eq([report(422), report(423)]));
+        let line = |at| Line {
+            radio: at,
+            missed: at + 1,
+            placed: at + 2,
+            east: at + 3,
+            north: at + 4,
+        };
+        assert_eq!(desk.lines_in_use(), [line(934), line(939)]);
+        assert_eq!(desk.radios_on(), [6689, 6690]);
+    }
+
+    #[test]
+    fn a_report_is_read_where_it_is_put() {
+        let desk = numbered();
+        let report = Report {
+            radio: 4095,
+            east: 1,
+            north: 65535,
+            new: 1,
+        };
+        for i in [0, 1, 126, 127] {
+            let mut other = desk.clone();
+            other.waiting.put_report(i, report);
+            for j in 0..128 {
+                let kept = desk.waiting.report_at(j);
+                assert_eq!(other.waiting.report_at(j), if i == j { report } else { kept });
+            }
+            other.waiting.put_report(i, desk.waiting.report_at(i));
+            assert!(other == desk, "report {i} alone is changed");
         }
-        desk.grid.easts.n = u16::MAX;
-        assert_eq!(desk.grid.easts.in_use(), desk.grid.easts.at);
     }
 
     #[test]
@@ -209,11 +333,33 @@ mod tests {
         let bytes: Vec<u8> = (0..DESK_BYTES).map(|i| (i % 251) as u8).collect();
         let desk = Desk::from_bytes(&bytes).expect("a desk's bytes");
         assert_eq!(desk.as_bytes(), bytes);
-        assert_eq!(desk.grid.easts.n, u16::from_ne_bytes([0, 1]));
-        assert_eq!(
-            desk.tally,
-            u16::from_ne_bytes([bytes[DESK_BYTES - 2], bytes[DESK_BYTES - 1]])
-        );
+        let number = |at: usize| u16::from_ne_bytes([bytes[at], bytes[at + 1]]);
+        assert_eq!(desk.parts.frame.easts.n, number(0));
+        assert_eq!(desk.parts.tally, number(74));
+        assert_eq!(desk.on[511], number(DESK_BYTES - 2));
         assert!(Desk::from_bytes(&bytes[1..]).is_none());
+    }
+
+    #[test]
+    fn each_number_stands_where_the_proved_code_has_it() {
+        let desk = numbered();
+        let Parts {
+            frame,
+            waiting,
+            lines,
+            on,
+            tally,
+        } = &desk.parts;
+        assert_eq!((frame.easts.n, frame.easts.at[14]), (0, 15));
+        assert_eq!((frame.norths.n, frame.norths.at[14]), (16, 31));
+        assert_eq!((frame.cells, frame.free), (32, 33));
+        assert_eq!([*waiting, *lines, *on, *tally], [34, 35, 36, 37]);
+        assert_eq!((desk.cells[0].number, desk.cells[63].first), (38, 421));
+        assert_eq!((desk.waiting.radios[0], desk.waiting.radios[127]), (422, 549));
+        assert_eq!((desk.waiting.easts[0], desk.waiting.easts[127]), (550, 677));
+        assert_eq!((desk.waiting.norths[0], desk.waiting.norths[127]), (678, 805));
+        assert_eq!((desk.waiting.news[0], desk.waiting.news[127]), (806, 933));
+        assert_eq!((desk.memo[0].radio, desk.memo[1150].north), (934, 6688));
+        assert_eq!((desk.on[0], desk.on[511]), (6689, 7200));
     }
 }

@@ -34,7 +34,7 @@ mod record;
 
 use answer::Numbers;
 pub use answer::{Answer, Refusal};
-pub use desk::{CutList, Desk, Directory, Grid, Line, Memo, On, Report, Slot, Waiting, DESK_BYTES};
+pub use desk::{CutList, Desk, Frame, Line, Parts, Report, Slot, Waiting, DESK_BYTES};
 pub use list::{List, ListIter, Located};
 pub use record::{Record, KIND_RANGE, KIND_REPORT, KIND_SIGN_OFF, KIND_SIGN_ON};
 

@@ -1,6 +1,10 @@
 //! The C header says the same as this crate.
 #![forbid(unsafe_code)]
-use boragefile::{Refusal, DESK_BYTES, ENTRY_BYTES, LIST_BYTES, PAGES_BYTES, VERSION};
+use boragefile::{
+    CutList, Desk, Frame, Line, Parts, Refusal, Slot, Waiting, DESK_BYTES, ENTRY_BYTES, LIST_BYTES, PAGES_BYTES,
+    VERSION,
+};
+use std::mem::{offset_of, size_of};
 
 const HEADER: &str = include_str!("../../../include/boragefile.h");
 
@@ -32,6 +36,52 @@ fn the_sizes_are_the_same() {
     for (name, size) in sizes {
         assert_eq!(defined(&format!("BORAGEFILE_{name}_BYTES")), size.to_string());
     }
+}
+
+/// What the header asserts of the desk's layout, each fact as it stands there.
+fn asserted() -> Vec<&'static str> {
+    let facts = HEADER
+        .lines()
+        .filter_map(|line| line.strip_prefix("BORAGEFILE_STATIC_ASSERT("));
+    facts.filter_map(|fact| fact.split(", \"").next()).collect()
+}
+
+#[test]
+fn the_layout_is_the_same() {
+    let sizes = [
+        ("cut_list", size_of::<CutList>()),
+        ("frame", size_of::<Frame>()),
+        ("parts", size_of::<Parts>()),
+        ("slot", size_of::<Slot>()),
+        ("waiting", size_of::<Waiting>()),
+        ("line", size_of::<Line>()),
+    ];
+    for (name, size) in sizes {
+        let fact = format!("sizeof(boragefile_{name}) == {size}");
+        assert!(asserted().contains(&fact.as_str()), "{fact}");
+    }
+    let offsets = [
+        ("frame, norths", offset_of!(Frame, norths)),
+        ("frame, cells", offset_of!(Frame, cells)),
+        ("frame, free", offset_of!(Frame, free)),
+        ("parts, waiting", offset_of!(Parts, waiting)),
+        ("parts, lines", offset_of!(Parts, lines)),
+        ("parts, on", offset_of!(Parts, on)),
+        ("parts, tally", offset_of!(Parts, tally)),
+        ("waiting, easts", offset_of!(Waiting, easts)),
+        ("waiting, norths", offset_of!(Waiting, norths)),
+        ("waiting, news", offset_of!(Waiting, news)),
+        ("desk, cells", offset_of!(Desk, cells)),
+        ("desk, waiting", offset_of!(Desk, waiting)),
+        ("desk, memo", offset_of!(Desk, memo)),
+        ("desk, on", offset_of!(Desk, on)),
+    ];
+    for (field, offset) in offsets {
+        let fact = format!("offsetof(boragefile_{field}) == {offset}");
+        assert!(asserted().contains(&fact.as_str()), "{fact}");
+    }
+    // these, the desk's own size and the answer's are all
+    assert_eq!(asserted().len(), sizes.len() + offsets.len() + 2);
 }
 
 /// `AlreadyOn` as `ALREADY_ON`.

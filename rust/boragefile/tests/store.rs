@@ -1,6 +1,7 @@
 //! A store through the wrapper: what a desk is as bytes, a list only where one was found, and a store that was saved.
 #![forbid(unsafe_code)]
 use boragefile::{begin, Desk, Located, Record, Refusal, Store, DESK_BYTES, ENTRY_BYTES, PAGES_BYTES};
+use std::mem::offset_of;
 
 const ALL: Record = Record::Range {
     west: 0,
@@ -82,7 +83,22 @@ fn what_is_no_sound_store_does_not_come_back() {
     let mut damaged = pages.to_vec();
     damaged[PAGES_BYTES - 1] = 1;
     assert_eq!(why(desk, &damaged), Some(Refusal::Unsound));
-    let mut damaged = desk.to_vec();
-    damaged[DESK_BYTES - 1] = 1;
-    assert_eq!(why(&damaged, pages), Some(Refusal::Unsound));
+    // in the tally, and in the last slot of the radios on
+    for at in [offset_of!(Desk, parts.tally) + 1, DESK_BYTES - 1] {
+        let mut damaged = desk.to_vec();
+        damaged[at] = 1;
+        assert_eq!(why(&damaged, pages), Some(Refusal::Unsound));
+    }
+}
+
+/// A fresh desk as version 0.3.0 had it: cuts, the directory with its count first, the front of the free chain, then waiting
+/// reports, memo and radios on, each with its count first, and the tally.
+#[test]
+fn a_fresh_desk_of_the_layout_before_does_not_come_back() {
+    let mut numbers = [0u16; DESK_BYTES / 2];
+    numbers[32..39].copy_from_slice(&[1, 0, 0, 65535, 0, 65535, 0]);
+    numbers[417] = 1;
+    let desk: Vec<u8> = numbers.into_iter().flat_map(u16::to_ne_bytes).collect();
+    let fresh = Store::fresh();
+    assert_eq!(Store::restored(&desk, fresh.pages()).err(), Some(Refusal::Unsound));
 }

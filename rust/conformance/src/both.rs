@@ -99,7 +99,7 @@ impl Both {
     /// After an accepted sign-on, report or sign-off.
     fn compare_radios(&mut self, bytes: &[u8]) {
         let desk = self.store.desk();
-        let on = desk.on.in_use().iter().copied();
+        let on = desk.radios_on().iter().copied();
         assert!(
             on.eq(self.plain.latest().map(|(radio, _)| radio)),
             "call {}: who is on",
@@ -107,7 +107,7 @@ impl Both {
         );
         self.rule.carry_out(bytes, self.before.desk());
         self.rule.compare_waiting(desk);
-        for report in desk.waiting.in_use() {
+        for report in desk.reports_in_use() {
             let latest = self.plain.place(report.radio);
             assert_eq!(
                 latest,

@@ -48,9 +48,9 @@ impl Rule {
     /// If the memory cell of that place has 8 waiting, flush it. If 128 still wait in all, flush the memory cell with most
     /// waiting; ties go to the southern, then the western.
     fn flush_after(&mut self, place: Place, found: &Desk) {
-        let grid = &found.grid;
+        let frame = &found.parts.frame;
         // Numbers rise by north, then by east, so the first of several is the southern, then the western.
-        let memory_cell = |(east, north): Place| STRIPES * stripe(&grid.norths, north) + stripe(&grid.easts, east);
+        let memory_cell = |(east, north): Place| STRIPES * stripe(&frame.norths, north) + stripe(&frame.easts, east);
         let mut waiting = [0; STRIPES * STRIPES];
         for place in self.waiting.values() {
             waiting[memory_cell(*place)] += 1;
@@ -79,9 +79,7 @@ impl Rule {
     /// The reports waiting in the desk are exactly the waiting radios with their latest places.
     pub fn compare_waiting(&self, desk: &Desk) {
         let rows = desk
-            .waiting
-            .in_use()
-            .iter()
+            .reports_in_use()
             .map(|report| (report.radio, (report.east, report.north)));
         assert!(
             rows.eq(self.waiting.iter().map(|(radio, place)| (*radio, *place))),
@@ -99,8 +97,8 @@ impl Rule {
     pub fn compare_pages(&self, store: &Store) {
         let (desk, pages) = (store.desk(), store.pages());
         let mut times = [0; PAGES];
-        let firsts = desk.grid.cells.in_use().iter().map(|slot| slot.first);
-        for mut page in firsts.chain([desk.grid.free]) {
+        let firsts = desk.cells_in_use().iter().map(|slot| slot.first);
+        for mut page in firsts.chain([desk.parts.frame.free]) {
             while page != NONE {
                 times[usize::from(page)] += 1;
                 assert_eq!(times[usize::from(page)], 1, "page {page} is once in one chain");
@@ -113,7 +111,7 @@ impl Rule {
             stale[usize::from(radio)] += 1;
         }
         let mut missed = vec![0; RADIOS];
-        for line in desk.memo.in_use() {
+        for line in desk.lines_in_use() {
             missed[usize::from(line.radio)] = usize::from(line.missed);
         }
         assert_eq!(stale, missed, "stale entries are the missed counts");

@@ -32,9 +32,9 @@ fn two_cells() -> (Both, u16) {
     for radio in 1..=40 {
         on(&mut both, radio, 1000 * radio, 100);
     }
-    let grid = &both.store.desk().grid;
-    assert_eq!((grid.cells.n, grid.easts.n), (2, 1));
-    let cut = grid.easts.at[0];
+    let frame = &both.store.desk().parts.frame;
+    assert_eq!((frame.cells, frame.easts.n), (2, 1));
+    let cut = frame.easts.at[0];
     assert_eq!(cut, 21000);
     (both, cut)
 }
@@ -55,7 +55,7 @@ fn nine_radios_over_the_ridge_and_back() {
                 report(&mut both, radio, 15000 + away, 20000 + radio + afternoon);
                 let (low, high) = (between(&mut both, 0, ridge), between(&mut both, ridge, 65535));
                 assert_eq!(low + high, 49, "each radio stands on one side of the ridge");
-                most_lines = most_lines.max(both.store.desk().memo.n);
+                most_lines = most_lines.max(both.store.desk().parts.lines);
             }
             let over = 15000 + 1500 * if step <= 8 { step } else { 16 - step } >= ridge;
             assert_eq!(between(&mut both, ridge, 65535), 20 + if over { 9 } else { 0 });
@@ -66,7 +66,7 @@ fn nine_radios_over_the_ridge_and_back() {
     for _ in 0..200 {
         report(&mut both, 1, 1000, 100);
     }
-    assert_eq!(both.store.desk().memo.n, 0);
+    assert_eq!(both.store.desk().parts.lines, 0);
     assert_eq!(
         (between(&mut both, 0, ridge), between(&mut both, ridge, 65535)),
         (29, 20)
@@ -92,7 +92,7 @@ fn join_around(who: u16, again: Again, when: u16, gap: u16) {
     for _ in 0..32 {
         report(&mut both, 40, 40000, 100);
     }
-    assert_eq!(both.store.desk().grid.cells.n, 2);
+    assert_eq!(both.store.desk().parts.frame.cells, 2);
     let before = both.plain.place(who).expect("who is on");
     let mut joined = false;
     for i in 0..24 {
@@ -113,7 +113,7 @@ fn join_around(who: u16, again: Again, when: u16, gap: u16) {
         }
         let everyone = between(&mut both, 0, 65535);
         assert_eq!(everyone, both.plain.on());
-        joined |= both.store.desk().grid.cells.n == 1;
+        joined |= both.store.desk().parts.frame.cells == 1;
     }
     assert!(
         joined,
@@ -123,7 +123,7 @@ fn join_around(who: u16, again: Again, when: u16, gap: u16) {
         report(&mut both, 40, 40000, i);
         assert_eq!(between(&mut both, 0, 65535), 16);
     }
-    assert_eq!(both.store.desk().memo.n, 0, "nothing stale is left");
+    assert_eq!(both.store.desk().parts.lines, 0, "nothing stale is left");
 }
 
 #[test]

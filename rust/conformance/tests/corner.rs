@@ -43,12 +43,13 @@ fn place_at(pages: &[u8], entry: usize) -> (u16, u16) {
 fn cornered(store: &Store) -> Store {
     let mut made = store.clone();
     let (desk, pages) = made.parts_mut();
-    for report in &mut desk.waiting.rows {
-        if (report.east, report.north) == BROUGHT {
-            (report.east, report.north) = CORNER;
+    let waiting = &mut desk.waiting;
+    for (east, north) in waiting.easts.iter_mut().zip(&mut waiting.norths) {
+        if (*east, *north) == BROUGHT {
+            (*east, *north) = CORNER;
         }
     }
-    for line in &mut desk.memo.rows {
+    for line in &mut desk.memo {
         if (line.east, line.north) == BROUGHT {
             (line.east, line.north) = CORNER;
         }
@@ -62,10 +63,8 @@ fn cornered(store: &Store) -> Store {
 }
 
 fn waiting(store: &Store) -> usize {
-    let rows = store.desk().waiting.in_use();
-    rows.iter()
-        .filter(|report| (report.east, report.north) == CORNER)
-        .count()
+    let reports = store.desk().reports_in_use();
+    reports.filter(|report| (report.east, report.north) == CORNER).count()
 }
 
 fn on_pages(store: &Store) -> usize {
@@ -77,7 +76,7 @@ fn on_pages(store: &Store) -> usize {
 }
 
 fn in_memo(store: &Store) -> usize {
-    let lines = store.desk().memo.in_use();
+    let lines = store.desk().lines_in_use();
     lines
         .iter()
         .filter(|line| line.placed == 1 && (line.east, line.north) == CORNER)
@@ -99,7 +98,7 @@ fn listed(list: impl Iterator<Item = Located>) -> Vec<(u16, (u16, u16))> {
 /// What comes next: a third of the places are (1,1).
 fn next(random: &mut Xorshift, store: &Store) -> Record {
     let radio = random.within(1, 90);
-    let is_on = store.desk().on.in_use().contains(&radio);
+    let is_on = store.desk().radios_on().contains(&radio);
     let (east, north) = if random.once_in(3) {
         BROUGHT
     } else {
@@ -141,7 +140,7 @@ fn a_place_in_the_corner_is_treated_as_any_other() {
             assert!(made.is_sound(), "call {call}: a made store is sound");
             continue;
         }
-        let (waited, stood, cells) = (waiting(&made), on_pages(&made), made.desk().grid.cells.n);
+        let (waited, stood, cells) = (waiting(&made), on_pages(&made), made.desk().parts.frame.cells);
         let same = made.call(&record.to_bytes(), &mut other);
         assert_eq!(
             (same.number(), same.count()),
@@ -164,7 +163,7 @@ fn a_place_in_the_corner_is_treated_as_any_other() {
         seen.in_memo = seen.in_memo.max(in_memo(&made));
         seen.flushed += usize::from(waiting(&made) < waited && on_pages(&made) > stood);
         seen.swept += usize::from(on_pages(&made) < stood);
-        seen.split += usize::from(on_pages(&made) > 0 && made.desk().grid.cells.n > cells);
+        seen.split += usize::from(on_pages(&made) > 0 && made.desk().parts.frame.cells > cells);
         seen.signed_off += usize::from(matches!(record, Record::SignOff { .. }) && waiting(&made) < waited);
         if call % 64 == 0 {
             assert!(made.is_sound(), "call {call}: {record:?}");

@@ -1,8 +1,10 @@
 //! Damaged stores: each clause of a sound store, broken in the desk or in the pages. Every call is then turned down under
 //! number 2 and keeps every byte, and the test alone finds the store unsound.
 #![forbid(unsafe_code)]
-use boragefile::{Desk, Line, Record, Refusal, Report, Slot, Store, NONE, PAGES, PAGE_BYTES};
+use boragefile::{Desk, Line, Record, Refusal, Slot, Store, Waiting, NONE, PAGES, PAGE_BYTES};
 use conformance::{Both, Xorshift};
+use std::collections::BTreeSet;
+use std::mem::offset_of;
 
 const USED: usize = 0;
 const KIND: usize = 1;
@@ -28,20 +30,35 @@ fn entries(pages: &[u8], page: u16) -> usize {
     usize::from((field(pages, page, USED) - 8) / 6)
 }
 
-fn slots(desk: &Desk) -> &[Slot] {
-    desk.grid.cells.in_use()
-}
-
 fn lines(desk: &mut Desk) -> &mut [Line] {
-    &mut desk.memo.rows[..usize::from(desk.memo.n)]
+    &mut desk.memo[..usize::from(desk.parts.lines)]
 }
 
-fn waiting(desk: &mut Desk) -> &mut [Report] {
-    &mut desk.waiting.rows[..usize::from(desk.waiting.n)]
+/// The radios, easts, norths and marks of the waiting reports.
+fn columns(desk: &mut Desk) -> [&mut [u16; 128]; 4] {
+    let Waiting {
+        radios,
+        easts,
+        norths,
+        news,
+    } = &mut desk.waiting;
+    [radios, easts, norths, news]
+}
+
+/// The slot of the first waiting report with this mark.
+fn first_waiting(desk: &Desk, new: u16) -> usize {
+    desk.reports_in_use()
+        .position(|report| report.new == new)
+        .expect("a waiting report")
+}
+
+/// The slot past the waiting reports.
+fn past_waiting(desk: &Desk) -> usize {
+    desk.reports_in_use().len()
 }
 
 fn line_of(desk: &Desk, radio: u16) -> Option<&Line> {
-    desk.memo.in_use().iter().find(|line| line.radio == radio)
+    desk.lines_in_use().iter().find(|line| line.radio == radio)
 }
 
 /// A stored entry, and the place in the round of its cell.
@@ -53,7 +70,7 @@ struct Stored {
 
 fn stored(desk: &Desk, pages: &[u8]) -> Vec<Stored> {
     let mut all = Vec::new();
-    for (round, slot) in slots(desk).iter().enumerate() {
+    for (round, slot) in desk.cells_in_use().iter().enumerate() {
         let mut page = slot.first;
         while page != NONE {
             for i in 0..entries(pages, page) {
@@ -76,7 +93,7 @@ fn is_stale(desk: &Desk, radio: u16, place: (u16, u16)) -> bool {
 
 /// A page of a cell with a page after it.
 fn long(desk: &Desk, pages: &[u8]) -> u16 {
-    let firsts = slots(desk).iter().map(|slot| slot.first);
+    let firsts = desk.cells_in_use().iter().map(|slot| slot.first);
     firsts
         .into_iter()
         .find(|page| field(pages, *page, NEXT) != NONE)
@@ -92,7 +109,7 @@ fn settled(desk: &Desk, pages: &[u8]) -> (Slot, u16) {
             && (slot.west > 0 || slot.east < 65535)
             && (0..n).all(|i| line_of(desk, field(pages, page, entry(i, 0))).is_none())
     };
-    let slot = slots(desk).iter().find(fits).expect("a settled cell");
+    let slot = desk.cells_in_use().iter().find(fits).expect("a settled cell");
     (*slot, slot.first)
 }
 
@@ -122,17 +139,20 @@ fn rich() -> Store {
 
 fn is_rich(store: &Store) -> bool {
     let (desk, pages) = (store.desk(), store.pages());
-    let memo = desk.memo.in_use();
-    let wait = desk.waiting.in_use();
+    let memo = desk.lines_in_use();
+    let wait = desk.reports_in_use();
     let live_lines = memo.iter().filter(|line| line.placed == 1).count();
-    desk.grid.easts.n >= 3
-        && desk.grid.norths.n >= 3
-        && desk.on.n < 400
+    desk.parts.frame.easts.n >= 3
+        && desk.parts.frame.norths.n >= 3
+        && desk.parts.on < 400
         && live_lines >= 2
         && memo.len() >= live_lines + 2
         && wait.len() >= 20
-        && wait.iter().filter(|report| report.new == 1).count() >= 3
-        && slots(desk).iter().any(|slot| field(pages, slot.first, NEXT) != NONE)
+        && wait.filter(|report| report.new == 1).count() >= 3
+        && desk
+            .cells_in_use()
+            .iter()
+            .any(|slot| field(pages, slot.first, NEXT) != NONE)
 }
 
 fn requests() -> Vec<Vec<u8>> {
@@ -213,77 +233,77 @@ fn all_turned_down(damages: &[Change]) {
 #[test]
 fn limits() {
     all_turned_down(&[
-        ("16 east cuts", |desk, _| desk.grid.easts.n = 16),
-        ("very many east cuts", |desk, _| desk.grid.easts.n = u16::MAX),
-        ("16 north cuts", |desk, _| desk.grid.norths.n = 16),
-        ("very many north cuts", |desk, _| desk.grid.norths.n = u16::MAX / 2),
-        ("no cell", |desk, _| desk.grid.cells.n = 0),
-        ("65 cells", |desk, _| desk.grid.cells.n = 65),
-        ("very many cells", |desk, _| desk.grid.cells.n = u16::MAX),
-        ("very many waiting", |desk, _| desk.waiting.n = u16::MAX),
-        ("129 waiting", |desk, _| desk.waiting.n = 129),
-        ("1,152 memo lines", |desk, _| desk.memo.n = 1152),
-        ("very many memo lines", |desk, _| desk.memo.n = u16::MAX),
-        ("513 on", |desk, _| desk.on.n = 513),
-        ("very many on", |desk, _| desk.on.n = u16::MAX),
-        ("radio 0 is on", |desk, _| desk.on.radios[0] = 0),
-        ("radio 4,096 is on", |desk, _| {
-            desk.on.radios[usize::from(desk.on.n) - 1] = 4096
+        ("16 east cuts", |desk, _| desk.parts.frame.easts.n = 16),
+        ("very many east cuts", |desk, _| desk.parts.frame.easts.n = u16::MAX),
+        ("16 north cuts", |desk, _| desk.parts.frame.norths.n = 16),
+        ("very many north cuts", |desk, _| {
+            desk.parts.frame.norths.n = u16::MAX / 2
         }),
-        ("radio 0 waits", |desk, _| waiting(desk)[0].radio = 0),
+        ("no cell", |desk, _| desk.parts.frame.cells = 0),
+        ("65 cells", |desk, _| desk.parts.frame.cells = 65),
+        ("very many cells", |desk, _| desk.parts.frame.cells = u16::MAX),
+        ("very many waiting", |desk, _| desk.parts.waiting = u16::MAX),
+        ("129 waiting", |desk, _| desk.parts.waiting = 129),
+        ("1,152 memo lines", |desk, _| desk.parts.lines = 1152),
+        ("very many memo lines", |desk, _| desk.parts.lines = u16::MAX),
+        ("513 on", |desk, _| desk.parts.on = 513),
+        ("very many on", |desk, _| desk.parts.on = u16::MAX),
+        ("radio 0 is on", |desk, _| desk.on[0] = 0),
+        ("radio 4,096 is on", |desk, _| {
+            desk.on[usize::from(desk.parts.on) - 1] = 4096
+        }),
+        ("radio 0 waits", |desk, _| desk.waiting.radios[0] = 0),
         ("radio 0 has a line", |desk, _| lines(desk)[0].radio = 0),
         ("an entry of radio 0", |desk, pages| {
             let (_, page) = settled(desk, pages);
             set(pages, page, entry(0, 0), 0);
         }),
         ("cell number 64", |desk, pages| {
-            desk.grid.cells.slots[0].number = 64;
-            let mut page = desk.grid.cells.slots[0].first;
+            desk.cells[0].number = 64;
+            let mut page = desk.cells[0].first;
             while page != NONE {
                 set(pages, page, CELL, 64);
                 page = field(pages, page, NEXT);
             }
         }),
-        ("tally 16", |desk, _| desk.tally = 16),
-        ("tally 65,535", |desk, _| desk.tally = 65535),
+        ("tally 16", |desk, _| desk.parts.tally = 16),
+        ("tally 65,535", |desk, _| desk.parts.tally = 65535),
     ]);
 }
 
 #[test]
 fn cuts_and_cells() {
     all_turned_down(&[
-        ("cut at 0", |desk, _| desk.grid.easts.at[0] = 0),
-        ("equal cuts", |desk, _| desk.grid.easts.at[1] = desk.grid.easts.at[0]),
-        ("falling cuts", |desk, _| desk.grid.norths.at.swap(0, 1)),
+        ("cut at 0", |desk, _| desk.parts.frame.easts.at[0] = 0),
+        ("equal cuts", |desk, _| {
+            desk.parts.frame.easts.at[1] = desk.parts.frame.easts.at[0]
+        }),
+        ("falling cuts", |desk, _| desk.parts.frame.norths.at.swap(0, 1)),
         ("a cut that cells need is gone", |desk, _| {
-            desk.grid.easts.at.copy_within(1.., 0);
-            desk.grid.easts.at[14] = 0;
-            desk.grid.easts.n -= 1;
+            desk.parts.frame.easts.at.copy_within(1.., 0);
+            desk.parts.frame.easts.at[14] = 0;
+            desk.parts.frame.easts.n -= 1;
         }),
         ("a cell is missing", |desk, _| {
-            desk.grid.cells.n -= 1;
-            desk.grid.cells.slots[usize::from(desk.grid.cells.n)] = Slot::default();
+            desk.parts.frame.cells -= 1;
+            desk.cells[usize::from(desk.parts.frame.cells)] = Slot::default();
         }),
-        ("a cell twice in the round", |desk, _| {
-            desk.grid.cells.slots[1] = desk.grid.cells.slots[0]
-        }),
-        ("a number twice", |desk, _| {
-            desk.grid.cells.slots[1].number = desk.grid.cells.slots[0].number
-        }),
+        ("a cell twice in the round", |desk, _| desk.cells[1] = desk.cells[0]),
+        ("a number twice", |desk, _| desk.cells[1].number = desk.cells[0].number),
         ("two numbers exchanged", |desk, _| {
-            let number = desk.grid.cells.slots[0].number;
-            desk.grid.cells.slots[0].number = desk.grid.cells.slots[1].number;
-            desk.grid.cells.slots[1].number = number;
+            let number = desk.cells[0].number;
+            desk.cells[0].number = desk.cells[1].number;
+            desk.cells[1].number = number;
         }),
-        ("an empty slot counts", |desk, _| desk.grid.cells.n += 1),
+        ("an empty slot counts", |desk, _| desk.parts.frame.cells += 1),
         ("a cell goes too far", |desk, _| {
-            let n = usize::from(desk.grid.cells.n);
-            let slot = desk.grid.cells.slots[..n].iter_mut().find(|slot| slot.east < 65535);
+            let n = usize::from(desk.parts.frame.cells);
+            let slot = desk.cells[..n].iter_mut().find(|slot| slot.east < 65535);
             slot.expect("a cell with a neighbour").east += 1;
         }),
         ("an edge that is no cut", |desk, _| {
-            let n = usize::from(desk.grid.cells.n);
-            let slots = &mut desk.grid.cells.slots[..n];
+            let n = usize::from(desk.parts.frame.cells);
+            let slots = &mut desk.cells[..n];
             for i in 0..n * n {
                 let (a, b) = (slots[i / n], slots[i % n]);
                 if a.east < 65535 && a.east + 1 == b.west && (a.south, a.north) == (b.south, b.north) {
@@ -294,7 +314,7 @@ fn cuts_and_cells() {
             }
         }),
         ("west above east", |desk, _| {
-            let slot = &mut desk.grid.cells.slots[0];
+            let slot = &mut desk.cells[0];
             std::mem::swap(&mut slot.west, &mut slot.east);
         }),
     ]);
@@ -304,30 +324,32 @@ fn cuts_and_cells() {
 fn chains() {
     all_turned_down(&[
         ("a cell on another's page", |desk, _| {
-            desk.grid.cells.slots[0].first = desk.grid.cells.slots[1].first
+            desk.cells[0].first = desk.cells[1].first
         }),
         ("a cell on a free page", |desk, _| {
-            desk.grid.cells.slots[0].first = desk.grid.free
+            desk.cells[0].first = desk.parts.frame.free
         }),
-        ("a cell on page 128", |desk, _| desk.grid.cells.slots[0].first = 128),
-        ("a cell on no page", |desk, _| desk.grid.cells.slots[0].first = NONE),
+        ("a cell on page 128", |desk, _| desk.cells[0].first = 128),
+        ("a cell on no page", |desk, _| desk.cells[0].first = NONE),
         ("the free chain begins at a cell's page", |desk, _| {
-            desk.grid.free = desk.grid.cells.slots[0].first
+            desk.parts.frame.free = desk.cells[0].first
         }),
         ("a free page is lost", |desk, pages| {
-            desk.grid.free = field(pages, desk.grid.free, NEXT)
+            desk.parts.frame.free = field(pages, desk.parts.frame.free, NEXT)
         }),
-        ("no free page", |desk, _| desk.grid.free = NONE),
-        ("the free chain begins at page 128", |desk, _| desk.grid.free = 128),
+        ("no free page", |desk, _| desk.parts.frame.free = NONE),
+        ("the free chain begins at page 128", |desk, _| {
+            desk.parts.frame.free = 128
+        }),
         ("the free chain turns back", |desk, pages| {
-            let second = field(pages, desk.grid.free, NEXT);
-            set(pages, second, NEXT, desk.grid.free);
+            let second = field(pages, desk.parts.frame.free, NEXT);
+            set(pages, second, NEXT, desk.parts.frame.free);
         }),
         ("the free chain ends early", |desk, pages| {
-            set(pages, desk.grid.free, NEXT, NONE)
+            set(pages, desk.parts.frame.free, NEXT, NONE)
         }),
         ("the free chain goes on at page 128", |desk, pages| {
-            set(pages, desk.grid.free, NEXT, 128)
+            set(pages, desk.parts.frame.free, NEXT, 128)
         }),
         ("a cell's chain ends early", |desk, pages| {
             set(pages, long(desk, pages), NEXT, NONE)
@@ -338,7 +360,7 @@ fn chains() {
         }),
         ("a cell's chain goes on in the free chain", |desk, pages| {
             let (_, page) = settled(desk, pages);
-            set(pages, page, NEXT, desk.grid.free);
+            set(pages, page, NEXT, desk.parts.frame.free);
         }),
     ]);
 }
@@ -347,23 +369,23 @@ fn chains() {
 fn layout_of_pages() {
     all_turned_down(&[
         ("a free page with an entry", |desk, pages| {
-            set(pages, desk.grid.free, USED, 14);
-            set(pages, desk.grid.free, entry(0, 0), 4000);
+            set(pages, desk.parts.frame.free, USED, 14);
+            set(pages, desk.parts.frame.free, entry(0, 0), 4000);
         }),
         ("a free page of another kind", |desk, pages| {
-            set(pages, desk.grid.free, KIND, 3)
+            set(pages, desk.parts.frame.free, KIND, 3)
         }),
         ("a free page of a cell", |desk, pages| {
-            set(pages, desk.grid.free, CELL, 0)
+            set(pages, desk.parts.frame.free, CELL, 0)
         }),
         ("a free page with a byte in it", |desk, pages| {
-            set(pages, desk.grid.free, 99, 256)
+            set(pages, desk.parts.frame.free, 99, 256)
         }),
         ("a first page of kind 3", |desk, pages| {
-            set(pages, desk.grid.cells.slots[0].first, KIND, 3)
+            set(pages, desk.cells[0].first, KIND, 3)
         }),
         ("a first page of kind 0", |desk, pages| {
-            set(pages, desk.grid.cells.slots[0].first, KIND, 0)
+            set(pages, desk.cells[0].first, KIND, 0)
         }),
         ("a further page of kind 2", |desk, pages| {
             let further = field(pages, long(desk, pages), NEXT);
@@ -375,8 +397,8 @@ fn layout_of_pages() {
         }),
         ("a further page without an entry", |desk, pages| {
             let (slot, page) = settled(desk, pages);
-            let taken = desk.grid.free;
-            desk.grid.free = field(pages, taken, NEXT);
+            let taken = desk.parts.frame.free;
+            desk.parts.frame.free = field(pages, taken, NEXT);
             set(pages, page, NEXT, taken);
             set(pages, taken, KIND, 3);
             set(pages, taken, NEXT, NONE);
@@ -394,13 +416,13 @@ fn layout_of_pages() {
             set(pages, page, USED, field(pages, page, USED) - 1);
         }),
         ("used bytes below 8", |desk, pages| {
-            set(pages, desk.grid.cells.slots[0].first, USED, 7)
+            set(pages, desk.cells[0].first, USED, 7)
         }),
         ("used bytes past the page", |desk, pages| {
-            set(pages, desk.grid.cells.slots[0].first, USED, 206)
+            set(pages, desk.cells[0].first, USED, 206)
         }),
         ("very many used bytes", |desk, pages| {
-            set(pages, desk.grid.cells.slots[0].first, USED, 65535)
+            set(pages, desk.cells[0].first, USED, 65535)
         }),
         ("a byte after the entries", |desk, pages| {
             let (_, page) = settled(desk, pages);
@@ -429,53 +451,37 @@ fn layout_of_pages() {
 
 /// Takes a radio off the list of those on, and nothing else.
 fn forget(desk: &mut Desk, radio: u16) {
-    let at = desk
-        .on
-        .radios
-        .iter()
-        .position(|other| *other == radio)
-        .expect("a radio on");
-    desk.on.radios.copy_within(at + 1.., at);
-    desk.on.radios[511] = 0;
-    desk.on.n -= 1;
-}
-
-fn first_waiting(desk: &Desk, new: u16) -> Report {
-    *desk
-        .waiting
-        .in_use()
-        .iter()
-        .find(|report| report.new == new)
-        .expect("a waiting report")
+    let at = desk.on.iter().position(|other| *other == radio).expect("a radio on");
+    desk.on.copy_within(at + 1.., at);
+    desk.on[511] = 0;
+    desk.parts.on -= 1;
 }
 
 #[test]
 fn who_is_on() {
     all_turned_down(&[
         ("a radio on that is nowhere", |desk, _| {
-            desk.on.radios[usize::from(desk.on.n)] = 4000;
-            desk.on.n += 1;
+            desk.on[usize::from(desk.parts.on)] = 4000;
+            desk.parts.on += 1;
         }),
         ("a radio off with an entry", |desk, pages| {
             let (_, page) = settled(desk, pages);
             forget(desk, field(pages, page, entry(0, 0)));
         }),
         ("a radio off with a new report", |desk, _| {
-            forget(desk, first_waiting(desk, 1).radio)
+            forget(desk, desk.waiting.radios[first_waiting(desk, 1)])
         }),
         ("a radio off with a report", |desk, _| {
-            forget(desk, first_waiting(desk, 0).radio)
+            forget(desk, desk.waiting.radios[first_waiting(desk, 0)])
         }),
-        ("a radio on twice", |desk, _| desk.on.radios[1] = desk.on.radios[0]),
-        ("radios on that fall", |desk, _| desk.on.radios.swap(0, 1)),
-        ("a radio on past the count", |desk, _| desk.on.radios[511] = 1),
+        ("a radio on twice", |desk, _| desk.on[1] = desk.on[0]),
+        ("radios on that fall", |desk, _| desk.on.swap(0, 1)),
+        ("a radio on past the count", |desk, _| desk.on[511] = 1),
         ("an entry and a new report", |desk, _| {
-            let report = waiting(desk).iter_mut().find(|report| report.new == 0);
-            report.expect("a waiting report").new = 1;
+            desk.waiting.news[first_waiting(desk, 0)] = 1;
         }),
         ("neither an entry nor a new report", |desk, _| {
-            let report = waiting(desk).iter_mut().find(|report| report.new == 1);
-            report.expect("a waiting report").new = 0;
+            desk.waiting.news[first_waiting(desk, 1)] = 0;
         }),
         ("an entry is gone", |desk, pages| {
             let (_, page) = settled(desk, pages);
@@ -499,18 +505,18 @@ fn memo_lines() {
             lines(desk)[1].radio = lines(desk)[0].radio
         }),
         ("a line is gone", |desk, _| {
-            desk.memo.n -= 1;
-            desk.memo.rows[usize::from(desk.memo.n)] = Line::default();
+            desk.parts.lines -= 1;
+            desk.memo[usize::from(desk.parts.lines)] = Line::default();
         }),
         ("a line for nothing", |desk, _| {
-            desk.memo.rows[usize::from(desk.memo.n)] = Line {
+            desk.memo[usize::from(desk.parts.lines)] = Line {
                 radio: 4095,
                 missed: 1,
                 placed: 0,
                 east: 0,
                 north: 0,
             };
-            desk.memo.n += 1;
+            desk.parts.lines += 1;
         }),
         ("a line with another place", |desk, _| {
             let line = lines(desk)
@@ -546,34 +552,40 @@ fn memo_lines() {
                 .expect("a line without a place")
                 .north = 1;
         }),
-        ("a line past the count", |desk, _| desk.memo.rows[1150].east = 1),
+        ("a line past the count", |desk, _| desk.memo[1150].east = 1),
     ]);
 }
 
 #[test]
 fn waiting_reports() {
     all_turned_down(&[
-        ("reports that fall", |desk, _| waiting(desk).swap(0, 1)),
-        ("a radio with two reports", |desk, _| {
-            waiting(desk)[1].radio = waiting(desk)[0].radio
-        }),
-        ("eight in a memory cell", |desk, _| {
-            for report in &mut waiting(desk)[..8] {
-                (report.east, report.north) = (1, 1);
+        ("reports that fall", |desk, _| {
+            for column in columns(desk) {
+                column.swap(0, 1);
             }
         }),
-        ("a mark that is neither 0 nor 1", |desk, _| waiting(desk)[0].new = 2),
-        ("a report past the count", |desk, _| desk.waiting.rows[127].radio = 4095),
-        ("an empty row counts", |desk, _| desk.waiting.n += 1),
+        ("radios that fall", |desk, _| desk.waiting.radios.swap(0, 1)),
+        ("a radio with two reports", |desk, _| {
+            desk.waiting.radios[1] = desk.waiting.radios[0]
+        }),
+        ("eight in a memory cell", |desk, _| {
+            desk.waiting.easts[..8].fill(1);
+            desk.waiting.norths[..8].fill(1);
+        }),
+        ("a mark that is neither 0 nor 1", |desk, _| desk.waiting.news[0] = 2),
+        ("a report past the count", |desk, _| desk.waiting.radios[127] = 4095),
+        ("a whole report past the count", |desk, _| {
+            desk.waiting.put_report(past_waiting(desk), desk.waiting.report_at(0))
+        }),
+        ("an empty slot counts", |desk, _| desk.parts.waiting += 1),
         ("a new report is gone", |desk, _| {
-            let n = usize::from(desk.waiting.n);
-            let at = waiting(desk)
-                .iter()
-                .position(|report| report.new == 1)
-                .expect("a new report");
-            desk.waiting.rows.copy_within(at + 1.., at);
-            desk.waiting.rows[n - 1] = Report::default();
-            desk.waiting.n -= 1;
+            let at = first_waiting(desk, 1);
+            let last = past_waiting(desk) - 1;
+            for column in columns(desk) {
+                column.copy_within(at + 1.., at);
+                column[last] = 0;
+            }
+            desk.parts.waiting -= 1;
         }),
     ]);
 }
@@ -581,10 +593,77 @@ fn waiting_reports() {
 #[test]
 fn slots_past_the_count_are_zero() {
     all_turned_down(&[
-        ("an east cut past the count", |desk, _| desk.grid.easts.at[14] = 65535),
-        ("a north cut past the count", |desk, _| desk.grid.norths.at[14] = 65535),
-        ("a cell past the count", |desk, _| desk.grid.cells.slots[63].north = 1),
+        ("an east cut past the count", |desk, _| {
+            desk.parts.frame.easts.at[14] = 65535
+        }),
+        ("a north cut past the count", |desk, _| {
+            desk.parts.frame.norths.at[14] = 65535
+        }),
+        ("a cell past the count", |desk, _| desk.cells[63].north = 1),
+        ("the radio of a report past the count", |desk, _| {
+            desk.waiting.radios[past_waiting(desk)] = 4095
+        }),
+        ("the east of a report past the count", |desk, _| {
+            desk.waiting.easts[past_waiting(desk)] = 1
+        }),
+        ("the north of a report past the count", |desk, _| {
+            desk.waiting.norths[past_waiting(desk)] = 1
+        }),
+        ("the mark of a report past the count", |desk, _| {
+            desk.waiting.news[past_waiting(desk)] = 1
+        }),
+        ("the east of the last slot", |desk, _| desk.waiting.easts[127] = 65535),
+        ("the north of the last slot", |desk, _| desk.waiting.norths[127] = 65535),
+        ("the mark of the last slot", |desk, _| desk.waiting.news[127] = 65535),
     ]);
+}
+
+/// The places in the desk of those of its 7,201 numbers that are past a count.
+fn past_the_counts(desk: &Desk) -> BTreeSet<usize> {
+    let (parts, frame) = (&desk.parts, &desk.parts.frame);
+    // where an array begins in the desk, in bytes; its slots; how many are in use; the numbers of a slot
+    let arrays = [
+        (offset_of!(Desk, parts.frame.easts.at), 15, frame.easts.n, 1),
+        (offset_of!(Desk, parts.frame.norths.at), 15, frame.norths.n, 1),
+        (offset_of!(Desk, cells), 64, frame.cells, 6),
+        (offset_of!(Desk, waiting.radios), 128, parts.waiting, 1),
+        (offset_of!(Desk, waiting.easts), 128, parts.waiting, 1),
+        (offset_of!(Desk, waiting.norths), 128, parts.waiting, 1),
+        (offset_of!(Desk, waiting.news), 128, parts.waiting, 1),
+        (offset_of!(Desk, memo), 1151, parts.lines, 5),
+        (offset_of!(Desk, on), 512, parts.on, 1),
+    ];
+    let past = |(at, slots, n, fields)| at / 2 + fields * usize::from(n)..at / 2 + fields * slots;
+    arrays.into_iter().flat_map(past).collect()
+}
+
+/// The store with other numbers at these places of the desk.
+fn with_numbers(store: &Store, numbers: &[(usize, u16)]) -> Store {
+    let mut bytes = store.desk().as_bytes().to_vec();
+    for (at, number) in numbers {
+        bytes[2 * at..2 * at + 2].copy_from_slice(&number.to_ne_bytes());
+    }
+    let mut other = store.clone();
+    *other.parts_mut().0 = Desk::from_bytes(&bytes).expect("a desk's bytes");
+    other
+}
+
+#[test]
+fn every_number_past_a_count_is_looked_at() {
+    let store = rich();
+    let past = past_the_counts(store.desk());
+    assert!(!is_turned_down(&store) && past.len() > 4_000);
+    for at in &past {
+        assert!(with_numbers(&store, &[(*at, 0)]) == store, "number {at} is zero");
+        assert!(is_turned_down(&with_numbers(&store, &[(*at, 1)])), "number {at}");
+        // two that are zero when they are added in 16 bits: beside each other, and in the same slot of two columns
+        for other in [at + 1, at + 128] {
+            if past.contains(&other) {
+                let both = with_numbers(&store, &[(*at, 1), (other, 65535)]);
+                assert!(!both.is_sound(), "numbers {at} and {other}");
+            }
+        }
+    }
 }
 
 /// What no run makes may still be sound: number 2 asks for no more than the clauses.
@@ -593,14 +672,12 @@ fn sound_stores_that_no_run_makes() {
     let store = rich();
     let changes: [Change; 3] = [
         ("a cut that no cell needs", |desk, _| {
-            let last = usize::from(desk.grid.easts.n);
-            assert!(last < 15 && desk.grid.easts.at[last - 1] < 65535);
-            desk.grid.easts.at[last] = 65535;
-            desk.grid.easts.n += 1;
+            let last = usize::from(desk.parts.frame.easts.n);
+            assert!(last < 15 && desk.parts.frame.easts.at[last - 1] < 65535);
+            desk.parts.frame.easts.at[last] = 65535;
+            desk.parts.frame.easts.n += 1;
         }),
-        ("two cells exchanged in the round", |desk, _| {
-            desk.grid.cells.slots.swap(0, 1)
-        }),
+        ("two cells exchanged in the round", |desk, _| desk.cells.swap(0, 1)),
         ("a radio off whose line has a place", |desk, _| {
             let line = lines(desk)
                 .iter_mut()
@@ -616,12 +693,12 @@ fn sound_stores_that_no_run_makes() {
 
 /// For every k the stale entries in cells at place k and later, plus all waiting, are at most 16 × (63 − k) + c + 127.
 fn within_bound(desk: &Desk, pages: &[u8]) -> bool {
-    let mut stale = vec![0; desk.grid.cells.in_use().len()];
+    let mut stale = vec![0; desk.cells_in_use().len()];
     for entry in stored(desk, pages) {
         stale[entry.round] += usize::from(is_stale(desk, entry.radio, entry.place));
     }
-    let tail = |k: usize| stale[k..].iter().sum::<usize>() + desk.waiting.in_use().len();
-    (0..stale.len()).all(|k| tail(k) <= 16 * (63 - k) + usize::from(desk.tally) + 127)
+    let tail = |k: usize| stale[k..].iter().sum::<usize>() + desk.reports_in_use().len();
+    (0..stale.len()).all(|k| tail(k) <= 16 * (63 - k) + usize::from(desk.parts.tally) + 127)
 }
 
 #[test]
@@ -635,7 +712,7 @@ fn stale_entries_late_in_the_round() {
         // A crowd that crosses the square makes 64 cells; then everyone reports from anywhere.
         let way = both.calls() % 40_000;
         let along = (3 * way.min(40_000 - way)) as u16;
-        spread = if both.store.desk().grid.cells.n == 64 {
+        spread = if both.store.desk().parts.frame.cells == 64 {
             600
         } else {
             usize::saturating_sub(spread, 1)
@@ -648,13 +725,13 @@ fn stale_entries_late_in_the_round() {
             Some(_) => Record::Report { radio, east, north },
         });
         let desk = both.store.desk();
-        if desk.grid.cells.n < 64 || desk.waiting.n < 124 {
+        if desk.parts.frame.cells < 64 || desk.parts.waiting < 124 {
             continue;
         }
         assert!(within_bound(desk, both.store.pages()));
         for place in 0..64 {
             let mut moved = both.store.clone();
-            moved.parts_mut().0.grid.cells.slots[place..].rotate_left(1);
+            moved.parts_mut().0.cells[place..].rotate_left(1);
             let sound = within_bound(moved.desk(), moved.pages());
             assert_eq!(
                 is_turned_down(&moved),
@@ -685,15 +762,15 @@ fn stores_in_any_condition() {
             };
             let (page, at) = (random.within(0, PAGES as u16 - 1), random.below(PAGE_BYTES / 2));
             match random.below(12) {
-                0 => desk.grid.easts.at[random.below(15)] = value,
-                1 => desk.grid.norths.n = value,
-                2 => desk.grid.cells.slots[random.below(64)].first = value,
-                3 => desk.grid.cells.slots[random.below(64)].north = value,
-                4 => desk.grid.free = value,
-                5 => desk.waiting.rows[random.below(128)].east = value,
-                6 => desk.memo.rows[random.below(40)].missed = value,
-                7 => desk.on.radios[random.below(512)] = value,
-                8 => desk.tally = value,
+                0 => desk.parts.frame.easts.at[random.below(15)] = value,
+                1 => desk.parts.frame.norths.n = value,
+                2 => desk.cells[random.below(64)].first = value,
+                3 => desk.cells[random.below(64)].north = value,
+                4 => desk.parts.frame.free = value,
+                5 => columns(desk)[random.below(4)][random.below(128)] = value,
+                6 => desk.memo[random.below(40)].missed = value,
+                7 => desk.on[random.below(512)] = value,
+                8 => desk.parts.tally = value,
                 _ => set(pages, page, at, value),
             }
         }

@@ -70,29 +70,24 @@ impl Run {
 
     /// The guest signs on, or off again before it is flushed: the round moves on by the tally alone.
     fn quiet(&mut self, place: Place) {
-        let waiting = self.both.store.desk().waiting.n;
+        let waiting = self.both.store.desk().parts.waiting;
         let (radio, (east, north)) = (GUEST, place);
         if self.both.plain.place(radio).is_some() {
             self.record(Record::SignOff { radio });
-            assert_eq!(self.both.store.desk().waiting.n, waiting - 1);
+            assert_eq!(self.both.store.desk().parts.waiting, waiting - 1);
         } else {
             self.record(Record::SignOn { radio, east, north });
-            assert_eq!(self.both.store.desk().waiting.n, waiting + 1, "nothing is flushed");
+            assert_eq!(self.both.store.desk().parts.waiting, waiting + 1, "nothing is flushed");
         }
     }
 
     fn round(&self) -> &[Slot] {
-        self.both.store.desk().grid.cells.in_use()
+        self.both.store.desk().cells_in_use()
     }
 
     fn waits(&self, radio: u16) -> bool {
-        self.both
-            .store
-            .desk()
-            .waiting
-            .in_use()
-            .iter()
-            .any(|report| report.radio == radio)
+        let mut reports = self.both.store.desk().reports_in_use();
+        reports.any(|report| report.radio == radio)
     }
 
     /// A radio on that does not wait and whose place lies in the cell: its entry there isn't stale.
@@ -119,7 +114,7 @@ fn with_all_cells(seed: u64) -> (Run, Place) {
         let (radio, (east, north)) = (GUEST, place);
         let mut tried = run.both.store.clone();
         let answer = tried.call(&Record::SignOn { radio, east, north }.to_bytes(), &mut []);
-        if answer.is_accepted() && tried.desk().waiting.n > desk.waiting.n {
+        if answer.is_accepted() && tried.desk().parts.waiting > desk.parts.waiting {
             return (run, place);
         }
     }
@@ -130,7 +125,7 @@ fn with_all_cells(seed: u64) -> (Run, Place) {
 fn become_stale(run: &mut Run, place: Place) -> Entry {
     let (cell, entry) = loop {
         let front = run.round()[0];
-        match (run.both.store.desk().tally, run.lives_in(front)) {
+        match (run.both.store.desk().parts.tally, run.lives_in(front)) {
             (15, Some(entry)) => break (front, entry),
             _ => run.quiet(place),
         }
@@ -139,7 +134,7 @@ fn become_stale(run: &mut Run, place: Place) -> Entry {
     run.quiet(place);
     run.record(Record::SignOff { radio: entry.0 });
     assert_eq!(run.age(entry), Some(0), "{entry:?} is stale");
-    assert_eq!((run.round().len(), run.both.store.desk().tally), (CELLS, 1));
+    assert_eq!((run.round().len(), run.both.store.desk().parts.tally), (CELLS, 1));
     assert_eq!(
         run.round()[CELLS - 1].number,
         cell.number,

@@ -83,16 +83,14 @@ fn a_page_buffer_of_another_size_is_turned_down() {
 fn a_fresh_store_is_made_whatever_was_there() {
     let fresh = Store::fresh();
     let mut desk = Desk::blank();
-    desk.grid.easts.n = u16::MAX;
-    desk.on.radios = [65535; 512];
+    desk.parts.frame.easts.n = u16::MAX;
+    desk.on = [65535; 512];
     let mut pages = vec![0xff; PAGES_BYTES];
     assert_eq!(numbers(begin(&mut desk, &mut pages)), ACCEPTED);
     assert!(desk == *fresh.desk() && pages == fresh.pages());
     assert!(is_sound(&desk, &pages));
-    assert_eq!(
-        (desk.grid.easts.n, desk.grid.norths.n, desk.grid.cells.n, desk.grid.free),
-        (0, 0, 1, 1)
-    );
+    let frame = &desk.parts.frame;
+    assert_eq!((frame.easts.n, frame.norths.n, frame.cells, frame.free), (0, 0, 1, 1));
 }
 
 #[test]
@@ -182,9 +180,9 @@ fn thirty_three(place: impl Fn(u16) -> (u16, u16)) -> Both {
 #[test]
 fn thirty_three_entries_with_distinct_easts_are_cut_into_16_and_17() {
     let both = thirty_three(|radio| (radio * 10, 0));
-    let grid = &both.store.desk().grid;
-    assert_eq!((grid.easts.n, grid.norths.n, grid.cells.n), (1, 0, 2));
-    assert_eq!(grid.easts.at[0], 240);
+    let frame = &both.store.desk().parts.frame;
+    assert_eq!((frame.easts.n, frame.norths.n, frame.cells), (1, 0, 2));
+    assert_eq!(frame.easts.at[0], 240);
     let pages = both.store.pages();
     assert_eq!(pages[..8], [8 + 6 * 16, 0, 2, 0, 255, 255, 0, 0]);
     assert_eq!(pages[200..208], [8 + 6 * 17, 0, 2, 0, 255, 255, 1, 0]);
@@ -193,8 +191,8 @@ fn thirty_three_entries_with_distinct_easts_are_cut_into_16_and_17() {
 #[test]
 fn thirty_three_entries_at_one_place_take_two_pages_and_no_cut() {
     let both = thirty_three(|_| (500, 500));
-    let grid = &both.store.desk().grid;
-    assert_eq!((grid.easts.n, grid.norths.n, grid.cells.n, grid.free), (0, 0, 1, 2));
+    let frame = &both.store.desk().parts.frame;
+    assert_eq!((frame.easts.n, frame.norths.n, frame.cells, frame.free), (0, 0, 1, 2));
     let pages = both.store.pages();
     assert_eq!(pages[..8], [200, 0, 2, 0, 1, 0, 0, 0]);
     assert_eq!(pages[200..208], [8 + 6, 0, 3, 0, 255, 255, 0, 0]);
@@ -206,11 +204,11 @@ fn seven_wait_and_the_eighth_flushes() {
     let fresh = both.store.clone();
     for radio in 1..=7 {
         both.record(on(radio, 100 * radio, 100));
-        assert_eq!(both.store.desk().waiting.n, radio);
+        assert_eq!(both.store.desk().parts.waiting, radio);
         assert!(both.store.pages() == fresh.pages());
     }
     both.record(on(8, 800, 100));
-    assert_eq!(both.store.desk().waiting.n, 0);
+    assert_eq!(both.store.desk().parts.waiting, 0);
     assert_eq!(both.store.pages()[0], 8 + 6 * 8);
 }
 
@@ -240,6 +238,6 @@ fn what_stands_after_the_record_does_not_count() {
 fn a_desk_that_lists_an_older_place_is_told_apart() {
     let mut both = Both::fresh();
     both.record(on(7, 100, 200));
-    both.store.parts_mut().0.waiting.rows[0].east = 101;
+    both.store.parts_mut().0.waiting.easts[0] = 101;
     both.record(range(0, 65535, 0, 65535));
 }

@@ -29,16 +29,17 @@ fn run(name: &str, seed: u64, mut next: impl FnMut(&mut Xorshift, &Both) -> (Vec
     let mut seen = Seen::default();
     while both.calls() < CALLS {
         let (bytes, room) = next(&mut random, &both);
-        let (cells, waiting) = (both.store.desk().grid.cells.n, both.store.desk().waiting.n);
+        let before = &both.store.desk().parts;
+        let (cells, waiting) = (before.frame.cells, before.waiting);
         let told = both.call(&bytes, room);
-        let desk = both.store.desk();
+        let parts = &both.store.desk().parts;
         seen.answers[usize::from(told.number)] += 1;
         seen.found += if told.number == 0 { told.count } else { 0 };
-        seen.flushes += usize::from(desk.waiting.n + 1 < waiting);
-        seen.splits += usize::from(desk.grid.cells.n > cells);
-        seen.joins += usize::from(desk.grid.cells.n < cells);
-        seen.most_cells = seen.most_cells.max(desk.grid.cells.n);
-        seen.most_lines = seen.most_lines.max(desk.memo.n);
+        seen.flushes += usize::from(parts.waiting + 1 < waiting);
+        seen.splits += usize::from(parts.frame.cells > cells);
+        seen.joins += usize::from(parts.frame.cells < cells);
+        seen.most_cells = seen.most_cells.max(parts.frame.cells);
+        seen.most_lines = seen.most_lines.max(parts.lines);
     }
     println!("{name}: {CALLS} calls agree: {seen:?}");
     assert_eq!(seen.answers[2], 0, "{name}: a run's store stays sound");
@@ -58,7 +59,7 @@ fn sends(random: &mut Xorshift, both: &Both, radio: u16, place: (u16, u16), off_
 
 /// One of the radios on, with its latest place.
 fn one_on(random: &mut Xorshift, both: &Both) -> Option<(u16, (u16, u16))> {
-    let on = both.store.desk().on.in_use();
+    let on = both.store.desk().radios_on();
     if on.is_empty() {
         return None;
     }

@@ -92,9 +92,9 @@ fn squares_at_random_cuts_add_up_to_the_radios_on() {
             assert_eq!(both.record(record).number, 0);
             if i % GRID_EVERY == 0 {
                 let (easts, norths): (Vec<u16>, Vec<u16>) = both.plain.latest().map(|(_, place)| place).unzip();
-                let grid = &both.store.desk().grid;
-                let easts = stripes(cuts(&mut random, &easts, &grid.easts));
-                let norths = stripes(cuts(&mut random, &norths, &grid.norths));
+                let frame = &both.store.desk().parts.frame;
+                let easts = stripes(cuts(&mut random, &easts, &frame.easts));
+                let norths = stripes(cuts(&mut random, &norths, &frame.norths));
                 let sum = added_up(&mut both, &easts, &norths);
                 assert_eq!(
                     sum,
@@ -103,7 +103,7 @@ fn squares_at_random_cuts_add_up_to_the_radios_on() {
                 );
             }
         }
-        most_cells = most_cells.max(both.store.desk().grid.cells.n);
+        most_cells = most_cells.max(both.store.desk().parts.frame.cells);
     }
     assert!(most_cells > 15, "some of the stores have many cells: {most_cells}");
 }
@@ -142,7 +142,8 @@ fn a_party_on_each_kind_of_line_is_in_one_square() {
             }
         }
     }
-    assert!(both.store.desk().grid.cells.n > 1 && both.store.desk().waiting.n > 0);
+    let parts = &both.store.desk().parts;
+    assert!(parts.frame.cells > 1 && parts.waiting > 0);
 }
 
 #[test]

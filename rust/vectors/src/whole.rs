@@ -6,13 +6,13 @@ use std::collections::BTreeMap;
 /// Desk and pages in the journals' form.
 pub fn whole(store: &Store) -> Json {
     let desk = store.desk();
-    let cells = desk.grid.cells.in_use().iter().map(|slot| cell(store, slot)).collect();
-    let waiting = desk.waiting.in_use().iter().map(|report| {
+    let cells = desk.cells_in_use().iter().map(|slot| cell(store, slot)).collect();
+    let waiting = desk.reports_in_use().map(|report| {
         let mut row = places(&[report.radio, report.east, report.north]);
         row.push(Json::Bool(report.new == 1));
         Json::List(row)
     });
-    let memo = desk.memo.in_use().iter().map(|line| {
+    let memo = desk.lines_in_use().iter().map(|line| {
         let mut row = places(&[line.radio, line.missed]);
         row.push(if line.placed == 1 {
             Json::List(places(&[line.east, line.north]))
@@ -22,14 +22,14 @@ pub fn whole(store: &Store) -> Json {
         Json::List(row)
     });
     object([
-        ("east_cuts", cuts(&desk.grid.easts)),
-        ("north_cuts", cuts(&desk.grid.norths)),
+        ("east_cuts", cuts(&desk.parts.frame.easts)),
+        ("north_cuts", cuts(&desk.parts.frame.norths)),
         ("cells", Json::List(cells)),
-        ("free", Json::List(places(&chain(store, desk.grid.free)))),
+        ("free", Json::List(places(&chain(store, desk.parts.frame.free)))),
         ("waiting", Json::List(waiting.collect())),
         ("memo", Json::List(memo.collect())),
-        ("on", Json::List(places(desk.on.in_use()))),
-        ("tally", Json::Number(desk.tally.into())),
+        ("on", Json::List(places(desk.radios_on()))),
+        ("tally", Json::Number(desk.parts.tally.into())),
     ])
 }
 

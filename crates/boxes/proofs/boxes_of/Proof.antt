@@ -3,9 +3,6 @@ use Rattle.boxes.proofs.StripesLaws.{boxed}
 use Rattle.boxes.proofs.boxes_of.Statement.{statement}
 use Rattle.boxes.proofs.boxes_of.Tie as tie
 
-places-of-requires : tie.Need-places-of-requires
-places-of-requires c κs = search needs
-
 stripes-of-requires : tie.Need-stripes-of-requires
 stripes-of-requires c κs = search needs
 
@@ -17,4 +14,4 @@ returns c = search boxed
 
 pub boxes-of-spec : {M : Type 1} → statement M
 boxes-of-spec =
-    tie.close (tie.spec places-of-requires stripes-of-requires stripes-of-requires-2 returns)
+    tie.close (tie.spec stripes-of-requires stripes-of-requires-2 returns)

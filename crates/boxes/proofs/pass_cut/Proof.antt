@@ -9,10 +9,10 @@ use Rattle.boxes.proofs.pass_cut.Statement.{statement}
 use Rattle.boxes.proofs.pass_cut.Tie as tie
 
 abbrev Inv-loop : tie.InvT-loop
-Inv-loop cut xs stripes₀ i₀ stripes i = (i ≤ fullMemory) × Passing cut xs stripes₀ i stripes
+Inv-loop cut waiting column stripes₀ i₀ stripes i = (i ≤ fullMemory) × Passing cut waiting column stripes₀ i stripes
 
 abbrev μ-loop : tie.MeasureT-loop
-μ-loop cut xs stripes₀ i₀ stripes i = fullMemory - i
+μ-loop cut waiting column stripes₀ i₀ stripes i = fullMemory - i
 
 loop-holds : tie.Need-loop-holds Inv-loop μ-loop
 loop-holds c = (search needs, search passing-start)
@@ -23,17 +23,20 @@ mul-before c = search needs
 element-copy-out-before : tie.Need-element-copy-out-before Inv-loop μ-loop
 element-copy-out-before c = search needs
 
-mul-further : tie.Need-mul-further Inv-loop μ-loop
-mul-further c = search needs
+add-x : tie.Need-add-x Inv-loop μ-loop
+add-x c = search needs
 
-element-copy-out-further : tie.Need-element-copy-out-further Inv-loop μ-loop
-element-copy-out-further c = search needs
+mul-x : tie.Need-mul-x Inv-loop μ-loop
+mul-x c = search needs
+
+element-copy-out-x : tie.Need-element-copy-out-x Inv-loop μ-loop
+element-copy-out-x c = search needs
 
 further-requires : tie.Need-further-requires Inv-loop μ-loop
 further-requires c κs =
     let l = c .before .before .before in
     let h = c .before .before .loop-test .taken in
-    omega (arith, passing-here _ _ _ (l .loop .inv .1) h, l .before .pre .2 (l .loop .i) h)
+    omega (arith, passing-here _ _ _ _ (l .loop .inv .1) h, l .before .pre .3 (l .loop .i) h)
 
 mul-stripes : tie.Need-mul-stripes Inv-loop μ-loop
 mul-stripes c = search needs
@@ -62,8 +65,9 @@ pass-cut-spec =
     loop-holds
     mul-before
     element-copy-out-before
-    mul-further
-    element-copy-out-further
+    add-x
+    mul-x
+    element-copy-out-x
     further-requires
     mul-stripes
     element-write-stripes

@@ -6,16 +6,16 @@ use Rattle.boxes.proofs.stripes_of.Statement.{statement}
 use Rattle.boxes.proofs.stripes_of.Tie as tie
 
 abbrev Inv-loop : tie.InvT-loop
-Inv-loop xs cuts n stripes₀ i₀ stripes i = (i ≤ n) × StripedBy cuts xs i stripes
+Inv-loop waiting column cuts n stripes₀ i₀ stripes i = (i ≤ n) × StripedBy cuts waiting column i stripes
 
 abbrev μ-loop : tie.MeasureT-loop
-μ-loop xs cuts n stripes₀ i₀ stripes i = n - i
+μ-loop waiting column cuts n stripes₀ i₀ stripes i = n - i
 
 cast-n : tie.Need-cast-n Inv-loop μ-loop
 cast-n c = search needs
 
 loop-holds : tie.Need-loop-holds Inv-loop μ-loop
-loop-holds c = (search needs, striped-start _ _)
+loop-holds c = (search needs, striped-start _ _ _)
 
 mul-cut : tie.Need-mul-cut Inv-loop μ-loop
 mul-cut c = search needs

@@ -9,7 +9,7 @@ cast-asked-by : tie.Need-cast-asked-by
 cast-asked-by c = search needs
 
 asked-by-requires : tie.Need-asked-by-requires
-asked-by-requires c κs = let e = c .before .before .before .before .before .before in record-asks (e .args .parts) (e .args .words .now) (e .pre .1)
+asked-by-requires c κs = let e = c .before .before .before .before .before in record-asks (e .args .parts) (e .args .cells .now) (e .args .waiting .now) (e .args .memo .now) (e .args .on .now) (e .pre .1)
 
 enum-known-number : tie.Need-enum-known-number
 enum-known-number c = search needs
@@ -22,11 +22,11 @@ enum-known-radio c = search needs
 
 sign-on-requires : tie.Need-sign-on-requires
 sign-on-requires c κs =
-    let a = c .before .before .before .before .before in
-    let e = a .before .before .before .before .before .before .before in
-    on-asked (e .args .parts) (e .args .words .now) (e .pre .1) (e .args .bytes .now) (e .args .buffer .now)
-    (λ i. a .before .before .before .before .before .shared-slice-known .given i .fits)
-    (a .asked-by .ensures) _ _ (ap askedOf (c .before .before .before .radio .given .1))
+    let a = c .before .before .before .before .before .before .before .before in
+    let e = a .before .before .before .before .before .before in
+    on-asked (e .args .parts) (e .args .cells .now) (e .args .waiting .now) (e .args .memo .now) (e .args .on .now) (e .pre .1) (e .args .bytes .now) (e .args .buffer .now)
+    (λ i. a .before .before .before .before .shared-slice-known .given i .fits)
+    (a .asked-by .ensures) _ _ (ap askedOf (c .before .before .before .before .before .before .radio .given .1))
 
 accepted-requires : tie.Need-accepted-requires
 accepted-requires c κs = search needs
@@ -36,11 +36,11 @@ enum-known-radio-2 c = search needs
 
 reported-requires : tie.Need-reported-requires
 reported-requires c κs =
-    let a = c .before .before .before .before .before in
-    let e = a .before .before .before .before .before .before .before in
-    report-asked (e .args .parts) (e .args .words .now) (e .pre .1) (e .args .bytes .now) (e .args .buffer .now)
-    (λ i. a .before .before .before .before .before .shared-slice-known .given i .fits)
-    (a .asked-by .ensures) _ _ (ap askedOf (c .before .before .before .radio2 .given .1))
+    let a = c .before .before .before .before .before .before .before .before in
+    let e = a .before .before .before .before .before .before in
+    report-asked (e .args .parts) (e .args .cells .now) (e .args .waiting .now) (e .args .memo .now) (e .args .on .now) (e .pre .1) (e .args .bytes .now) (e .args .buffer .now)
+    (λ i. a .before .before .before .before .shared-slice-known .given i .fits)
+    (a .asked-by .ensures) _ _ (ap askedOf (c .before .before .before .before .before .before .radio2 .given .1))
 
 accepted-requires-2 : tie.Need-accepted-requires-2
 accepted-requires-2 c κs = search needs
@@ -50,11 +50,11 @@ enum-known-radio-3 c = search needs
 
 sign-off-requires : tie.Need-sign-off-requires
 sign-off-requires c κs =
-    let a = c .before .before .before .before .before in
-    let e = a .before .before .before .before .before .before .before in
-    off-asked (e .args .parts) (e .args .words .now) (e .pre .1) (e .args .bytes .now) (e .args .buffer .now)
-    (λ i. a .before .before .before .before .before .shared-slice-known .given i .fits)
-    (a .asked-by .ensures) _ (ap askedOf (c .before .before .before .radio3 .given .1))
+    let a = c .before .before .before .before .before .before .before .before in
+    let e = a .before .before .before .before .before .before in
+    off-asked (e .args .parts) (e .args .cells .now) (e .args .waiting .now) (e .args .memo .now) (e .args .on .now) (e .pre .1) (e .args .bytes .now) (e .args .buffer .now)
+    (λ i. a .before .before .before .before .shared-slice-known .given i .fits)
+    (a .asked-by .ensures) _ (ap askedOf (c .before .before .before .before .before .before .radio3 .given .1))
 
 accepted-requires-3 : tie.Need-accepted-requires-3
 accepted-requires-3 c κs = search needs
@@ -68,35 +68,35 @@ listed-requires c κs = search needs
 returns : tie.Need-returns
 returns c = λ x.
     let a = c .before .before .before .before in
-    let e = a .before .before .before .before .before .before .before in
-    refused-returns (e .args .parts) (e .args .words .now) x (e .args .bytes .now) (e .args .buffer .now) (λ i. a .before .before .before .before .before .shared-slice-known .given i .fits) (a .asked-by .ensures) _ (ap askedOf (c .before .before .number .given .1)) (c .answered .ensures)
+    let e = a .before .before .before .before .before .before in
+    refused-returns (e .args .parts) (e .args .cells .now) (e .args .waiting .now) (e .args .memo .now) (e .args .on .now) x (e .args .bytes .now) (e .args .buffer .now) (λ i. a .before .before .before .before .shared-slice-known .given i .fits) (a .asked-by .ensures) _ (ap askedOf (c .before .before .number .given .1)) (c .answered .ensures)
 
 same-length : tie.Need-same-length
 same-length c = search needs
 
 returns-2 : tie.Need-returns-2
 returns-2 c = λ x.
-    let a = c .before .before .before .before .before .before .before .before .before in
-    let e = a .before .before .before .before .before .before .before in
-    on-returns (e .args .parts) (e .args .words .now) x (e .args .bytes .now) (e .args .buffer .now) (λ i. a .before .before .before .before .before .shared-slice-known .given i .fits) (a .asked-by .ensures) _ _ (ap askedOf (c .before .before .before .before .before .before .before .radio .given .1)) (c .before .before .before .sign-on .ensures) (c .accepted .ensures)
+    let a = c .before .before .before .before .before .before .before .before .before .before .before .before in
+    let e = a .before .before .before .before .before .before in
+    on-returns (e .args .parts) (e .args .cells .now) (e .args .waiting .now) (e .args .memo .now) (e .args .on .now) x (e .args .bytes .now) (e .args .buffer .now) (λ i. a .before .before .before .before .shared-slice-known .given i .fits) (a .asked-by .ensures) _ _ (ap askedOf (c .before .before .before .before .before .before .before .before .before .before .radio .given .1)) (c .before .before .before .sign-on .ensures) (c .accepted .ensures)
 
 same-length-2 : tie.Need-same-length-2
 same-length-2 c = search needs
 
 returns-3 : tie.Need-returns-3
 returns-3 c = λ x.
-    let a = c .before .before .before .before .before .before .before .before .before in
-    let e = a .before .before .before .before .before .before .before in
-    report-returns (e .args .parts) (e .args .words .now) x (e .args .bytes .now) (e .args .buffer .now) (λ i. a .before .before .before .before .before .shared-slice-known .given i .fits) (a .asked-by .ensures) _ _ (ap askedOf (c .before .before .before .before .before .before .before .radio2 .given .1)) (c .before .before .before .reported .ensures) (c .accepted2 .ensures)
+    let a = c .before .before .before .before .before .before .before .before .before .before .before .before in
+    let e = a .before .before .before .before .before .before in
+    report-returns (e .args .parts) (e .args .cells .now) (e .args .waiting .now) (e .args .memo .now) (e .args .on .now) x (e .args .bytes .now) (e .args .buffer .now) (λ i. a .before .before .before .before .shared-slice-known .given i .fits) (a .asked-by .ensures) _ _ (ap askedOf (c .before .before .before .before .before .before .before .before .before .before .radio2 .given .1)) (c .before .before .before .reported .ensures) (c .accepted2 .ensures)
 
 same-length-3 : tie.Need-same-length-3
 same-length-3 c = search needs
 
 returns-4 : tie.Need-returns-4
 returns-4 c = λ x.
-    let a = c .before .before .before .before .before .before .before .before .before in
-    let e = a .before .before .before .before .before .before .before in
-    off-returns (e .args .parts) (e .args .words .now) x (e .args .bytes .now) (e .args .buffer .now) (λ i. a .before .before .before .before .before .shared-slice-known .given i .fits) (a .asked-by .ensures) _ (ap askedOf (c .before .before .before .before .before .before .before .radio3 .given .1)) (c .before .before .before .sign-off .ensures) (c .accepted3 .ensures)
+    let a = c .before .before .before .before .before .before .before .before .before .before .before .before in
+    let e = a .before .before .before .before .before .before in
+    off-returns (e .args .parts) (e .args .cells .now) (e .args .waiting .now) (e .args .memo .now) (e .args .on .now) x (e .args .bytes .now) (e .args .buffer .now) (λ i. a .before .before .before .before .shared-slice-known .given i .fits) (a .asked-by .ensures) _ (ap askedOf (c .before .before .before .before .before .before .before .before .before .before .radio3 .given .1)) (c .before .before .before .sign-off .ensures) (c .accepted3 .ensures)
 
 same-length-4 : tie.Need-same-length-4
 same-length-4 c = search needs
@@ -106,9 +106,9 @@ same-length-5 c = search needs
 
 returns-5 : tie.Need-returns-5
 returns-5 c = λ x.
-    let a = c .before .before .before .before .before .before .before .before .before in
-    let e = a .before .before .before .before .before .before .before in
-    range-returns (e .args .parts) (e .args .words .now) x (e .args .bytes .now) (e .args .buffer .now) (λ i. a .before .before .before .before .before .shared-slice-known .given i .fits) (a .asked-by .ensures) _ (ap askedOf (c .before .before .before .before .before .before .before .west .given .1)) (c .before .before .listed .ensures)
+    let a = c .before .before .before .before .before .before .before .before .before .before .before .before in
+    let e = a .before .before .before .before .before .before in
+    range-returns (e .args .parts) (e .args .cells .now) (e .args .waiting .now) (e .args .memo .now) (e .args .on .now) x (e .args .bytes .now) (e .args .buffer .now) (λ i. a .before .before .before .before .shared-slice-known .given i .fits) (a .asked-by .ensures) _ (ap askedOf (c .before .before .before .before .before .before .before .before .before .before .west .given .1)) (c .before .before .listed .ensures)
 
 pub carry-sound-spec : {M : Type 1} → statement M
 carry-sound-spec =

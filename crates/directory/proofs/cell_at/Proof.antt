@@ -1,28 +1,21 @@
 -- None of the first i cells holds the place (`Passed`).
 use Prim.Native.Nat.{_-_, _≤_}
-use Rattle.lists.proofs.ShiftLaws.{length-mapped}
 use Rattle.directory.proofs.CellLaws.{Passed, pass-start, pass-found, pass-turn, pass-end}
 use borrow.Author.Needs.{needs}
 use Rattle.directory.proofs.cell_at.Statement.{statement}
 use Rattle.directory.proofs.cell_at.Tie as tie
 
 abbrev Inv-loop : tie.InvT-loop
-Inv-loop east north cells n i₀ i = (i ≤ n) × Passed cells (record { east = east; north = north }) i
+Inv-loop cells n east north count i₀ i = (i ≤ count) × Passed n cells (record { east = east; north = north }) i
 
 abbrev μ-loop : tie.MeasureT-loop
-μ-loop east north cells n i₀ i = n - i
-
-cast-n : tie.Need-cast-n Inv-loop μ-loop
-cast-n c = search needs
+μ-loop cells n east north count i₀ i = count - i
 
 loop-holds : tie.Need-loop-holds Inv-loop μ-loop
-loop-holds c = (search needs, search (pass-start, length-mapped))
+loop-holds c = (search needs, search pass-start)
 
-mul-slot : tie.Need-mul-slot Inv-loop μ-loop
-mul-slot c = search needs
-
-element-copy-out-slot : tie.Need-element-copy-out-slot Inv-loop μ-loop
-element-copy-out-slot c = search needs
+slot-at-requires : tie.Need-slot-at-requires Inv-loop μ-loop
+slot-at-requires c κs = search needs
 
 holds-requires : tie.Need-holds-requires Inv-loop μ-loop
 holds-requires c κs = search needs
@@ -48,10 +41,8 @@ cell-at-spec =
     (tie.spec
     Inv-loop
     μ-loop
-    cast-n
     loop-holds
-    mul-slot
-    element-copy-out-slot
+    slot-at-requires
     holds-requires
     returns
     add-i

@@ -7,10 +7,10 @@ use Rattle.directory.proofs.unused_number.Statement.{statement}
 use Rattle.directory.proofs.unused_number.Tie as tie
 
 abbrev Inv-loop : tie.InvT-loop
-Inv-loop used k₀ k = (k ≤ maxCells) × Used used k
+Inv-loop cells n used k₀ k = (k ≤ maxCells) × Used used k
 
 abbrev μ-loop : tie.MeasureT-loop
-μ-loop used k₀ k = maxCells - k
+μ-loop cells n used k₀ k = maxCells - k
 
 used-numbers-requires : tie.Need-used-numbers-requires Inv-loop μ-loop
 used-numbers-requires c κs = search needs

@@ -1,34 +1,27 @@
 -- The numbers of the first i cells are marked (`Marked`).
 use Prim.Native.Nat.{_-_, _≤_}
-use Rattle.lists.proofs.ShiftLaws.{length-mapped}
 use Rattle.directory.proofs.NumberLaws.{Marked, mark-start, number-below, mark-turn, mark-end}
 use borrow.Author.Needs.{needs}
 use Rattle.directory.proofs.used_numbers.Statement.{statement}
 use Rattle.directory.proofs.used_numbers.Tie as tie
 
 abbrev Inv-loop : tie.InvT-loop
-Inv-loop cells n used₀ i₀ used i = (i ≤ n) × Marked cells i used
+Inv-loop cells n count used₀ i₀ used i = (i ≤ count) × Marked n cells i used
 
 abbrev μ-loop : tie.MeasureT-loop
-μ-loop cells n used₀ i₀ used i = n - i
-
-cast-n : tie.Need-cast-n Inv-loop μ-loop
-cast-n c = search needs
+μ-loop cells n count used₀ i₀ used i = count - i
 
 loop-holds : tie.Need-loop-holds Inv-loop μ-loop
-loop-holds c = (search needs, search (mark-start, length-mapped))
+loop-holds c = (search needs, search mark-start)
 
-mul-slot : tie.Need-mul-slot Inv-loop μ-loop
-mul-slot c = search needs
-
-element-copy-out-slot : tie.Need-element-copy-out-slot Inv-loop μ-loop
-element-copy-out-slot c = search needs
+slot-at-requires : tie.Need-slot-at-requires Inv-loop μ-loop
+slot-at-requires c κs = search needs
 
 index-requires : tie.Need-index-requires Inv-loop μ-loop
 index-requires c κs = search needs
 
 array-write-used : tie.Need-array-write-used Inv-loop μ-loop
-array-write-used c = search (number-below, length-mapped)
+array-write-used c = search number-below
 
 add-i : tie.Need-add-i Inv-loop μ-loop
 add-i c = search needs
@@ -48,10 +41,8 @@ used-numbers-spec =
     (tie.spec
     Inv-loop
     μ-loop
-    cast-n
     loop-holds
-    mul-slot
-    element-copy-out-slot
+    slot-at-requires
     index-requires
     array-write-used
     add-i

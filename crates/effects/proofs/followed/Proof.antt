@@ -8,7 +8,7 @@ after-report-requires c κs = c .before .before .before .before .before .pre .be
 
 ticked-requires : tie.Need-ticked-requires
 ticked-requires c κs =
-    let a = c .before .before .before .before .before .before in
+    let a = c .before .before .before .before .before .before .before in
     flushed-tallies (a .before .before .before .before .before .before .pre) (a .after-report .ensures)
 
 same-length : tie.Need-same-length
@@ -17,7 +17,7 @@ same-length c = search needs
 returns : tie.Need-returns
 returns c = λ x.
     let t = c .before .before in
-    flush-returns x (t .before .before .before .before .before .before .before .after-report .ensures) (t .ticked .ensures)
+    flush-returns x (t .before .before .before .before .before .before .before .before .after-report .ensures) (t .ticked .ensures)
 
 pub followed-spec : {M : Type 1} → statement M
 followed-spec = tie.close (tie.spec after-report-requires ticked-requires same-length returns)

@@ -17,18 +17,20 @@ returns c = λ x. search (after-nothing x)
 
 flush-requires : tie.Need-flush-requires
 flush-requires c κs =
-    let k = c .before .before .before in
-    let e = k .before .before .before .before .before .before in
-    flush-asks (e .pre) (record { east = e .args .east; north = e .args .north }) (k .before .before .box-due .ensures) _ (k .m .given .1)
+    let k = c .before .before .before .before .before in
+    let d = k .before .before in
+    let e = d .before .before .before in
+    flush-asks (e .pre) (record { east = e .args .east; north = e .args .north }) (d .box-due .ensures) _ (k .m .given .1)
 
 same-length : tie.Need-same-length
 same-length c = search needs
 
 returns-2 : tie.Need-returns-2
 returns-2 c =
-    let k = c .before .before .before .before .before .before in
-    let e = k .before .before .before .before .before .before in
-    λ x. after-flush x (record { east = e .args .east; north = e .args .north }) (k .before .before .box-due .ensures) _ (k .m .given .1) (c .before .before .flush .ensures)
+    let k = c .before .before .before .before .before .before .before .before in
+    let d = k .before .before in
+    let e = d .before .before .before in
+    λ x. after-flush x (record { east = e .args .east; north = e .args .north }) (d .box-due .ensures) _ (k .m .given .1) (c .before .before .flush .ensures)
 
 pub after-report-spec : {M : Type 1} → statement M
 after-report-spec =

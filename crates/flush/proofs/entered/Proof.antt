@@ -7,13 +7,15 @@ swept-at-requires c κs = search home-place
 
 enter-all-requires : tie.Need-enter-all-requires
 enter-all-requires c κs =
-    let d = c .before .before .before .before .before in
-    entered-asks (d .before .before .before .args .m) (d .before .before .before .pre) _ _ (d .swept-at .ensures)
+    let d = c .before .before .before in
+    let e = d .before .before .before in
+    entered-asks (e .args .m) (e .pre) _ _ (d .swept-at .ensures)
 
 returns : tie.Need-returns
 returns c =
-    let d = c .before .before .before .before .before .before .before in
-    λ x. entered-gives (d .before .before .before .args .m) x _ _ (d .swept-at .ensures) (c .before .enter-all .result) (c .before .enter-all .ensures)
+    let d = c .before .before .before .before .before in
+    let e = d .before .before .before in
+    λ x. entered-gives (e .args .m) x _ _ (d .swept-at .ensures) (c .before .enter-all .result) (c .before .enter-all .ensures)
 
 pub entered-spec : {M : Type 1} → statement M
 entered-spec = tie.close (tie.spec swept-at-requires enter-all-requires returns)

@@ -1,10 +1,10 @@
 use borrow.Author.Needs.{needs}
-use Rattle.flush.proofs.FlushLaws.{home-asks, homed, homed-not, clear-asks, reshape-asks, flush-returns}
+use Rattle.flush.proofs.FlushLaws.{home-asks, homed, homed-not, part-asks, reshape-wants, flush-returns}
 use Rattle.flush.proofs.flush.Statement.{statement}
 use Rattle.flush.proofs.flush.Tie as tie
 
 home-of-requires : tie.Need-home-of-requires
-home-of-requires c κs = home-asks (c .before .pre .0) (c .before .args .m) (c .before .pre .1)
+home-of-requires c κs = let e = c .before .before in home-asks (e .pre .0) (e .args .m) (e .pre .1)
 
 enum-known-at : tie.Need-enum-known-at
 enum-known-at c = search needs
@@ -13,30 +13,43 @@ enum-told : tie.Need-enum-told
 enum-told c = search needs
 
 returns : tie.Need-returns
-returns c = λ x. homed-not x (c .before .before .before .before .args .m) (c .before .before .home-of .ensures) (c .enum-told .given .1)
+returns c = λ x. homed-not x (c .before .before .before .before .before .args .m) (c .before .before .home-of .ensures) (c .enum-told .given .1)
+
+parted-requires : tie.Need-parted-requires
+parted-requires c κs =
+    let e = c .before .before .before .before .before .before .before .before in
+    let k = part-asks (e .pre .0) in
+    (k .0, k .1, search needs, k .2, k .3)
 
 entered-requires : tie.Need-entered-requires
-entered-requires c κs = search homed
+entered-requires c κs =
+    let p = c .before .before .before .before in
+    let a = p .before .before .before .before in
+    let h = a .before .before in
+    let e = h .before .before .before in
+    homed (e .pre .0) (e .args .m) (h .home-of .ensures) (a .at .given .1) (p .parted .ensures .0)
 
 reshape-requires : tie.Need-reshape-requires
 reshape-requires c κs =
-    let d = c .before .before .before .before in
-    let k = d .before .before .before .before in
-    let e = k .before .before .before .before in
-    reshape-asks (e .args .m) (homed (e .pre .0) (e .args .m) (k .before .before .home-of .ensures) (k .at .given .1)) _ _ (d .entered .ensures)
-
-cleared-requires : tie.Need-cleared-requires
-cleared-requires c κs = clear-asks (c .before .before .before .before .before .before .before .before .before .before .before .before .before .before .before .before .before .pre .0)
+    let d = c .before .before .before .before .before in
+    let p = d .before .before .before .before .before in
+    let a = p .before .before .before .before in
+    let h = a .before .before in
+    let e = h .before .before .before in
+    reshape-wants (e .pre .0) (e .args .m) (h .home-of .ensures) (a .at .given .1) (p .parted .ensures .0) _ _ (d .entered .ensures)
 
 same-length : tie.Need-same-length
 same-length c = search needs
 
 returns-2 : tie.Need-returns-2
 returns-2 c =
-    let h = c .before .before .before .before .before .before in
-    let d = h .before .before .before .before .before in
-    let k = d .before .before .before .before in
-    λ x. flush-returns x (k .before .before .before .before .args .m) (k .before .before .home-of .ensures) (k .at .given .1) _ _ (d .entered .ensures) (h .reshape .ensures) (c .before .cleared .ensures)
+    let r = c .before .before .before in
+    let d = r .before .before .before .before .before .before in
+    let p = d .before .before .before .before .before in
+    let a = p .before .before .before .before in
+    let h = a .before .before in
+    let e = h .before .before .before in
+    λ x. flush-returns x (e .args .m) (h .home-of .ensures) (a .at .given .1) (p .parted .ensures .0) _ _ (d .entered .ensures) (r .reshape .ensures) (p .parted .ensures .1)
 
 pub flush-spec : {M : Type 1} → statement M
 flush-spec =
@@ -46,8 +59,8 @@ flush-spec =
     enum-known-at
     enum-told
     returns
+    parted-requires
     entered-requires
     reshape-requires
-    cleared-requires
     same-length
     returns-2)

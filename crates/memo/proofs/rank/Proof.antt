@@ -3,7 +3,8 @@ use borrow.Author.Needs.{needs}
 use mathlib.Core.Path.{sym}
 use Prim.Native.Nat.{_-_, _≤_}
 use Rattle.lists.proofs.SearchLaws.{Between, rank-between}
-use Rattle.memo.specs.Memo.{memoIn, linesOf, noRow}
+use Rattle.desk.specs.Held.{memoIn}
+use Rattle.memo.specs.Memo.{linesOf, noRow}
 use Rattle.memo.proofs.MemoLaws.{search-start, search-up, search-down}
 use Rattle.memo.proofs.rank.Statement.{statement}
 use Rattle.memo.proofs.rank.Tie as tie

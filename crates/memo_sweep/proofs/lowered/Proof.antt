@@ -1,4 +1,4 @@
-use Rattle.memo.specs.Memo.{memoIn}
+use Rattle.desk.specs.Held.{memoIn}
 use Rattle.memo_sweep.proofs.LowerLaws.{lower-none, lower-end}
 use borrow.Author.Needs.{needs}
 use Rattle.memo_sweep.proofs.lowered.Statement.{statement}

@@ -1,7 +1,8 @@
 -- Those of the first i lines that stay are in the first slots, and the slots from i on are as they were (`MovedUp`): what is read next is not written yet.
 use Prim.Native.Nat.{_-_, _≤_}
 use lib.ListN.{take}
-use Rattle.memo.specs.Memo.{memoIn, linesOf}
+use Rattle.desk.specs.Held.{memoIn}
+use Rattle.memo.specs.Memo.{linesOf}
 use Rattle.memo_sweep.specs.Lowering.{lowerWhere, markOf, MovedUp}
 use Rattle.memo_sweep.proofs.LowerLaws.{up-start, up-plain, up-turn, up-end}
 use borrow.Author.Needs.{needs}

@@ -9,7 +9,7 @@ signed-on-requires : tie.Need-signed-on-requires
 signed-on-requires c κs = search needs
 
 returns : tie.Need-returns
-returns c = cc
+returns c = search needs
 
 pub signed-on-spec : {M : Type 1} → statement M
 signed-on-spec = tie.close (tie.spec put-new-requires signed-on-requires returns)

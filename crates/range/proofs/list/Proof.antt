@@ -1,5 +1,5 @@
 use Rattle.range.proofs.ListLaws.{empty-table, found-radios, told-short, told-listed}
-use Rattle.memo.specs.Memo.{memoIn}
+use Rattle.desk.specs.Held.{directoryIn, waitingWith, memoIn}
 use borrow.Author.Needs.{needs}
 use Rattle.range.proofs.list.Statement.{statement}
 use Rattle.range.proofs.list.Tie as tie
@@ -20,7 +20,7 @@ returns : tie.Need-returns
 returns c =
     let f = c .before in
     let e = f .before .before .before .before .before .before .before .before .before in
-    told-short _ _ _ _ (memoIn (e .args .lines) (e .args .words .now)) _ _ _ _ (f .before .before .before .hold-all .ensures) (f .found-on .ensures .0) _ (f .found-on .ensures .1) (f .found-on .ensures .2) (c .if1 .taken)
+    told-short _ _ (directoryIn (e .args .parts .frame .cells) (e .args .cells .now)) (waitingWith (e .args .parts .waiting) (e .args .waiting .now)) (memoIn (e .args .parts .lines) (e .args .memo .now)) _ _ _ _ (f .before .before .before .hold-all .ensures) (f .found-on .ensures .0) _ (f .found-on .ensures .1) (f .found-on .ensures .2) (c .if1 .taken)
 
 write-rows-requires : tie.Need-write-rows-requires
 write-rows-requires c κs =
@@ -34,7 +34,7 @@ returns-2 : tie.Need-returns-2
 returns-2 c =
     let f = c .before .before .before .before .before .before .before .before in
     let e = f .before .before .before .before .before .before .before .before .before in
-    told-listed _ _ _ _ (memoIn (e .args .lines) (e .args .words .now)) _ _ _ _ (f .before .before .before .hold-all .ensures) (f .found-on .ensures .0) _ (f .found-on .ensures .1) (f .found-on .ensures .2) (c .before .before .before .before .before .before .before .if1 .left) (c .before .before .write-rows .ensures)
+    told-listed _ _ (directoryIn (e .args .parts .frame .cells) (e .args .cells .now)) (waitingWith (e .args .parts .waiting) (e .args .waiting .now)) (memoIn (e .args .parts .lines) (e .args .memo .now)) _ _ _ _ (f .before .before .before .hold-all .ensures) (f .found-on .ensures .0) _ (f .found-on .ensures .1) (f .found-on .ensures .2) (c .before .before .before .before .before .before .before .if1 .left) (c .before .before .write-rows .ensures)
 
 pub list-spec : {M : Type 1} → statement M
 list-spec =

@@ -1,7 +1,7 @@
 -- The cells passed lie over the table, as far as the rectangle touches them.
 use Prim.Native.Nat.{_-_, _≤_}
 use lib.ListN.{take}
-use Rattle.lists.proofs.ShiftLaws.{length-mapped}
+use Rattle.desk.specs.Held.{directoryIn}
 use Rattle.desk.specs.Views.{slotsIn, rectOf}
 use Rattle.range_places.specs.Places.{placesIn, Holds, over, slotOver}
 use Rattle.range_places.proofs.TableLaws.{cells-start, cells-radios, cells-turn, cells-end}
@@ -10,25 +10,20 @@ use Rattle.range_places.proofs.hold_cells.Statement.{statement}
 use Rattle.range_places.proofs.hold_cells.Tie as tie
 
 abbrev Inv-loop : tie.InvT-loop
-Inv-loop pages area easts₀ norths₀ marks₀ cells n i₀ easts norths marks i = (i ≤ n) × Holds easts norths marks (over (slotOver pages (rectOf area)) (take i (slotsIn cells)) (placesIn easts₀ norths₀ marks₀))
+Inv-loop pages area cells n easts₀ norths₀ marks₀ i₀ easts norths marks i =
+    (i ≤ n) × Holds easts norths marks (over (slotOver pages (rectOf area)) (take i (slotsIn (directoryIn n cells))) (placesIn easts₀ norths₀ marks₀))
 
 abbrev μ-loop : tie.MeasureT-loop
-μ-loop pages area easts₀ norths₀ marks₀ cells n i₀ easts norths marks i = n - i
-
-cast-n : tie.Need-cast-n Inv-loop μ-loop
-cast-n c = search needs
+μ-loop pages area cells n easts₀ norths₀ marks₀ i₀ easts norths marks i = n - i
 
 loop-holds : tie.Need-loop-holds Inv-loop μ-loop
 loop-holds c = (search needs, search cells-start)
 
-mul-cell : tie.Need-mul-cell Inv-loop μ-loop
-mul-cell c = search needs
-
-element-copy-out-cell : tie.Need-element-copy-out-cell Inv-loop μ-loop
-element-copy-out-cell c = search needs
+slot-at-requires : tie.Need-slot-at-requires Inv-loop μ-loop
+slot-at-requires c κs = search needs
 
 hold-touched-requires : tie.Need-hold-touched-requires Inv-loop μ-loop
-hold-touched-requires c κs = (search needs, search (cells-radios, length-mapped))
+hold-touched-requires c κs = (search needs, search cells-radios)
 
 add-i : tie.Need-add-i Inv-loop μ-loop
 add-i c = search needs
@@ -37,7 +32,7 @@ loop-less : tie.Need-loop-less Inv-loop μ-loop
 loop-less c = search needs
 
 loop-again : tie.Need-loop-again Inv-loop μ-loop
-loop-again c = (search needs, search (cells-turn, length-mapped))
+loop-again c = (search needs, search cells-turn)
 
 returns : tie.Need-returns Inv-loop μ-loop
 returns c = search cells-end
@@ -48,10 +43,8 @@ hold-cells-spec =
     (tie.spec
     Inv-loop
     μ-loop
-    cast-n
     loop-holds
-    mul-cell
-    element-copy-out-cell
+    slot-at-requires
     hold-touched-requires
     add-i
     loop-less

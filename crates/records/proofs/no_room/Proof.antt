@@ -1,5 +1,5 @@
 use borrow.Author.Needs.{needs}
-use Rattle.waiting.specs.On.{onWith}
+use Rattle.desk.specs.Held.{onWith}
 use Rattle.records.proofs.RecordsLaws.{room-other, room-full}
 use Rattle.records.proofs.no_room.Statement.{statement}
 use Rattle.records.proofs.no_room.Tie as tie

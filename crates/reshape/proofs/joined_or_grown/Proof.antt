@@ -1,22 +1,27 @@
 use native.Mathlib.Omega.{arith}
-use borrow.Author.Needs.{needs}
 use Rattle.cell_last.proofs.MovedLaws.{loose-takes}
 use Rattle.cell_last.proofs.MidwayLaws.{midway-loose}
-use Rattle.reshape.proofs.WholeLaws.{midway-in, lone-asks, lone-returns, nears, near-returns}
+use Rattle.reshape.proofs.WholeLaws.{midway-reads, lasts, lone-asks, lone-returns, nears, near-returns}
+use borrow.Author.Needs.{needs}
 use Rattle.reshape.proofs.joined_or_grown.Statement.{statement}
 use Rattle.reshape.proofs.joined_or_grown.Tie as tie
 
-mul-d : tie.Need-mul-d
-mul-d c = let h = midway-in (c .before .before .pre .3) in omega arith
+slot-at-requires : tie.Need-slot-at-requires
+slot-at-requires c κs = search midway-reads
 
-element-copy-out-d : tie.Need-element-copy-out-d
-element-copy-out-d c = midway-in (c .before .before .pre .3)
+take-out-requires : tie.Need-take-out-requires
+take-out-requires c κs = loose-takes (midway-loose (c .before .before .before .before .pre .3))
 
-taken-out-requires : tie.Need-taken-out-requires
-taken-out-requires c κs = loose-takes (midway-loose (c .before .before .before .pre .3))
+sub-find-neighbour : tie.Need-sub-find-neighbour
+sub-find-neighbour c =
+    let h = loose-takes (midway-loose (c .before .before .before .before .before .before .before .pre .3)) in omega (arith, h .1)
 
 find-neighbour-requires : tie.Need-find-neighbour-requires
-find-neighbour-requires c κs = let e = c .before .before .before .before .before in lone-asks (e .pre .3) (c .before .taken-out .ensures) (e .pre .1) (e .pre .2)
+find-neighbour-requires c κs =
+    let t = c .before .before in
+    let s = t .before .before in
+    let e = s .before .before .before in
+    lone-asks (e .args .frame) (e .pre .3) (s .slot-at .ensures) (t .take-out .ensures) (e .pre .1) (e .pre .2)
 
 enum-known-k : tie.Need-enum-known-k
 enum-known-k c = search needs
@@ -24,40 +29,61 @@ enum-known-k c = search needs
 enum-told : tie.Need-enum-told
 enum-told c = search needs
 
-settled-last-requires : tie.Need-settled-last-requires
-settled-last-requires c κs = let e = c .before .before .before .before .before .before .before .before .before in ((e .pre .0, omega (arith, e .pre .1, e .pre .2)), midway-loose (e .pre .3))
+hand-last-requires : tie.Need-hand-last-requires
+hand-last-requires c κs =
+    let t = c .before .before .before .before .before .before .before in
+    let s = t .before .before in
+    let e = s .before .before .before in
+    ((e .pre .0, omega (arith, e .pre .1, e .pre .2)), lasts (e .args .frame) (e .pre .3) (s .slot-at .ensures) (t .take-out .ensures))
 
 same-length : tie.Need-same-length
 same-length c = search needs
 
 returns : tie.Need-returns
-returns c = λ x. search (lone-returns x)
+returns c =
+    λ x.
+    let h = c .before .before in
+    let o = h .before .before .before in
+    let f = o .before .before in
+    let t = f .before .before .before in
+    let s = t .before .before in
+    let e = s .before .before .before in
+    lone-returns (e .args .frame) x (s .slot-at .ensures) (t .take-out .ensures) (e .pre .1) (e .pre .2) (f .find-neighbour .ensures) (o .enum-told .given .1) (h .hand-last .ensures)
 
 join-requires : tie.Need-join-requires
-join-requires c κs = let e = c .before .before .before .before .before .before .before .before .before .before .before in (e .pre .0, e .pre .1, search (nears (e .pre .3)))
+join-requires c κs =
+    let k = c .before .before .before .before in
+    let f = k .before .before in
+    let t = f .before .before .before in
+    let s = t .before .before in
+    let e = s .before .before .before in
+    (e .pre .0, e .pre .1, nears (e .args .frame) (e .pre .3) (s .slot-at .ensures) (t .take-out .ensures) (e .pre .1) (e .pre .2) (f .find-neighbour .ensures) _ (k .k .given .1))
 
 same-length-2 : tie.Need-same-length-2
 same-length-2 c = search needs
 
 returns-2 : tie.Need-returns-2
-returns-2 c = λ x.
+returns-2 c =
+    λ x.
     let j = c .before .before in
-    let n = j .before .before .before .before .before .before in
-    let t = n .before .before in
-    let e = t .before .before .before .before in
-    near-returns x (t .taken-out .ensures) (e .pre .1) (e .pre .2) (n .find-neighbour .ensures) _ (j .before .before .before .before .k .given .1) (j .join .ensures)
+    let k = j .before .before .before .before .before in
+    let f = k .before .before in
+    let t = f .before .before .before in
+    let s = t .before .before in
+    let e = s .before .before .before in
+    near-returns (e .args .frame) x (s .slot-at .ensures) (t .take-out .ensures) (e .pre .1) (e .pre .2) (f .find-neighbour .ensures) _ (k .k .given .1) (j .join .ensures)
 
 pub joined-or-grown-spec : {M : Type 1} → statement M
 joined-or-grown-spec =
     tie.close
     (tie.spec
-    mul-d
-    element-copy-out-d
-    taken-out-requires
+    slot-at-requires
+    take-out-requires
+    sub-find-neighbour
     find-neighbour-requires
     enum-known-k
     enum-told
-    settled-last-requires
+    hand-last-requires
     same-length
     returns
     join-requires

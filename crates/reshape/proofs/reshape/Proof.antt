@@ -3,7 +3,7 @@ use Rattle.reshape.proofs.reshape.Statement.{statement}
 use Rattle.reshape.proofs.reshape.Tie as tie
 
 split-or-grown-requires : tie.Need-split-or-grown-requires
-split-or-grown-requires c κs = let e = c .before .before .before .before in (e .pre .0, search needs, record { memo = _; midway = e .pre .2 })
+split-or-grown-requires c κs = search needs
 
 same-length : tie.Need-same-length
 same-length c = search needs
@@ -18,7 +18,15 @@ same-length-2 : tie.Need-same-length-2
 same-length-2 c = search needs
 
 returns-2 : tie.Need-returns-2
-returns-2 c = c .before .before .joined-or-grown .ensures
+returns-2 c = search needs
 
 pub reshape-spec : {M : Type 1} → statement M
-reshape-spec = tie.close (tie.spec split-or-grown-requires same-length returns joined-or-grown-requires same-length-2 returns-2)
+reshape-spec =
+    tie.close
+    (tie.spec
+    split-or-grown-requires
+    same-length
+    returns
+    joined-or-grown-requires
+    same-length-2
+    returns-2)

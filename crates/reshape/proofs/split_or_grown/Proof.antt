@@ -1,7 +1,6 @@
-use native.Mathlib.Omega.{arith}
-use borrow.Author.Needs.{needs}
 use Rattle.cell_last.proofs.MidwayLaws.{midway-loose}
-use Rattle.reshape.proofs.WholeLaws.{midway-in, cuts-few, full-returns, uncut-returns, splits, split-returns}
+use Rattle.reshape.proofs.WholeLaws.{midway-reads, cuts-few, full-returns, uncut-returns, splits, split-returns}
+use borrow.Author.Needs.{needs}
 use Rattle.reshape.proofs.split_or_grown.Statement.{statement}
 use Rattle.reshape.proofs.split_or_grown.Tie as tie
 
@@ -9,7 +8,8 @@ cast-if1 : tie.Need-cast-if1
 cast-if1 c = search needs
 
 settled-last-requires : tie.Need-settled-last-requires
-settled-last-requires c κs = let e = c .before .before .before .before in (e .pre .0, midway-loose (e .pre .2 .midway))
+settled-last-requires c κs =
+    let e = c .before .before .before .before .before in (e .pre .0, midway-loose (e .pre .2 .midway))
 
 same-length : tie.Need-same-length
 same-length c = search needs
@@ -17,14 +17,14 @@ same-length c = search needs
 returns : tie.Need-returns
 returns c = λ x. search (full-returns (x .midway))
 
-mul-d : tie.Need-mul-d
-mul-d c = let h = midway-in (c .before .before .before .pre .2 .midway) in omega arith
-
-element-copy-out-d : tie.Need-element-copy-out-d
-element-copy-out-d c = midway-in (c .before .before .before .pre .2 .midway)
+slot-at-requires : tie.Need-slot-at-requires
+slot-at-requires c κs = midway-reads (c .before .before .before .before .pre .2 .midway)
 
 chosen-cut-requires : tie.Need-chosen-cut-requires
-chosen-cut-requires c κs = let e = c .before .before .before .before .before .before in let q = cuts-few (e .pre .2 .midway) in (e .pre .0 .1, q .0, q .1)
+chosen-cut-requires c κs =
+    let e = c .before .before .before .before .before .before .before in
+    let q = cuts-few (e .pre .2 .midway) in
+    (e .pre .0 .1, q .0, q .1)
 
 enum-known-axis : tie.Need-enum-known-axis
 enum-known-axis c = search needs
@@ -33,22 +33,29 @@ enum-told : tie.Need-enum-told
 enum-told c = search needs
 
 settled-last-requires-2 : tie.Need-settled-last-requires-2
-settled-last-requires-2 c κs = let e = c .before .before .before .before .before .before .before .before .before .before in (e .pre .0, midway-loose (e .pre .2 .midway))
+settled-last-requires-2 c κs =
+    let e = c .before .before .before .before .before .before .before .before .before .before .before .before in (e .pre .0, midway-loose (e .pre .2 .midway))
 
 same-length-2 : tie.Need-same-length-2
 same-length-2 c = search needs
 
 returns-2 : tie.Need-returns-2
-returns-2 c = λ x. search (uncut-returns (x .midway) (c .before .before .before .before .before .before .before .before .before .before .before .before .before .pre .1))
+returns-2 c = λ x. search (uncut-returns (x .midway) (c .before .before .before .before .before .before .before .before .before .before .before .before .before .before .before .pre .1))
 
 split-requires : tie.Need-split-requires
-split-requires c κs = let e = c .before .before .before .before .before .before .before .before .before .before .before in (e .pre .0, search (splits (e .pre .2 .midway) (e .pre .1)))
+split-requires c κs =
+    let a = c .before .before .before in
+    let o = a .before .before in
+    let d = o .before .before .before in
+    let i = d .before .before in
+    let e = i .before .before .before in
+    (e .pre .0, splits (e .pre .2 .midway) (e .pre .1) (i .if1 .left) _ _ (d .slot-at .ensures) (o .chosen-cut .ensures) (a .axis .given .1))
 
 same-length-3 : tie.Need-same-length-3
 same-length-3 c = search needs
 
 returns-3 : tie.Need-returns-3
-returns-3 c = λ x. search (split-returns (x .midway) (c .before .before .before .before .before .before .before .before .before .before .before .before .before .before .pre .1))
+returns-3 c = λ x. search (split-returns (x .midway) (c .before .before .before .before .before .before .before .before .before .before .before .before .before .before .before .before .pre .1))
 
 pub split-or-grown-spec : {M : Type 1} → statement M
 split-or-grown-spec =
@@ -58,8 +65,7 @@ split-or-grown-spec =
     settled-last-requires
     same-length
     returns
-    mul-d
-    element-copy-out-d
+    slot-at-requires
     chosen-cut-requires
     enum-known-axis
     enum-told

@@ -12,11 +12,8 @@ abbrev μ-loop : tie.MeasureT-loop
 loop-holds : tie.Need-loop-holds Inv-loop μ-loop
 loop-holds c = search needs
 
-mul-print-cell : tie.Need-mul-print-cell Inv-loop μ-loop
-mul-print-cell c = search needs
-
-element-copy-out-print-cell : tie.Need-element-copy-out-print-cell Inv-loop μ-loop
-element-copy-out-print-cell c = search needs
+slot-at-requires : tie.Need-slot-at-requires Inv-loop μ-loop
+slot-at-requires c κs = search needs
 
 print-cell-requires : tie.Need-print-cell-requires Inv-loop μ-loop
 print-cell-requires c κs = search needs
@@ -40,8 +37,7 @@ print-cells-spec =
     Inv-loop
     μ-loop
     loop-holds
-    mul-print-cell
-    element-copy-out-print-cell
+    slot-at-requires
     print-cell-requires
     add-i
     loop-less

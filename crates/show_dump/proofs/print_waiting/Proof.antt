@@ -12,11 +12,8 @@ abbrev μ-loop : tie.MeasureT-loop
 loop-holds : tie.Need-loop-holds Inv-loop μ-loop
 loop-holds c = search needs
 
-mul-print-report : tie.Need-mul-print-report Inv-loop μ-loop
-mul-print-report c = search needs
-
-element-copy-out-print-report : tie.Need-element-copy-out-print-report Inv-loop μ-loop
-element-copy-out-print-report c = search needs
+report-at-requires : tie.Need-report-at-requires Inv-loop μ-loop
+report-at-requires c κs = search needs
 
 print-report-requires : tie.Need-print-report-requires Inv-loop μ-loop
 print-report-requires c κs = search needs
@@ -40,8 +37,7 @@ print-waiting-spec =
     Inv-loop
     μ-loop
     loop-holds
-    mul-print-report
-    element-copy-out-print-report
+    report-at-requires
     print-report-requires
     add-i
     loop-less

@@ -1,9 +1,6 @@
 -- The reports so far are added (`Adding`), and tested by what the table held before (`Belonging`).
-use mathlib.Core.Path.{_≡_}
 use Prim.Native.Nat.{_-_, _≤_}
-use lib.ListN.{length}
-use Rattle.lists.proofs.ShiftLaws.{length-mapped}
-use Rattle.rules.specs.Limits.{fullMemory}
+use Rattle.desk.specs.Held.{waitingWith}
 use Rattle.waiting.specs.Waiting.{reportsOf}
 use Rattle.sound_balance.specs.Tables.{markNew}
 use Rattle.sound_balance.proofs.TableLaws.{Adding, adding-start}
@@ -13,22 +10,16 @@ use Rattle.sound_balance.proofs.tally_new.Statement.{statement}
 use Rattle.sound_balance.proofs.tally_new.Tie as tie
 
 abbrev Inv-loop : tie.InvT-loop
-Inv-loop balance₀ w n so₀ i₀ balance so i = (i ≤ w .n) × (length (w .rows) ≡ fullMemory) × Adding markNew balance₀ (reportsOf w) i balance × Belonging balance₀ (reportsOf w) i so balance
+Inv-loop waiting n balance₀ so₀ i₀ balance so i = (i ≤ n) × Adding markNew balance₀ (reportsOf (waitingWith n waiting)) i balance × Belonging balance₀ (reportsOf (waitingWith n waiting)) i so balance
 
 abbrev μ-loop : tie.MeasureT-loop
-μ-loop balance₀ w n so₀ i₀ balance so i = w .n - i
-
-cast-n : tie.Need-cast-n Inv-loop μ-loop
-cast-n c = search needs
+μ-loop waiting n balance₀ so₀ i₀ balance so i = n - i
 
 loop-holds : tie.Need-loop-holds Inv-loop μ-loop
-loop-holds c = (search needs, search length-mapped, search adding-start, search belonging-start)
+loop-holds c = (search needs, search adding-start, search belonging-start)
 
-mul-x : tie.Need-mul-x Inv-loop μ-loop
-mul-x c = search needs
-
-element-copy-out-x : tie.Need-element-copy-out-x Inv-loop μ-loop
-element-copy-out-x c = search needs
+report-at-requires : tie.Need-report-at-requires Inv-loop μ-loop
+report-at-requires c κs = search needs
 
 radio-index-requires : tie.Need-radio-index-requires Inv-loop μ-loop
 radio-index-requires c κs = search new-radio
@@ -61,7 +52,7 @@ loop-less : tie.Need-loop-less Inv-loop μ-loop
 loop-less c = search needs
 
 loop-again : tie.Need-loop-again Inv-loop μ-loop
-loop-again c = (search needs, search needs, search new-turn, search belonging-turn)
+loop-again c = (search needs, search new-turn, search belonging-turn)
 
 returns : tie.Need-returns Inv-loop μ-loop
 returns c = (search new-end, search belonging-end)
@@ -72,10 +63,8 @@ tally-new-spec =
     (tie.spec
     Inv-loop
     μ-loop
-    cast-n
     loop-holds
-    mul-x
-    element-copy-out-x
+    report-at-requires
     radio-index-requires
     mul-before
     element-copy-out-before

@@ -1,26 +1,23 @@
 -- Each report so far is counted at its memory cell, and none has 8 (`FewAt`).
 use Prim.Native.Nat.{_≤_, _-_}
-use Rattle.lists.proofs.ShiftLaws.{length-mapped}
-use Rattle.boxes.proofs.StripesLaws.{Seated, seat-east, seat-north}
-use Rattle.sound_desk.proofs.FewLaws.{FewAt, few-start, few-full, few-turn, few-end}
+use Rattle.desk.specs.Held.{waitingWith}
+use Rattle.boxes.proofs.StripesLaws.{seat-east, seat-north}
+use Rattle.sound_desk.proofs.FewLaws.{seated, FewAt, few-start, few-full, few-turn, few-end}
 use borrow.Author.Needs.{needs}
 use Rattle.sound_desk.proofs.few_sound.Statement.{statement}
 use Rattle.sound_desk.proofs.few_sound.Tie as tie
 
 abbrev Inv-loop : tie.InvT-loop
-Inv-loop w at crowd₀ i₀ crowd i = (i ≤ w .n) × FewAt w at i crowd
+Inv-loop waiting n at crowd₀ i₀ crowd i = (i ≤ n) × FewAt (waitingWith n waiting) at i crowd
 
 abbrev μ-loop : tie.MeasureT-loop
-μ-loop w at crowd₀ i₀ crowd i = w .n - i
+μ-loop waiting n at crowd₀ i₀ crowd i = n - i
 
 boxes-of-requires : tie.Need-boxes-of-requires Inv-loop μ-loop
 boxes-of-requires c κs = search needs
 
 loop-holds : tie.Need-loop-holds Inv-loop μ-loop
 loop-holds c = (search needs, few-start _ _)
-
-cast-if1 : tie.Need-cast-if1 Inv-loop μ-loop
-cast-if1 c = search needs
 
 mul-box-index : tie.Need-mul-box-index Inv-loop μ-loop
 mul-box-index c = search needs
@@ -36,9 +33,9 @@ element-copy-out-box-index-2 c = search needs
 
 box-index-requires : tie.Need-box-index-requires Inv-loop μ-loop
 box-index-requires c κs =
-    let b = c .before .before .before .before .before in
+    let b = c .before .before .before .before in
     let p = b .before in
-    let s : Seated _ _ (p .args .w) (b .boxes-of .result) = record { size = search (length-mapped, p .good .1 .1 .0 .1 .1 .1 .0 .1 .0 .1); fits = p .pre .2; east-cuts = p .pre .0; north-cuts = p .pre .1; boxes = b .boxes-of .ensures } in
+    let s = seated (p .args .easts) (p .args .norths) (p .args .n) (p .args .waiting .now) (p .pre) (b .boxes-of .ensures) in
     (seat-east s (search needs), seat-north s (search needs))
 
 mul-others : tie.Need-mul-others Inv-loop μ-loop
@@ -49,10 +46,10 @@ array-read-others c = search needs
 
 returns : tie.Need-returns Inv-loop μ-loop
 returns c =
-    let l = c .before .before .before .before .before .before in
+    let l = c .before .before .before .before .before in
     let b = l .before in
     let p = b .before in
-    let s : Seated _ _ (p .args .w) (b .boxes-of .result) = record { size = search (length-mapped, p .good .1 .1 .0 .1 .1 .1 .0 .1 .0 .1); fits = p .pre .2; east-cuts = p .pre .0; north-cuts = p .pre .1; boxes = b .boxes-of .ensures } in
+    let s = seated (p .args .easts) (p .args .norths) (p .args .n) (p .args .waiting .now) (p .pre) (b .boxes-of .ensures) in
     few-full s (l .loop .inv .1 .so _ _ s) (search needs) (c .before .box-index .ensures .0) (search needs)
 
 add-crowd : tie.Need-add-crowd Inv-loop μ-loop
@@ -75,10 +72,10 @@ loop-again c = (search needs, search few-turn)
 
 returns-2 : tie.Need-returns-2 Inv-loop μ-loop
 returns-2 c =
-    let l = c .before .before in
+    let l = c .before in
     let b = l .before in
     let p = b .before in
-    let s : Seated _ _ (p .args .w) (b .boxes-of .result) = record { size = search (length-mapped, p .good .1 .1 .0 .1 .1 .1 .0 .1 .0 .1); fits = p .pre .2; east-cuts = p .pre .0; north-cuts = p .pre .1; boxes = b .boxes-of .ensures } in
+    let s = seated (p .args .easts) (p .args .norths) (p .args .n) (p .args .waiting .now) (p .pre) (b .boxes-of .ensures) in
     few-end s (l .loop .inv .1 .so _ _ s) (search needs)
 
 pub few-sound-spec : {M : Type 1} → statement M
@@ -89,7 +86,6 @@ few-sound-spec =
     μ-loop
     boxes-of-requires
     loop-holds
-    cast-if1
     mul-box-index
     element-copy-out-box-index
     mul-box-index-2

@@ -1,28 +1,22 @@
 -- Each number so far has set its own mark (`Marked`).
 use Prim.Native.Nat.{_≤_, _-_}
-use Rattle.lists.proofs.ShiftLaws.{length-mapped}
+use Rattle.desk.specs.Held.{directoryIn}
 use Rattle.sound_directory.proofs.DirectoryLaws.{Marked, mark-start, mark-beyond, mark-twice, mark-turn, mark-end}
 use borrow.Author.Needs.{needs}
 use Rattle.sound_directory.proofs.names_sound.Statement.{statement}
 use Rattle.sound_directory.proofs.names_sound.Tie as tie
 
 abbrev Inv-loop : tie.InvT-loop
-Inv-loop d marks₀ i₀ marks i = (i ≤ d .n) × Marked d i marks
+Inv-loop cells n marks₀ i₀ marks i = (i ≤ n) × Marked (directoryIn n cells) i marks
 
 abbrev μ-loop : tie.MeasureT-loop
-μ-loop d marks₀ i₀ marks i = d .n - i
+μ-loop cells n marks₀ i₀ marks i = n - i
 
 loop-holds : tie.Need-loop-holds Inv-loop μ-loop
-loop-holds c = (search needs, search (mark-start, length-mapped))
+loop-holds c = (search needs, search mark-start)
 
-cast-loop : tie.Need-cast-loop Inv-loop μ-loop
-cast-loop c = search needs
-
-mul-x : tie.Need-mul-x Inv-loop μ-loop
-mul-x c = search needs
-
-element-copy-out-x : tie.Need-element-copy-out-x Inv-loop μ-loop
-element-copy-out-x c = search needs
+slot-at-requires : tie.Need-slot-at-requires Inv-loop μ-loop
+slot-at-requires c κs = search needs
 
 index-requires : tie.Need-index-requires Inv-loop μ-loop
 index-requires c κs = search needs
@@ -58,9 +52,7 @@ names-sound-spec =
     Inv-loop
     μ-loop
     loop-holds
-    cast-loop
-    mul-x
-    element-copy-out-x
+    slot-at-requires
     index-requires
     returns
     array-read-if2

@@ -1,9 +1,6 @@
 -- The cells walked, with the rest of the round, are the whole (`Cells`).
-use mathlib.Core.Path.{_≡_}
 use Prim.Native.Nat.{_-_, _≤_}
-use lib.ListN.{length}
-use Rattle.lists.proofs.ShiftLaws.{length-mapped}
-use Rattle.rules.specs.Limits.{maxCells}
+use Rattle.desk.specs.Held.{directoryIn}
 use Rattle.sound_balance.specs.Tables.{judged}
 use Rattle.sound_entries.proofs.WalkLaws.{Cells, cells-start, cells-radios, cells-turn, cells-end}
 use borrow.Author.Needs.{needs}
@@ -11,22 +8,16 @@ use Rattle.sound_entries.proofs.tally_cells.Statement.{statement}
 use Rattle.sound_entries.proofs.tally_cells.Tie as tie
 
 abbrev Inv-loop : tie.InvT-loop
-Inv-loop pages words lines balance₀ cells counts₀ n i₀ balance counts i = (i ≤ cells .n) × (length (cells .slots) ≡ maxCells) × Cells (judged words lines) pages cells balance₀ balance counts i
+Inv-loop pages cells n words lines balance₀ counts₀ i₀ balance counts i = (i ≤ n) × Cells (judged words lines) pages (directoryIn n cells) balance₀ balance counts i
 
 abbrev μ-loop : tie.MeasureT-loop
-μ-loop pages words lines balance₀ cells counts₀ n i₀ balance counts i = cells .n - i
-
-cast-n : tie.Need-cast-n Inv-loop μ-loop
-cast-n c = search needs
+μ-loop pages cells n words lines balance₀ counts₀ i₀ balance counts i = n - i
 
 loop-holds : tie.Need-loop-holds Inv-loop μ-loop
-loop-holds c = (search needs, search length-mapped, search (cells-start, needs))
+loop-holds c = (search needs, search (cells-start, needs))
 
-mul-s : tie.Need-mul-s Inv-loop μ-loop
-mul-s c = search needs
-
-element-copy-out-s : tie.Need-element-copy-out-s Inv-loop μ-loop
-element-copy-out-s c = search needs
+slot-at-requires : tie.Need-slot-at-requires Inv-loop μ-loop
+slot-at-requires c κs = search needs
 
 tally-chain-requires : tie.Need-tally-chain-requires Inv-loop μ-loop
 tally-chain-requires c κs = (search needs, search cells-radios)
@@ -44,10 +35,10 @@ loop-less : tie.Need-loop-less Inv-loop μ-loop
 loop-less c = search needs
 
 loop-again : tie.Need-loop-again Inv-loop μ-loop
-loop-again c = (search needs, search needs, search cells-turn)
+loop-again c = (search needs, search cells-turn)
 
 returns : tie.Need-returns Inv-loop μ-loop
-returns c = cells-end _ (c .before .loop .inv .2) (c .before .loop .inv .0) (c .loop-test .left)
+returns c = cells-end _ (c .before .loop .inv .1) (c .before .loop .inv .0) (c .loop-test .left)
 
 pub tally-cells-spec : {M : Type 1} → statement M
 tally-cells-spec =
@@ -55,10 +46,8 @@ tally-cells-spec =
     (tie.spec
     Inv-loop
     μ-loop
-    cast-n
     loop-holds
-    mul-s
-    element-copy-out-s
+    slot-at-requires
     tally-chain-requires
     mul-counts
     array-write-counts

@@ -1,6 +1,7 @@
 use Rattle.lists.proofs.SlotsLaws.{stops}
 use Rattle.sound_grid.proofs.TileLaws.{raised-size, tile-end}
 use borrow.Author.Needs.{needs}
+use borrow.Author.Needs.{needs}
 use Rattle.sound_grid.proofs.cells_sound.Statement.{statement}
 use Rattle.sound_grid.proofs.cells_sound.Tie as tie
 

@@ -1,6 +1,7 @@
 use Rattle.lists.proofs.SlotsLaws.{passed-true}
 use Rattle.sound_grid.proofs.SoundLaws.{cuts-room, cells-room, grid-east, grid-north, grid-cells, grid-tile}
 use borrow.Author.Needs.{needs}
+use borrow.Author.Needs.{needs}
 use Rattle.sound_grid.proofs.grid_sound.Statement.{statement}
 use Rattle.sound_grid.proofs.grid_sound.Tie as tie
 
@@ -28,9 +29,10 @@ cells-sound-requires c κs =
     let east = north .before .before in (
       search cuts-room,
       search cuts-room,
-      search cells-room,
+      cells-room _ _ (c .before .directory-sound .ensures) (c .if3 .left),
       passed-true (east .before .cuts-sound .ensures) (east .if1 .left),
       passed-true (north .before .cuts-sound2 .ensures) (north .if2 .left),
+      search needs,
     )
 
 returns-4 : tie.Need-returns-4

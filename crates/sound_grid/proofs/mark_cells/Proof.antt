@@ -2,8 +2,10 @@
 use mathlib.Core.Path.{_≡_}
 use Prim.Native.Nat.{_-_, _≤_}
 use lib.ListN.{length}
-use Rattle.lists.proofs.ShiftLaws.{length-mapped}
+use Rattle.desk.specs.Held.{directoryIn}
+use Rattle.desk.specs.Views.{everySlot}
 use Rattle.boxes.specs.Boxes.{tableSize}
+use Rattle.desk.proofs.SlotsLaws.{length-slots}
 use Rattle.sound_grid.proofs.LoopLaws.{Passes, pass-start}
 use Rattle.sound_grid.proofs.GridLaws.{edged, edges-fail, edges-turn, edges-end}
 use Rattle.sound_grid.proofs.TileLaws.{raised-not, raised-size, Marked, marked-start, marked-turn, marked-end}
@@ -12,22 +14,16 @@ use Rattle.sound_grid.proofs.mark_cells.Statement.{statement}
 use Rattle.sound_grid.proofs.mark_cells.Tie as tie
 
 abbrev Inv-loop : tie.InvT-loop
-Inv-loop easts norths table₀ d i₀ table i = (i ≤ d .n) × (length table ≡ tableSize) × Passes (edged easts norths) (d .slots) (d .n) i × Marked easts norths d table₀ i table
+Inv-loop easts norths cells n table₀ i₀ table i = (i ≤ n) × (length table ≡ tableSize) × Passes (edged easts norths) (everySlot cells) n i × Marked easts norths (directoryIn n cells) table₀ i table
 
 abbrev μ-loop : tie.MeasureT-loop
-μ-loop easts norths table₀ d i₀ table i = d .n - i
+μ-loop easts norths cells n table₀ i₀ table i = n - i
 
 loop-holds : tie.Need-loop-holds Inv-loop μ-loop
-loop-holds c = (search needs, search needs, search (pass-start, length-mapped), search (marked-start, length-mapped))
+loop-holds c = (search needs, search needs, search (pass-start, length-slots), search marked-start)
 
-cast-loop : tie.Need-cast-loop Inv-loop μ-loop
-cast-loop c = search needs
-
-mul-mark-slot : tie.Need-mul-mark-slot Inv-loop μ-loop
-mul-mark-slot c = search needs
-
-element-copy-out-mark-slot : tie.Need-element-copy-out-mark-slot Inv-loop μ-loop
-element-copy-out-mark-slot c = search needs
+slot-at-requires : tie.Need-slot-at-requires Inv-loop μ-loop
+slot-at-requires c κs = search needs
 
 mark-slot-requires : tie.Need-mark-slot-requires Inv-loop μ-loop
 mark-slot-requires c κs = search needs
@@ -54,9 +50,7 @@ mark-cells-spec =
     Inv-loop
     μ-loop
     loop-holds
-    cast-loop
-    mul-mark-slot
-    element-copy-out-mark-slot
+    slot-at-requires
     mark-slot-requires
     returns
     add-i

@@ -1,6 +1,6 @@
-use Rattle.lists.proofs.ShiftLaws.{length-mapped}
-use borrow.Author.Needs.{needs}
 use Rattle.sound_pages.proofs.WalkLaws.{sound-short, sound-many, sound-no-cells, sound-no-chain, sound-all}
+use borrow.Author.Needs.{needs}
+use borrow.Author.Needs.{needs}
 use Rattle.sound_pages.proofs.pages_sound.Statement.{statement}
 use Rattle.sound_pages.proofs.pages_sound.Tie as tie
 
@@ -10,11 +10,8 @@ mul-if1 c = search needs
 returns : tie.Need-returns
 returns c = sound-short _ _ _ (c .if1 .taken)
 
-cast-if2 : tie.Need-cast-if2
-cast-if2 c = search needs
-
 returns-2 : tie.Need-returns-2
-returns-2 c = sound-many _ _ _ (search length-mapped) (c .if2 .taken)
+returns-2 c = sound-many _ _ _ (c .before .before .before .pre) (c .if2 .taken)
 
 no-marks-requires : tie.Need-no-marks-requires
 no-marks-requires c κs = search needs
@@ -26,8 +23,8 @@ returns-3 : tie.Need-returns-3
 returns-3 c =
     let w = c .before in
     let k = w .before .before .before in
-    let l = k .before .before in
-    sound-no-cells _ _ _ (search (length-mapped, l .before .before .good .1 .0 .1 .1 .1 .0 .1 .0 .1)) (λ i. l .before .shared-slice-known .given i .fits) (l .if1 .left) (k .if2 .left) (w .before .before .no-marks .ensures) (w .walk-slots .ensures) (c .if3 .taken)
+    let l = k .before in
+    sound-no-cells _ _ _ (l .before .before .pre) (λ i. l .before .shared-slice-known .given i .fits) (l .if1 .left) (k .if2 .left) (w .before .before .no-marks .ensures) (w .walk-slots .ensures) (c .if3 .taken)
 
 walk-free-requires : tie.Need-walk-free-requires
 walk-free-requires c κs = search needs
@@ -37,8 +34,8 @@ returns-4 c =
     let e = c .before .before .before in
     let w = e .before in
     let k = w .before .before .before in
-    let l = k .before .before in
-    sound-no-chain _ _ _ (search (length-mapped, l .before .before .good .1 .0 .1 .1 .1 .0 .1 .0 .1)) (λ i. l .before .shared-slice-known .given i .fits) (l .if1 .left) (k .if2 .left) (w .before .before .no-marks .ensures) (w .walk-slots .ensures) (e .if3 .left) (c .before .walk-free .ensures) (c .if4 .taken)
+    let l = k .before in
+    sound-no-chain _ _ _ (l .before .before .pre) (λ i. l .before .shared-slice-known .given i .fits) (l .if1 .left) (k .if2 .left) (w .before .before .no-marks .ensures) (w .walk-slots .ensures) (e .if3 .left) (c .before .walk-free .ensures) (c .if4 .taken)
 
 all-marked-requires : tie.Need-all-marked-requires
 all-marked-requires c κs = search needs
@@ -49,8 +46,8 @@ returns-5 c =
     let e = f .before .before .before in
     let w = e .before in
     let k = w .before .before .before in
-    let l = k .before .before in
-    sound-all _ _ _ (search (length-mapped, l .before .before .good .1 .0 .1 .1 .1 .0 .1 .0 .1)) (λ i. l .before .shared-slice-known .given i .fits) (l .if1 .left) (k .if2 .left) (w .before .before .no-marks .ensures) (w .walk-slots .ensures) (e .if3 .left) (f .before .walk-free .ensures) (f .if4 .left) (c .all-marked .ensures)
+    let l = k .before in
+    sound-all _ _ _ (l .before .before .pre) (λ i. l .before .shared-slice-known .given i .fits) (l .if1 .left) (k .if2 .left) (w .before .before .no-marks .ensures) (w .walk-slots .ensures) (e .if3 .left) (f .before .walk-free .ensures) (f .if4 .left) (c .all-marked .ensures)
 
 pub pages-sound-spec : {M : Type 1} → statement M
 pages-sound-spec =
@@ -58,7 +55,6 @@ pages-sound-spec =
     (tie.spec
     mul-if1
     returns
-    cast-if2
     returns-2
     no-marks-requires
     walk-slots-requires

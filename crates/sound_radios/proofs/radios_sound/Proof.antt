@@ -1,5 +1,5 @@
 -- What desk and pages have shown lets the tables be filled (`Known`); then the low halves show who is on, and the table is settled, and the inequality holds, exactly if the entries pass.
-use Rattle.lists.proofs.ShiftLaws.{length-mapped}
+use Rattle.desk.specs.Held.{deskWith}
 use Rattle.sound_radios.proofs.KnownLaws.{Known, known}
 use Rattle.sound_radios.proofs.TestLaws.{blank-zeros}
 use Rattle.sound_radios.proofs.SoundLaws.{on-asks, lines-asks, new-asks, cells-asks, bound-asks, radios-off, radios-fail, radios-bound}
@@ -16,30 +16,45 @@ use Rattle.sound_entries.proofs.tally_cells.Reads as tally-cells-reads
 use Rattle.sound_balance.proofs.tally_new.Reads as tally-new-reads
 
 shown : (s : lts.Start (on-due-reads.Asked, on-due-reads.Learnt, lines-due-reads.Asked, lines-due-reads.Learnt, tally-new-reads.Asked, tally-new-reads.Learnt, tally-cells-reads.Asked, tally-cells-reads.Learnt, all-settled-reads.Asked, all-settled-reads.Learnt, bound-ok-reads.Asked, bound-ok-reads.Learnt) reads.Pre reads.Post)
-    → Known (s .args .pages .now) (record { grid = s .args .grid; waiting = s .args .waiting; memo = record { n = s .args .n; words = s .args .words .now }; on = s .args .t6; tally = s .args .tally })
-shown s = known (s .args .pages .now) (record { grid = s .args .grid; waiting = s .args .waiting; memo = record { n = s .args .n; words = s .args .words .now }; on = s .args .t6; tally = s .args .tally }) (record { easts = search needs; norths = search needs; cells = search length-mapped; waiting = search length-mapped; memo = s .pre .0; on = search needs }) (s .pre .1) (s .pre .2)
+    → Known (s .args .pages .now) (deskWith (s .args .parts) (s .args .cells .now) (s .args .waiting .now) (s .args .memo .now) (s .args .on .now))
+shown s =
+    known (s .args .pages .now) (deskWith (s .args .parts) (s .args .cells .now) (s .args .waiting .now) (s .args .memo .now) (s .args .on .now))
+    (record { easts = search needs; norths = search needs; cells = s .pre .0; waiting = s .pre .1; memo = s .pre .2; on = s .pre .3 }) (s .pre .4) (s .pre .5)
+
+cast-n : tie.Need-cast-n
+cast-n c = search needs
+
+cast-waits : tie.Need-cast-waits
+cast-waits c = search needs
 
 cast-on-due : tie.Need-cast-on-due
 cast-on-due c = search needs
 
 on-due-requires : tie.Need-on-due-requires
-on-due-requires c κs = let a = on-asks (shown (c .before .before .before .before)) in (search needs, a .0, a .1)
+on-due-requires c κs = let start = c .before .before .before .before .before in let a = on-asks (shown start) in (start .pre .3, a .0, a .1)
 
 lines-due-requires : tie.Need-lines-due-requires
-lines-due-requires c κs = let start = c .before .before .before .before .before .before .before in let a = lines-asks (shown start) blank-zeros in (start .pre .0, a .0, a .1, a .2, a .3)
+lines-due-requires c κs =
+    let start = c .before .before .before .before .before .before .before .before in
+    let a = lines-asks (shown start) blank-zeros in
+    (start .pre .2, a .0, a .1, a .2, a .3)
 
 tally-new-requires : tie.Need-tally-new-requires
-tally-new-requires c κs = new-asks (shown (c .before .before .before .before .before .before .before .before .before))
+tally-new-requires c κs = let start = c .before .before .before .before .before .before .before .before .before .before in new-asks (shown start) (start .pre .1)
 
 returns : tie.Need-returns
 returns c =
     let n = c .before in
     let l = n .before .before in
     let o = l .before .before .before in
-    radios-off (shown (o .before .before .before .before .before)) blank-zeros (o .on-due .ensures) (l .lines-due .ensures .0) (n .tally-new .ensures .1) (c .if1 .taken)
+    let start = o .before .before .before .before .before .before in
+    radios-off (shown start) blank-zeros (o .on-due .ensures) (l .lines-due .ensures .0) (n .tally-new .ensures .1) (c .if1 .taken)
 
 tally-cells-requires : tie.Need-tally-cells-requires
-tally-cells-requires c κs = let l = c .before .before .before .before .before in cells-asks (shown (l .before .before .before .before .before .before .before .before)) (l .lines-due .ensures .1)
+tally-cells-requires c κs =
+    let l = c .before .before .before .before .before in
+    let start = l .before .before .before .before .before .before .before .before .before in
+    cells-asks (shown start) (start .pre .0) (l .lines-due .ensures .1)
 
 all-settled-requires : tie.Need-all-settled-requires
 all-settled-requires c κs = search needs
@@ -51,30 +66,31 @@ returns-2 c =
     let n = i .before in
     let l = n .before .before in
     let o = l .before .before .before in
-    radios-fail (shown (o .before .before .before .before .before)) blank-zeros (o .on-due .ensures) (l .lines-due .ensures .0) (n .tally-new .ensures .1) (i .if1 .left) _ (l .lines-due .ensures .2) (n .tally-new .ensures .0) (t .tally-cells .ensures .0) (t .tally-cells .ensures .1) (c .before .all-settled .ensures) (c .if2 .taken)
-
-cast-bound-ok : tie.Need-cast-bound-ok
-cast-bound-ok c = search needs
-
-cast-bound-ok-2 : tie.Need-cast-bound-ok-2
-cast-bound-ok-2 c = search needs
+    let start = o .before .before .before .before .before .before in
+    radios-fail (shown start) blank-zeros (o .on-due .ensures) (l .lines-due .ensures .0) (n .tally-new .ensures .1) (i .if1 .left) _ (l .lines-due .ensures .2) (n .tally-new .ensures .0) (t .tally-cells .ensures .0) (t .tally-cells .ensures .1) (c .before .all-settled .ensures) (c .if2 .taken)
 
 bound-ok-requires : tie.Need-bound-ok-requires
-bound-ok-requires c κs = bound-asks (shown (c .before .before .before .before .before .before .before .before .before .before .before .before .before .before .before .before .before .before .before))
+bound-ok-requires c κs =
+    let o = c .before .before .before .before .before .before .before .before .before .before .before .before in
+    let start = o .before .before .before .before .before .before in
+    bound-asks (shown start)
 
 returns-3 : tie.Need-returns-3
 returns-3 c =
-    let t = c .before .before .before .before .before .before in
+    let t = c .before .before .before .before in
     let i = t .before .before .before in
     let n = i .before in
     let l = n .before .before in
     let o = l .before .before .before in
-    radios-bound (shown (o .before .before .before .before .before)) blank-zeros (o .on-due .ensures) (l .lines-due .ensures .0) (n .tally-new .ensures .1) (i .if1 .left) _ (l .lines-due .ensures .2) (n .tally-new .ensures .0) (t .tally-cells .ensures .0) (t .tally-cells .ensures .1) (c .before .before .before .before .all-settled .ensures) (c .before .before .before .if2 .left) (c .bound-ok .ensures)
+    let start = o .before .before .before .before .before .before in
+    radios-bound (shown start) blank-zeros (o .on-due .ensures) (l .lines-due .ensures .0) (n .tally-new .ensures .1) (i .if1 .left) _ (l .lines-due .ensures .2) (n .tally-new .ensures .0) (t .tally-cells .ensures .0) (t .tally-cells .ensures .1) (c .before .before .all-settled .ensures) (c .before .if2 .left) (c .bound-ok .ensures)
 
 pub radios-sound-spec : {M : Type 1} → statement M
 radios-sound-spec =
     tie.close
     (tie.spec
+    cast-n
+    cast-waits
     cast-on-due
     on-due-requires
     lines-due-requires
@@ -83,7 +99,5 @@ radios-sound-spec =
     tally-cells-requires
     all-settled-requires
     returns-2
-    cast-bound-ok
-    cast-bound-ok-2
     bound-ok-requires
     returns-3)

@@ -1,7 +1,8 @@
 -- The lines before `at` are of radios below: `at` has not come past the rank.
 use Prim.Native.Nat.{_-_, _≤_}
 use Rattle.lists.specs.Rows.{rank}
-use Rattle.memo.specs.Memo.{memoIn, linesOf}
+use Rattle.desk.specs.Held.{memoIn}
+use Rattle.memo.specs.Memo.{linesOf}
 use Rattle.memo.proofs.MemoLaws.{whole-size}
 use Rattle.sweep.proofs.LinesLaws.{walk-inside, walk-past, walk-here, walk-on}
 use borrow.Author.Needs.{needs}

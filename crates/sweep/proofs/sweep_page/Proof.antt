@@ -6,7 +6,8 @@ use Rattle.lists.specs.Parts.{tab}
 use Rattle.page.specs.Page.{entryAt, entries}
 use Rattle.page.specs.Buffer.{pageAt}
 use Rattle.page.proofs.ChainLaws.{there-bounds}
-use Rattle.memo.specs.Memo.{memoIn, linesOf}
+use Rattle.desk.specs.Held.{memoIn}
+use Rattle.memo.specs.Memo.{linesOf}
 use Rattle.sweep.specs.Sweep.{Roomy, stateOf, walked, Ready}
 use Rattle.sweep.proofs.SweepLaws.{page-few, page-start, page-ahead, page-turn, page-end}
 use borrow.Author.Needs.{needs}

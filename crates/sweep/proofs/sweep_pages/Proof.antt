@@ -4,7 +4,8 @@ use Prim.Native.Nat.{_-_, _≤_}
 use lib.ListN.{length, take}
 use Rattle.terms.specs.Terms.{pages}
 use Rattle.page.specs.Buffer.{pagesOf, entriesOn}
-use Rattle.memo.specs.Memo.{memoIn, linesOf}
+use Rattle.desk.specs.Held.{memoIn}
+use Rattle.memo.specs.Memo.{linesOf}
 use Rattle.sweep.specs.Sweep.{Roomy, stateOf, walked, Ready}
 use Rattle.sweep.proofs.SweepLaws.{chain-begins, chain-start, page-there, chain-ready, chain-turn, chain-end}
 use borrow.Author.Needs.{needs}

@@ -1,0 +1,40 @@
+use Rattle.sound_rows.proofs.ColumnsLaws.{reports-fall, reports-marked}
+use borrow.Author.Needs.{needs}
+use borrow.Author.Needs.{needs}
+use Rattle.sound_rows.proofs.reports_ok.Statement.{statement}
+use Rattle.sound_rows.proofs.reports_ok.Tie as tie
+
+column-requires : tie.Need-column-requires
+column-requires c κs = search needs
+
+rises-requires : tie.Need-rises-requires
+rises-requires c κs = search needs
+
+returns : tie.Need-returns
+returns c =
+    let s = c .before .before .before in
+    reports-fall (s .before .args .waiting .now) (s .before .pre .1) (λ i. s .shared-slice-known .given i .fits) _ (s .before .pre .0) (c .before .before .column .ensures .0) (c .before .rises .ensures) (c .if1 .taken)
+
+column-requires-2 : tie.Need-column-requires-2
+column-requires-2 c κs = search needs
+
+are-marks-requires : tie.Need-are-marks-requires
+are-marks-requires c κs = search needs
+
+returns-2 : tie.Need-returns-2
+returns-2 c =
+    let r = c .before .before .before in
+    let s = r .before .before in
+    reports-marked (s .before .args .waiting .now) (s .before .pre .1) (λ i. s .shared-slice-known .given i .fits) _ (s .before .pre .0) (r .before .column .ensures .0) (r .rises .ensures)
+    (c .before .before .if1 .left) (c .before .column2 .ensures .0) (c .are-marks .ensures)
+
+pub reports-ok-spec : {M : Type 1} → statement M
+reports-ok-spec =
+    tie.close
+    (tie.spec
+    column-requires
+    rises-requires
+    returns
+    column-requires-2
+    are-marks-requires
+    returns-2)
