@@ -15,8 +15,7 @@ use Rattle.lists.proofs.AmongLaws.{each-among}
 use Rattle.lists.proofs.RowsLaws.{rising-filter}
 use Rattle.lists.proofs.SumsLaws.{sum-cons, sum-middle, length-middle, length-filter-not}
 use Rattle.lists.proofs.TestsLaws.{each-middle}
-use Rattle.entries.specs.declared.Entries.{Entries}
-use Rattle.entries.specs.Entries.{rowsOf}
+use Rattle.entries.specs.Entries.{tableWith, tableWords, rowsOf}
 use Rattle.page.specs.declared.Chain.{Chain}
 use Rattle.page.specs.Buffer.{there, pagesOf, chainFrom, entriesOn}
 use Rattle.rules.specs.Limits.{maxCells}
@@ -130,35 +129,41 @@ module _ {frame : Frame} {rest : List ℕ} {d : Slot} {k : ℕ} {chain : List �
     from-first : pagesOf other ≡ chainFrom pages b (firstOf noPage (m .chain))
     from-first = read-first ∙ ap (λ (y : Slot). chainFrom pages b (y .first)) slot-m
 
-    pub near-asks : other .n ≤ pages
+    pub near-asks : (table : List ℕ) → other .n ≤ pages → length table ≡ tableWords
         → (other .n ≤ pages) × Each (λ p. there b p ≡ true) (pagesOf other) × Rising 0 (entriesOn b (pagesOf other)) × Whole memo × (memo .n ≤ lineSlots) × Rising 0 (linesOf memo) × (length (sweptEntries (linesOf memo) (entriesOn b (pagesOf other))) ≤ maxOn)
-    near-asks n = cell-asks near-swept other memo from-first (x .midway .laid .memo-is) n (midway-lines (x .midway)) (x .midway .mid .books .memo-rises)
+        × (length table ≡ tableWords)
+    near-asks table n l = cell-asks near-swept other memo from-first (x .midway .laid .memo-is) table n (midway-lines (x .midway)) (x .midway .mid .books .memo-rises) l
 
     pub other-is : pagesOf other ≡ m .chain
     other-is = from-first ∙ near-swept .read
 
-    module _ (stay : Entries) {after : Memo} (said : (rowsOf stay ≡ sweptEntries (linesOf memo) (entriesOn b (pagesOf other))) × (stay .n ≡ length (sweptEntries (linesOf memo) (entriesOn b (pagesOf other)))) × (after ≡ memoOf (sweptMemo (linesOf memo) (entriesOn b (pagesOf other))))) where
-      gives : (rowsOf stay ≡ swept (f .store .memo) m .entries) × (stay .n ≡ length (swept (f .store .memo) m .entries)) × (after ≡ memoOf (sweptMemo (f .store .memo) (m .entries)))
-      gives = cell-gives near-swept other memo from-first (x .midway .laid .memo-is) stay said
+    module _ (n : ℕ) (us : List ℕ) {after : Memo} (said : (rowsOf (tableWith n us) ≡ sweptEntries (linesOf memo) (entriesOn b (pagesOf other))) × (n ≡ length (sweptEntries (linesOf memo) (entriesOn b (pagesOf other)))) × (after ≡ memoOf (sweptMemo (linesOf memo) (entriesOn b (pagesOf other)))) × (length us ≡ tableWords)) where
+      abbrev stay : Rows Fix
+      stay = rowsOf (tableWith n us)
 
-      pub stays : rowsOf stay ≡ sweptEntries (f .store .memo) (m .entries)
+      gives : (stay ≡ swept (f .store .memo) m .entries) × (n ≡ length (swept (f .store .memo) m .entries)) × (after ≡ memoOf (sweptMemo (f .store .memo) (m .entries))) × (length us ≡ tableWords)
+      gives = cell-gives near-swept other memo from-first (x .midway .laid .memo-is) n us said
+
+      pub stays : stay ≡ sweptEntries (f .store .memo) (m .entries)
       unfolding swept
       stays = gives .0
 
-      count-stays : stay .n ≤ length (m .entries)
+      count-stays : n ≤ length (m .entries)
       unfolding swept
       count-stays = omega (arith, gives .1, few-stay)
 
-      pub near-merges : (table : Entries) → table .n ≡ length (rowsOf table) → rows ≡ rowsOf table
-          → Rising 0 (rowsOf stay) × Rising 0 (rowsOf table) × (stay .n + table .n ≤ maxOn)
+      pub near-merges : (count : ℕ) (table : List ℕ) → count ≡ length (rowsOf (tableWith count table)) → rows ≡ rowsOf (tableWith count table) → length table ≡ tableWords
+          → (n + count ≤ maxOn) × (length us ≡ tableWords) × (length table ≡ tableWords) × Rising 0 stay × Rising 0 (rowsOf (tableWith count table))
       unfolding sweptEntries
-      near-merges table n e = (
+      near-merges count table c e l = (
+        omega (arith, count-stays, x .small, c, ap length e, ap length (x .midway .entered)),
+        said .3,
+        l,
         rw stays (rising-filter (λ e. not (stale (f .store .memo) e)) 0 (m .entries) (rowed .rising)),
         rw (← e, x .midway .entered) (x .midway .mid .books .cells-rowed .0 .rising),
-        omega (arith, count-stays, x .small, n, ap length e, ap length (x .midway .entered)),
       )
 
-      abbrev pub near-joins : (all : Rows Fix) → all ≡ merge (rowsOf stay) rows → BeforeJoinPages (frame .free) d chain s (pagesOf other) all b
+      abbrev pub near-joins : (all : Rows Fix) → all ≡ merge stay rows → BeforeJoinPages (frame .free) d chain s (pagesOf other) all b
       near-joins all e = record {
         flushed = f;
         old = x .midway .d;
@@ -180,7 +185,7 @@ module _ {frame : Frame} {rest : List ℕ} {d : Slot} {k : ℕ} {chain : List �
         laid = x .midway .laid .in-grid .laid;
       }
 
-      pub near-fits : (all : Rows Fix) → all ≡ merge (rowsOf stay) rows → length all ≤ maxOn
+      pub near-fits : (all : Rows Fix) → all ≡ merge stay rows → length all ≤ maxOn
       near-fits all e = omega (arith, few-joined (x .midway .mid) b (x .midway .laid .in-grid .laid) m among (x .small), x .small, ap length (e ∙ ap₂ merge stays (x .midway .entered)))
 
       noted : after ≡ memoOf (sweptMemo (f .store .memo) (m .entries))

@@ -4,7 +4,7 @@ ghost use mathlib.Core.List.{[], _∷_, _++_};
 ghost use Prim.Native.Nat.{_<_, _≤_};
 ghost use Rattle.terms.specs.Terms.{pages};
 ghost use Rattle.lists.specs.Parts.{removeAt};
-ghost use Rattle.entries.specs.Entries.{rowsOf};
+ghost use Rattle.entries.specs.Entries.{tableWith, tableWords, rowsOf};
 ghost use Rattle.page.specs.Buffer.{pagesOf};
 ghost use Rattle.rules.specs.Limits.{maxCells};
 ghost use Rattle.rules.specs.Flush.{joinedWith};
@@ -20,7 +20,7 @@ use cell_last::Reshaped;
 use desk::Desk;
 use desk::Frame;
 use desk::Slot;
-use entries::Entries;
+use entries::TABLE_WORDS;
 use page::Chain;
 use settle::Settled;
 
@@ -32,14 +32,15 @@ fn join_onto_d(
     chain: Chain,
     m: Slot,
     other: Chain,
-    all: Entries,
+    table: &[u16; TABLE_WORDS],
+    count: usize,
 ) -> Settled
-    requires { ⌜ HandFits chain all × (other .n ≤ pages) × (d .number < m .number)
-        × BeforeJoinPages free d (pagesOf chain) m (pagesOf other) (rowsOf all) (now buffer) ⌝ }
-    ensures { λ r. ⌜ ((x : BeforeJoinPages free d (pagesOf chain) m (pagesOf other) (rowsOf all) (now (buffer .entry)))
+    requires { ⌜ HandFits chain count (now table) × (other .n ≤ pages) × (d .number < m .number)
+        × BeforeJoinPages free d (pagesOf chain) m (pagesOf other) (rowsOf (tableWith count (now table))) (now buffer) ⌝ }
+    ensures { λ r. ⌜ ((x : BeforeJoinPages free d (pagesOf chain) m (pagesOf other) (rowsOf (tableWith count (now (table .entry)))) (now (buffer .entry)))
         → AfterJoinPages (x .flushed) (x .neighbour) r (now (buffer .exit))) ⌝ }
 {
-    let settled = settle::settle(buffer, chain, free, d.number, all);
+    let settled = settle::settle(buffer, chain, free, d.number, table, count);
     let front = settle::give_up(buffer, other, settled.free, 0);
     Settled {
         first: settled.first,
@@ -55,15 +56,16 @@ fn join_onto_m(
     chain: Chain,
     m: Slot,
     other: Chain,
-    all: Entries,
+    table: &[u16; TABLE_WORDS],
+    count: usize,
 ) -> Settled
-    requires { ⌜ HandFits chain all × (other .n ≤ pages) × (m .number ≤ d .number)
-        × BeforeJoinPages free d (pagesOf chain) m (pagesOf other) (rowsOf all) (now buffer) ⌝ }
-    ensures { λ r. ⌜ ((x : BeforeJoinPages free d (pagesOf chain) m (pagesOf other) (rowsOf all) (now (buffer .entry)))
+    requires { ⌜ HandFits chain count (now table) × (other .n ≤ pages) × (m .number ≤ d .number)
+        × BeforeJoinPages free d (pagesOf chain) m (pagesOf other) (rowsOf (tableWith count (now table))) (now buffer) ⌝ }
+    ensures { λ r. ⌜ ((x : BeforeJoinPages free d (pagesOf chain) m (pagesOf other) (rowsOf (tableWith count (now (table .entry)))) (now (buffer .entry)))
         → AfterJoinPages (x .flushed) (x .neighbour) r (now (buffer .exit))) ⌝ }
 {
     let front = settle::give_up(buffer, chain, free, 0);
-    settle::settle(buffer, other, front, m.number, all)
+    settle::settle(buffer, other, front, m.number, table, count)
 }
 
 // "The smaller number survives .. pages of the other are freed."
@@ -74,17 +76,18 @@ fn join_pages(
     chain: Chain,
     m: Slot,
     other: Chain,
-    all: Entries,
+    table: &[u16; TABLE_WORDS],
+    count: usize,
 ) -> Settled
-    requires { ⌜ HandFits chain all × (other .n ≤ pages)
-        × BeforeJoinPages free d (pagesOf chain) m (pagesOf other) (rowsOf all) (now buffer) ⌝ }
-    ensures { λ r. ⌜ ((x : BeforeJoinPages free d (pagesOf chain) m (pagesOf other) (rowsOf all) (now (buffer .entry)))
+    requires { ⌜ HandFits chain count (now table) × (other .n ≤ pages)
+        × BeforeJoinPages free d (pagesOf chain) m (pagesOf other) (rowsOf (tableWith count (now table))) (now buffer) ⌝ }
+    ensures { λ r. ⌜ ((x : BeforeJoinPages free d (pagesOf chain) m (pagesOf other) (rowsOf (tableWith count (now (table .entry)))) (now (buffer .entry)))
         → AfterJoinPages (x .flushed) (x .neighbour) r (now (buffer .exit))) ⌝ }
 {
     if d.number < m.number {
-        return join_onto_d(buffer, free, d, chain, m, other, all);
+        return join_onto_d(buffer, free, d, chain, m, other, table, count);
     }
-    join_onto_m(buffer, free, d, chain, m, other, all)
+    join_onto_m(buffer, free, d, chain, m, other, table, count)
 }
 
 // The others without the neighbour at place k, and the joined cell last: as many as before.
@@ -113,22 +116,25 @@ pub fn join(
     d: Slot,
     k: usize,
     chain: Chain,
-    table: Entries,
+    table: &mut [u16; TABLE_WORDS],
+    count: usize,
     words: &mut [u16; Desk::MEMO_WORDS],
     lines: u16,
 ) -> Reshaped
-    requires { ⌜ (chain .n ≤ pages) × (table .n ≡ length (rowsOf table))
-        × BeforeJoin frame (now rest) d k (pagesOf chain) (rowsOf table) (memoIn lines (now words)) (now buffer) ⌝ }
-    ensures { λ r. ⌜ ((x : BeforeJoin frame (now (rest .entry)) d k (pagesOf chain) (rowsOf table) (memoIn lines (now (words .entry))) (now (buffer .entry)))
+    requires { ⌜ (chain .n ≤ pages) × (count ≡ length (rowsOf (tableWith count (now table))))
+        × BeforeJoin frame (now rest) d k (pagesOf chain) (rowsOf (tableWith count (now table))) (memoIn lines (now words)) (now buffer)
+        × (length (now table) ≡ tableWords) ⌝ }
+    ensures { λ r. ⌜ ((x : BeforeJoin frame (now (rest .entry)) d k (pagesOf chain) (rowsOf (tableWith count (now (table .entry))))
+        (memoIn lines (now (words .entry))) (now (buffer .entry)))
         → LaidMemo (joinedWith (x .midway .flushed) (x .neighbour)) (gridIn (r .frame) (now (rest .exit))) (memoIn (r .lines) (now (words .exit)))
         (now (buffer .exit))) ⌝ }
 {
     let m = desk::slot_at(rest, k);
     let other = page_chain::read_chain(buffer, m.first);
-    let swept = sweep::sweep_chain(buffer, other, words, lines);
-    let stays = swept.table;
-    let all = join::merged(stays, table);
-    let ends = join_pages(buffer, frame.free, d, chain, m, other, all);
+    let mut stays = [0u16; TABLE_WORDS];
+    let swept = sweep::sweep_chain(buffer, other, words, lines, &mut stays);
+    let all = join::merged(&stays, swept.n, table, count);
+    let ends = join_pages(buffer, frame.free, d, chain, m, other, table, all);
     let n = frame.cells - 1;
     joined_cells(rest, n, k, d, m, ends.first);
     Reshaped {

@@ -10,8 +10,7 @@ use Rattle.lists.specs.Chains.{firstOf}
 use Rattle.lists.specs.Parts.{removeAt}
 use Rattle.lists.specs.Rows.{Rows}
 use Rattle.lists.specs.Tests.{Each}
-use Rattle.entries.specs.Entries.{rowsOf}
-use Rattle.entries.specs.declared.Entries.{Entries}
+use Rattle.entries.specs.Entries.{tableWith, tableWords, rowsOf}
 use Rattle.page.specs.Buffer.{bufferBytes, pagesOf, chainFrom, atNone, endFrom}
 use Rattle.page.specs.declared.Chain.{Chain}
 use Rattle.rules.specs.Limits.{maxCells}
@@ -31,7 +30,7 @@ use Rattle.settle.specs.Settle.{written, settledLeaves, settledEnds}
 use Rattle.settle.proofs.SettleLaws.{Apart, apart-cell, settled-laid, settle-asks, settle-says}
 use Rattle.cell_last.proofs.CellsLaws.{slots-with}
 use Rattle.cell_last.specs.Frames.{withCount}
-use Rattle.cell_last.specs.Settling.{BeforeSettle, SlotOut, BeforeLast, movedLast}
+use Rattle.cell_last.specs.Settling.{HandFits, BeforeSettle, SlotOut, BeforeLast, movedLast}
 
 -- a grid and pages that lay out a store lay out any other with the same cuts, cells and free chain
 pub grid-same : {g : Grid} {b : List ℕ} (s t : Store) → s .cuts ≡ t .cuts → s .cells ≡ t .cells → s .free ≡ t .free → LaidGrid s g b → LaidGrid t g b
@@ -144,10 +143,10 @@ abbrev pub settles-out : {frame : Frame} {ws : List ℕ} {at : ℕ} {chain : Lis
     → d ≡ getD (everySlot ws) at noSlot → directoryIn (frame .cells - 1) vs ≡ directoryWith (removeAt (slotsIn (directoryIn (frame .cells) ws)) at) → BeforeLast frame vs d chain rows b
 settles-out {frame} {ws} {at} x e f = record { words = ws; at = at; settles = x; out = slot-out x frame refl e f }
 
-pub loose-settles : (chain : Chain) (table : Entries) {grid : Grid} {at : ℕ} {b : List ℕ} → BeforeSettle grid at (pagesOf chain) (rowsOf table) b → chain .n ≤ pages → table .n ≤ maxOn
-    → (length b ≡ bufferBytes) × (table .n ≤ maxOn) × (chain .n ≤ pages) × Each (λ p. p < pages) (pagesOf chain) × (endFrom pages b (grid .free) ≡ atNone)
-    × (pagesFor (length (rowsOf table)) ≤ length (pagesOf chain) + length (chainFrom pages b (grid .free)))
-loose-settles chain table x n t = let q = loose-asks x in (x .laid .laid .size, t, n, q .0, q .1, q .2)
+pub loose-settles : (chain : Chain) (n : ℕ) (table : List ℕ) {grid : Grid} {at : ℕ} {b : List ℕ} → BeforeSettle grid at (pagesOf chain) (rowsOf (tableWith n table)) b → HandFits chain n table
+    → (length b ≡ bufferBytes) × (n ≤ maxOn) × (length table ≡ tableWords) × (chain .n ≤ pages) × Each (λ p. p < pages) (pagesOf chain) × (endFrom pages b (grid .free) ≡ atNone)
+    × (pagesFor (length (rowsOf (tableWith n table))) ≤ length (pagesOf chain) + length (chainFrom pages b (grid .free)))
+loose-settles chain n table x f = let q = loose-asks x in (x .laid .laid .size, f .1, f .2, f .0, q .0, q .1, q .2)
 
 -- a cell that is taken out, and then put last
 module _ {frame : Frame} {rest : List ℕ} {d : Slot} {chain : List ℕ} {rows : Rows Fix} {b : List ℕ} (x : BeforeLast frame rest d chain rows b) where
@@ -194,7 +193,7 @@ module _ {frame : Frame} {rest : List ℕ} {d : Slot} {chain : List ℕ} {rows :
         laid = rw (says .0) (settled-laid cell apart (movedLast s others cell) others [] (append-nil others) refl refl);
       }
 
-pub hand-settles : (chain : Chain) (table : Entries) {frame : Frame} {rest : List ℕ} {d : Slot} {b : List ℕ} → BeforeLast frame rest d (pagesOf chain) (rowsOf table) b → chain .n ≤ pages → table .n ≤ maxOn
-    → (length b ≡ bufferBytes) × (table .n ≤ maxOn) × (chain .n ≤ pages) × Each (λ p. p < pages) (pagesOf chain) × (endFrom pages b (frame .free) ≡ atNone)
-    × (pagesFor (length (rowsOf table)) ≤ length (pagesOf chain) + length (chainFrom pages b (frame .free)))
-hand-settles chain table x = loose-settles chain table (x .settles)
+pub hand-settles : (chain : Chain) (n : ℕ) (table : List ℕ) {frame : Frame} {rest : List ℕ} {d : Slot} {b : List ℕ} → BeforeLast frame rest d (pagesOf chain) (rowsOf (tableWith n table)) b → HandFits chain n table
+    → (length b ≡ bufferBytes) × (n ≤ maxOn) × (length table ≡ tableWords) × (chain .n ≤ pages) × Each (λ p. p < pages) (pagesOf chain) × (endFrom pages b (frame .free) ≡ atNone)
+    × (pagesFor (length (rowsOf (tableWith n table))) ≤ length (pagesOf chain) + length (chainFrom pages b (frame .free)))
+hand-settles chain n table x = loose-settles chain n table (x .settles)

@@ -5,7 +5,7 @@ use Prim.Native.Nat.{ℕ, _+_, _-_, _≤_}
 use lib.ListN.{length}
 use Rattle.terms.specs.Terms.{Fix, maxOn, pages}
 use Rattle.lists.specs.Rows.{Rows}
-use Rattle.entries.specs.declared.Entries.{Entries}
+use Rattle.entries.specs.Entries.{tableWords}
 use Rattle.page.specs.declared.Chain.{Chain}
 use Rattle.rules.specs.Limits.{maxCells, sweepEvery}
 use Rattle.rules.specs.Store.{Line, Cell, Store, withCells, withFree, pagesFor, settled, freeAfter}
@@ -20,9 +20,9 @@ use Rattle.desk.specs.Laid.{LaidGrid, LaidMemo}
 
 -- ---- a cell whose entries are at hand
 
--- a chain and a table at hand have no more pages than there are, and no more entries than there may be radios on
-abbrev pub HandFits : Chain → Entries → Type 0
-HandFits chain table = (chain .n ≤ pages) × (table .n ≤ maxOn)
+-- a chain and a table at hand, with its count and its array, have no more pages than there are, and no more entries than there may be radios on
+abbrev pub HandFits : Chain → ℕ → List ℕ → Type 0
+HandFits chain n words = (chain .n ≤ pages) × (n ≤ maxOn) × (length words ≡ tableWords)
 
 -- a cell's entries are at hand, and its old pages, which are not yet settled; the grid and the pages still have it as it was, at place `at` of the round
 pub record BeforeSettle (grid : Grid) (at : ℕ) (chain : List ℕ) (rows : Rows Fix) (bytes : List ℕ) : Type 0 where

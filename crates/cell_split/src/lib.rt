@@ -3,7 +3,7 @@ ghost use mathlib.Core.Path.{_≡_};
 ghost use mathlib.Core.List.{[], _∷_, _++_};
 ghost use Prim.Native.Nat.{_+_, _<_, _≤_};
 ghost use Rattle.lists.specs.Parts.{removeAt};
-ghost use Rattle.entries.specs.Entries.{rowsOf};
+ghost use Rattle.entries.specs.Entries.{tableWith, rowsOf};
 ghost use Rattle.page.specs.Buffer.{pagesOf};
 ghost use Rattle.rules.specs.Limits.{maxCells};
 ghost use lib.ListN.{getD};
@@ -22,7 +22,7 @@ ghost use Rattle.cell_last.specs.Settling.{HandFits};
 use desk::Desk;
 use desk::EAST;
 use desk::Frame;
-use entries::Entries;
+use entries::TABLE_WORDS;
 use page::Chain;
 use page::ChainEnd;
 use terms::PAGES;
@@ -92,33 +92,35 @@ struct Sides {
     free: u16,
 }
 
-// The two sides' entries on pages: "in a split d's chain is settled before the new cell takes".
+// The two sides' entries on pages, of which the table keeps the low side's: "in a split d's chain is settled before the new cell takes".
 fn settle_sides(
     buffer: &mut [u8],
     frame: Frame,
     cells: &[u16; Desk::CELL_WORDS],
     at: usize,
     chain: Chain,
-    table: Entries,
+    table: &mut [u16; TABLE_WORDS],
+    count: usize,
     axis: u8,
     cut: u16,
     number: u16,
 ) -> Sides
-    requires { ⌜ HandFits chain table × (number ≡ unusedOf (slotsIn (directoryIn (frame .cells) (now cells))))
-        × BeforeSplit (gridIn frame (now cells)) at (pagesOf chain) (rowsOf table) axis cut (now buffer) ⌝ }
-    ensures { λ r. ⌜ ((x : BeforeSplit (gridIn frame (now (cells .entry))) at (pagesOf chain) (rowsOf table) axis cut (now (buffer .entry)))
+    requires { ⌜ HandFits chain count (now table) × (number ≡ unusedOf (slotsIn (directoryIn (frame .cells) (now cells))))
+        × BeforeSplit (gridIn frame (now cells)) at (pagesOf chain) (rowsOf (tableWith count (now table))) axis cut (now buffer) ⌝ }
+    ensures { λ r. ⌜ ((x : BeforeSplit (gridIn frame (now (cells .entry))) at (pagesOf chain) (rowsOf (tableWith count (now (table .entry)))) axis cut
+        (now (buffer .entry)))
         → AfterSides (x .midway .flushed) (cutAt axis cut) r (now (buffer .exit))) ⌝ }
 {
     let d = desk::slot_at(cells, at);
-    let low_table = split::low_part(table, axis, cut);
-    let low = settle::settle(buffer, chain, frame.free, d.number, low_table);
-    let high_table = split::high_part(table, axis, cut);
+    let mut far = [0u16; TABLE_WORDS];
+    let parts = split::parted(table, count, axis, cut, &mut far);
+    let low = settle::settle(buffer, chain, frame.free, d.number, table, parts.low);
     let none = Chain {
         end: ChainEnd::Ended,
         n: 0,
         pages: [0; PAGES],
     };
-    let high = settle::settle(buffer, none, low.free, number, high_table);
+    let high = settle::settle(buffer, none, low.free, number, &far, parts.high);
     Sides {
         low: low.first,
         high: high.first,
@@ -133,17 +135,31 @@ pub fn split(
     cells: &mut [u16; Desk::CELL_WORDS],
     at: usize,
     chain: Chain,
-    table: Entries,
+    table: &mut [u16; TABLE_WORDS],
+    count: usize,
     axis: u8,
     cut: u16,
 ) -> Frame
-    requires { ⌜ HandFits chain table × BeforeSplit (gridIn frame (now cells)) at (pagesOf chain) (rowsOf table) axis cut (now buffer) ⌝ }
-    ensures { λ r. ⌜ ((x : BeforeSplit (gridIn frame (now (cells .entry))) at (pagesOf chain) (rowsOf table) axis cut (now (buffer .entry)))
+    requires { ⌜ HandFits chain count (now table)
+        × BeforeSplit (gridIn frame (now cells)) at (pagesOf chain) (rowsOf (tableWith count (now table))) axis cut (now buffer) ⌝ }
+    ensures { λ r. ⌜ ((x : BeforeSplit (gridIn frame (now (cells .entry))) at (pagesOf chain) (rowsOf (tableWith count (now (table .entry)))) axis cut
+        (now (buffer .entry)))
         → LaidGrid (splitAt (cutAt axis cut) (x .midway .flushed)) (gridIn r (now (cells .exit))) (now (buffer .exit))) ⌝ }
 {
     let n = frame.cells;
     let number = directory::unused_number(cells, n);
-    let sides = settle_sides(buffer, frame, cells, at, chain, table, axis, cut, number);
+    let sides = settle_sides(
+        buffer,
+        frame,
+        cells,
+        at,
+        chain,
+        table,
+        count,
+        axis,
+        cut,
+        number,
+    );
     split_cells(cells, n, at, axis, cut, number, sides.low, sides.high);
     let moved = cell_last::with_cells(frame, n + 1, sides.free);
     cut_frame(moved, axis, cut)

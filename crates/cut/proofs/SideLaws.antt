@@ -18,7 +18,7 @@ use Rattle.rules.specs.Cut.{through, longerSide}
 use Rattle.desk.specs.declared.CutList.{CutList}
 use Rattle.desk.specs.declared.Slot.{Slot}
 use Rattle.desk.specs.Views.{cutsIn, cutsBy, edgesOf, axisOf}
-use Rattle.cut.specs.Choice.{arrayAlong, below}
+use Rattle.cut.specs.Choice.{columnAlong, below}
 
 -- ---- the two directions
 
@@ -37,8 +37,8 @@ pub north-axis : axisOf 1 ≡ northward
 north-axis = axis-north 1 (λ z. omega arith)
 
 module _ (a : ℕ) (here : a ≡ 0) where
-  pub east-array : (easts norths : List ℕ) → easts ≡ arrayAlong (axisOf a) easts norths
-  east-array easts norths = rw (axis-east a here)
+  pub east-column : (easts norths : List ℕ) → easts ≡ columnAlong (axisOf a) easts norths
+  east-column easts norths = rw (axis-east a here)
 
   pub east-low : (d : Slot) → d .west ≡ spanOf (axisOf a) (edgesOf d) .low
   east-low d = rw (axis-east a here)
@@ -53,8 +53,8 @@ module _ (a : ℕ) (here : a ≡ 0) where
   east-other = rw (axis-east a here, north-axis)
 
 module _ (a : ℕ) (here : a ≡ 0 → ⊥) where
-  pub north-array : (easts norths : List ℕ) → norths ≡ arrayAlong (axisOf a) easts norths
-  north-array easts norths = rw (axis-north a here)
+  pub north-column : (easts norths : List ℕ) → norths ≡ columnAlong (axisOf a) easts norths
+  north-column easts norths = rw (axis-north a here)
 
   pub north-low : (d : Slot) → d .south ≡ spanOf (axisOf a) (edgesOf d) .low
   north-low d = rw (axis-north a here)

@@ -35,17 +35,17 @@ choiceOf NoCut = none
 unfoldable pub coordinates : Axis → Rows Fix → List ℕ
 coordinates axis rows = map (λ e. along axis (e .val)) rows
 
--- a direction's array, with the coordinates of n entries
+-- a direction's column, with the coordinates of n entries first
 abbrev pub HasFirst : ℕ → List ℕ → Type 0
 HasFirst n xs = (length xs ≡ maxOn) × (n ≤ maxOn)
 
--- of the arrays of both directions that of one, and its first n coordinates
-abbrev pub arrayAlong : Axis → List ℕ → List ℕ → List ℕ
-arrayAlong eastward eastings northings = eastings
-arrayAlong northward eastings northings = northings
+-- of the columns of both directions that of one, and its first n coordinates
+abbrev pub columnAlong : Axis → List ℕ → List ℕ → List ℕ
+columnAlong eastward eastings northings = eastings
+columnAlong northward eastings northings = northings
 
 abbrev pub coordinatesIn : ℕ → List ℕ → List ℕ → Axis → List ℕ
-coordinatesIn n eastings northings axis = take n (arrayAlong axis eastings northings)
+coordinatesIn n eastings northings axis = take n (columnAlong axis eastings northings)
 
 -- rows whose coordinates these are
 abbrev pub StandIn : ℕ → List ℕ → List ℕ → Rows Fix → Type 0

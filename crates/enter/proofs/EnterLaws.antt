@@ -17,9 +17,8 @@ use Rattle.lists.proofs.Cases.{by-cases, option-cases}
 use Rattle.lists.proofs.RowsLaws.{rising-less, rising-alter, rising-above, length-alter, length-alter-le, find-alter-other, countFound-one}
 use Rattle.lists.proofs.TestsLaws.{each-zip, firstAt-some, one-if-le}
 use Rattle.entries.specs.declared.Entry.{Entry}
-use Rattle.entries.specs.declared.Entries.{Entries}
 use Rattle.entries.specs.declared.Lookup.the-variants.{Found}
-use Rattle.entries.specs.Entries.{placeOf, rowsOf, standsAt, noRow, rowOf as entryRow}
+use Rattle.entries.specs.Entries.{placeOf, tableWith, tableWords, rowsOf, standsAt, noRow, rowOf as entryRow}
 use Rattle.entries.proofs.TableLaws.{insert-found}
 use Rattle.rules.specs.Limits.{fullMemory}
 use Rattle.rules.specs.Store.{Line, Report as StoreReport}
@@ -119,16 +118,17 @@ module _ {s t : Held} {ws : Rows StoreReport} (done : Entered s ws t) where
   entered-ready : (vs : Rows StoreReport) → Room (enterEach ws (workOf s)) vs → Enterable t vs
   entered-ready vs r = record {
     counted = done .count ∙ ap length (sym (done .table));
+    sized = done .size;
     whole = whole-is (enterEach ws (workOf s) .memo) (done .memo);
     room = subst (λ (k : Work). Room k vs) (sym entered-work) r;
   }
 
 -- ---- one report
 
-module _ (table : Entries) (lines : ℕ) (words : List ℕ) {w : Row StoreReport} (ready : Enterable (heldIn table lines words) (w ∷ [])) where
-  pub table-fits : table .n ≤ maxOn
+module _ (n : ℕ) (table : List ℕ) (lines : ℕ) (words : List ℕ) {w : Row StoreReport} (ready : Enterable (heldIn n table lines words) (w ∷ [])) where
+  pub table-fits : n ≤ maxOn
   table-fits =
-      omega (arith, ready .counted, length-entered 0 (w ∷ []) (workOf (heldIn table lines words)) (ready .room .reports-rise) (ready .room .rows-rise), ready .room .entries-fit)
+      omega (arith, ready .counted, length-entered 0 (w ∷ []) (workOf (heldIn n table lines words)) (ready .room .reports-rise) (ready .room .rows-rise), ready .room .entries-fit)
 
   pub memo-fits : lines < lineSlots
   memo-fits = omega (arith, count-is (linesOf (memoIn lines words)) (ready .whole), ready .room .lines-fit)
@@ -136,12 +136,12 @@ module _ (table : Entries) (lines : ℕ) (words : List ℕ) {w : Row StoreReport
   pub memo-within : lines ≤ lineSlots
   memo-within = omega (arith, memo-fits)
 
-module _ (table : Entries) (lines : ℕ) (words : List ℕ) (e : Report) (ready : Enterable (heldIn table lines words) (rowOf e ∷ [])) where
+module _ (n : ℕ) (table : List ℕ) (lines : ℕ) (words : List ℕ) (e : Report) (ready : Enterable (heldIn n table lines words) (rowOf e ∷ [])) where
   abbrev from : Held
-  from = heldIn table lines words
+  from = heldIn n table lines words
 
   abbrev rows : Rows Fix
-  rows = rowsOf table
+  rows = rowsOf (tableWith n table)
 
   abbrev entry : Entry
   entry = record { radio = e .radio; east = e .east; north = e .north }
@@ -159,35 +159,37 @@ module _ (table : Entries) (lines : ℕ) (words : List ℕ) (e : Report) (ready 
           ap one-if (lookup-missing (e .radio) rows lacks),
         )
 
-    pub missing-fits : table .n < maxOn
+    pub missing-fits : n < maxOn
     unfolding enterEach enter
     missing-fits = omega (arith, ready .counted, ready .room .entries-fit, grows)
 
     pub still-missing : {x : Entry} → x ≡ entry → standsAt (x .radio) rows ≡ none
     still-missing q = ap (λ (y : Entry). standsAt (y .radio) rows) q ∙ lacks
 
-    pub adds : {x : Entry} {t : Entries} {m : Memo} → x ≡ entry → rowsOf t ≡ insert (x .radio) (placeOf x) rows → t .n ≡ table .n + 1
-        → m ≡ memoOf (alter (entered false (waits e .new) (waits e .place)) (e .radio) (linesOf (memoIn lines words))) → Entered from (rowOf e ∷ []) (record { table = t; memo = m })
+    pub adds : {x : Entry} (after : List ℕ) {m : Memo} → x ≡ entry → rowsOf (tableWith (n + 1) after) ≡ insert (x .radio) (placeOf x) rows → length after ≡ tableWords
+        → m ≡ memoOf (alter (entered false (waits e .new) (waits e .place)) (e .radio) (linesOf (memoIn lines words))) → Entered from (rowOf e ∷ []) (record { table = tableWith (n + 1) after; memo = m })
     unfolding enterEach enter
-    adds q a n k = record {
+    adds after q a l k = record {
       table = a ∙ ap (λ (y : Entry). insert (y .radio) (placeOf y) rows) q;
-      count = omega (arith, n, ready .counted, grows);
+      count = omega (arith, ready .counted, grows);
+      size = l;
       memo = rw (lookup-missing (e .radio) rows lacks) k;
     }
 
   module _ {at : ℕ} (has : standsAt (e .radio) rows ≡ some at) where
-    pub found-inside : at < table .n
+    pub found-inside : at < n
     found-inside = omega (arith, ready .counted, lookup-found (e .radio) rows has .1)
 
-    pub moves : {x : Entry} {t : Entries} {m : Memo} → x ≡ entry → rowsOf t ≡ set rows at (entryRow x) → t .n ≡ table .n
-        → m ≡ memoOf (alter (placed (some place)) (e .radio) (linesOf (memoIn lines words))) → Entered from (rowOf e ∷ []) (record { table = t; memo = m })
+    pub moves : {x : Entry} (after : List ℕ) {m : Memo} → x ≡ entry → rowsOf (tableWith n after) ≡ set rows at (entryRow x) → length after ≡ tableWords
+        → m ≡ memoOf (alter (placed (some place)) (e .radio) (linesOf (memoIn lines words))) → Entered from (rowOf e ∷ []) (record { table = tableWith n after; memo = m })
     unfolding enterEach enter
-    moves {t = t} q a n k =
-        let b : rowsOf t ≡ set rows at (entryRow entry) = a ∙ ap (λ (y : Entry). set rows at (entryRow y)) q in
-        let i : rowsOf t ≡ insert (e .radio) place rows = insert-found table entry (ready .room .rows-rise) {o = Found at} (sym has) refl b in
+    moves after q a l k =
+        let b : rowsOf (tableWith n after) ≡ set rows at (entryRow entry) = a ∙ ap (λ (y : Entry). set rows at (entryRow y)) q in
+        let i : rowsOf (tableWith n after) ≡ insert (e .radio) place rows = insert-found n table entry (ready .room .rows-rise) {o = Found at} (sym has) refl b in
         record {
           table = i;
-          count = omega (arith, n, ready .counted, ap length b, length-set rows at (entryRow entry), ap length i);
+          count = omega (arith, ready .counted, ap length b, length-set rows at (entryRow entry), ap length i);
+          size = l;
           memo = rw (lookup-found (e .radio) rows has .0) k;
         }
 
@@ -227,7 +229,7 @@ module _ {n : ℕ} {vs : List ℕ} {from to : Held} {i : ℕ} (done : Entering (
     ready-here = subst (λ (l : Rows StoreReport). Enterable to l) left-next (done .ready)
 
     pub entering-ready : Enterable to (rowOf e ∷ [])
-    entering-ready = record { counted = ready-here .counted; whole = ready-here .whole; room = room-one (rowOf e) later (workOf to) (ready-here .room) }
+    entering-ready = record { counted = ready-here .counted; sized = ready-here .sized; whole = ready-here .whole; room = room-one (rowOf e) later (workOf to) (ready-here .room) }
 
     pub entering-turn : {r : Held} → Entered to (rowOf e ∷ []) r → Entering (waitingWith n vs) from (i + 1) r
     unfolding enterEach
@@ -244,5 +246,6 @@ module _ {n : ℕ} {vs : List ℕ} {from to : Held} {i : ℕ} (done : Entering (
       record {
         table = ap (λ (x : Work). x .entries) k;
         count = done .ready .counted ∙ ap (λ (x : Work). length (x .entries)) k;
+        size = done .ready .sized;
         memo = done .ready .whole ∙ ap (λ (x : Work). memoOf (x .memo)) k;
       }

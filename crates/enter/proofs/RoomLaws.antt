@@ -16,7 +16,7 @@ use Rattle.lists.proofs.AmongLaws.{sum-among}
 use Rattle.lists.proofs.RowsLaws.{rising-filter}
 use Rattle.lists.proofs.SumsLaws.{sum-cons, sum-le, length-sum, length-middle, length-filter-not}
 use Rattle.lists.proofs.TestsLaws.{each-every, one-if-le}
-use Rattle.entries.specs.Entries.{rowsOf}
+use Rattle.entries.specs.Entries.{tableWords, rowsOf}
 use Rattle.rules.specs.Limits.{fullMemory, sweepEvery}
 use Rattle.rules.specs.Grid.{inside, Cuts, Box, cornerOf}
 use Rattle.rules.specs.Store.{Report, Line, Cell, Store, missedOf}
@@ -133,14 +133,16 @@ module _ (s : Store) (d : Cell) (m : BoxAt) (taken : Waiting) (from : Held) (the
   few-taken few = omega (arith, count-laid taken _ these, length-filter-not (inBox (s .cuts) (boxIn m)) (s .waiting))
 
   pub enter-asks : {c : ℕ} → MidCall s c → c ≤ sweepEvery → cellOfBox s (boxIn m) ≡ some d → length (s .waiting) ≤ fullMemory → from .table .n ≡ length (swept (s .memo) d .entries)
+      → length (from .table .words) ≡ tableWords
       → (taken .n ≤ fullMemory) × (length (taken .words) ≡ reportFields * fullMemory) × Enterable from (reportsOf taken)
   unfolding cellOfBox
-  enter-asks {c} g late home few many =
+  enter-asks {c} g late home few many size =
       let q = cellAt-split (s .cells) (cornerOf (s .cuts) (boxIn m)) d home in (
         few-taken few,
         whole-size taken (whole-laid taken _ these) (few-taken few),
         record {
           counted = many ∙ ap length (sym rows);
+          sized = size;
           whole = whole-is (sweptMemo (s .memo) (d .entries)) held;
           room = rw (the-work, reports-laid these) (room (boxIn m) s d (g .core) (q .0) (q .1) c (g .bounded) late);
         },
@@ -148,7 +150,8 @@ module _ (s : Store) (d : Cell) (m : BoxAt) (taken : Waiting) (from : Held) (the
 
   pub enter-gives : (r : Held) → Entered from (reportsOf taken) r
       → (rowsOf (r .table) ≡ flushedInto (boxIn m) s d .cell .entries) × (r .table .n ≡ length (flushedInto (boxIn m) s d .cell .entries)) × (r .memo ≡ memoOf (flushedInto (boxIn m) s d .store .memo))
+      × (length (r .table .words) ≡ tableWords)
   unfolding flushedInto swept
   enter-gives r e =
       let k : enterEach (reportsOf taken) (workOf from) ≡ enterEach (filter (inBox (s .cuts) (boxIn m)) (s .waiting)) (record { entries = swept (s .memo) d .entries; memo = sweptMemo (s .memo) (d .entries) }) = rw (the-work, reports-laid these) in
-      (e .table ∙ ap (λ (x : Work). x .entries) k, e .count ∙ ap (λ (x : Work). length (x .entries)) k, e .memo ∙ ap (λ (x : Work). memoOf (x .memo)) k)
+      (e .table ∙ ap (λ (x : Work). x .entries) k, e .count ∙ ap (λ (x : Work). length (x .entries)) k, e .memo ∙ ap (λ (x : Work). memoOf (x .memo)) k, e .size)

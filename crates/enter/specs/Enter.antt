@@ -6,8 +6,7 @@ use lib.ListN.{length}
 use Rattle.terms.specs.Terms.{maxOn}
 use Rattle.lists.specs.Rows.{Rows, Rising, find}
 use Rattle.lists.specs.Tests.{Each}
-use Rattle.entries.specs.declared.Entries.{Entries}
-use Rattle.entries.specs.Entries.{rowsOf}
+use Rattle.entries.specs.Entries.{Entries, tableWith, tableWords, rowsOf}
 use Rattle.rules.specs.Store.{Report, missedOf}
 use Rattle.rules.specs.Flush.{Work, enterEach}
 use Rattle.desk.specs.Layout.{lineSlots, memoOf}
@@ -19,9 +18,9 @@ pub record Held : Type 0 where
   pub table : Entries
   pub memo : Memo
 
--- the same, of a memo of so many lines in these words
-abbrev pub heldIn : Entries → ℕ → List ℕ → Held
-heldIn table lines words = record { table = table; memo = memoIn lines words }
+-- the same, of a table of so many entries and a memo of so many lines in arrays that are lent
+abbrev pub heldIn : ℕ → List ℕ → ℕ → List ℕ → Held
+heldIn n table lines words = record { table = tableWith n table; memo = memoIn lines words }
 
 -- as rows
 abbrev pub workOf : Held → Work
@@ -39,6 +38,7 @@ pub record Room (k : Work) (ws : Rows Report) : Type 0 where
 -- these reports may come next: table and memo are as they are laid out, and there is room
 pub record Enterable (from : Held) (ws : Rows Report) : Type 0 where
   pub counted : from .table .n ≡ length (rowsOf (from .table))
+  pub sized : length (from .table .words) ≡ tableWords
   pub whole : Whole (from .memo)
   pub room : Room (workOf from) ws
 
@@ -46,4 +46,5 @@ pub record Enterable (from : Held) (ws : Rows Report) : Type 0 where
 pub record Entered (from : Held) (ws : Rows Report) (to : Held) : Type 0 where
   pub table : rowsOf (to .table) ≡ enterEach ws (workOf from) .entries
   pub count : to .table .n ≡ length (enterEach ws (workOf from) .entries)
+  pub size : length (to .table .words) ≡ tableWords
   pub memo : to .memo ≡ memoOf (enterEach ws (workOf from) .memo)

@@ -7,7 +7,7 @@ ghost use mathlib.Core.Path.{_≡_};
 ghost use Prim.Native.Nat.{_*_, _≤_};
 ghost use lib.ListN.{length};
 ghost use Rattle.lists.specs.Rows.{alter};
-ghost use Rattle.entries.specs.Entries.{rowsOf, standsAt};
+ghost use Rattle.entries.specs.Entries.{tableWith, rowsOf, standsAt};
 ghost use Rattle.rules.specs.Limits.{fullMemory};
 ghost use Rattle.rules.specs.Flush.{entered};
 ghost use Rattle.desk.specs.Held.{memoIn, waitingWith};
@@ -17,9 +17,9 @@ ghost use Rattle.waiting.specs.Waiting.{waits, rowOf, reportsOf};
 ghost use Rattle.enter.specs.Enter.{heldIn, Enterable, Entered};
 use desk::Desk;
 use desk::Report;
-use entries::Entries;
 use entries::Entry;
 use entries::Lookup;
+use entries::TABLE_WORDS;
 use sweep::Swept;
 
 // A report as an entry.
@@ -49,79 +49,87 @@ fn memo_added<'a>(words: &'a mut [u16; Desk::MEMO_WORDS], n: u16, report: Report
 
 // d has no entry of the radio: "add the entry".
 fn added<'a>(
-    table: Entries,
+    table: &'a mut [u16; TABLE_WORDS],
+    n: usize,
     words: &'a mut [u16; Desk::MEMO_WORDS],
     lines: u16,
     report: Report,
 ) -> Swept
-    requires { ⌜ Enterable (heldIn table lines (now words)) (rowOf report ∷ []) × (standsAt (report .radio) (rowsOf table) ≡ none) ⌝ }
-    ensures { λ r. ⌜ Entered (heldIn table lines (now (words .entry))) (rowOf report ∷ []) (heldIn (r .table) (r .lines) (now (words .exit))) ⌝ }
+    requires { ⌜ Enterable (heldIn n (now table) lines (now words)) (rowOf report ∷ [])
+        × (standsAt (report .radio) (rowsOf (tableWith n (now table))) ≡ none) ⌝ }
+    ensures { λ r. ⌜ Entered (heldIn n (now (table .entry)) lines (now (words .entry))) (rowOf report ∷ [])
+        (heldIn (r .n) (now (table .exit)) (r .lines) (now (words .exit))) ⌝ }
 {
+    entries::inserted(table, n, entry_of(report));
     Swept {
-        table: table.inserted(entry_of(report)),
+        n: n + 1,
         lines: memo_added(words, lines, report),
     }
 }
 
 // d has an entry of the radio: "it and any memo line take the new place".
 fn moved<'a>(
-    table: Entries,
+    table: &'a mut [u16; TABLE_WORDS],
+    n: usize,
     words: &'a mut [u16; Desk::MEMO_WORDS],
     lines: u16,
     at: usize,
     report: Report,
 ) -> Swept
-    requires { ⌜ Enterable (heldIn table lines (now words)) (rowOf report ∷ []) × (standsAt (report .radio) (rowsOf table) ≡ some at) ⌝ }
-    ensures { λ r. ⌜ Entered (heldIn table lines (now (words .entry))) (rowOf report ∷ []) (heldIn (r .table) (r .lines) (now (words .exit))) ⌝ }
+    requires { ⌜ Enterable (heldIn n (now table) lines (now words)) (rowOf report ∷ [])
+        × (standsAt (report .radio) (rowsOf (tableWith n (now table))) ≡ some at) ⌝ }
+    ensures { λ r. ⌜ Entered (heldIn n (now (table .entry)) lines (now (words .entry))) (rowOf report ∷ [])
+        (heldIn (r .n) (now (table .exit)) (r .lines) (now (words .exit))) ⌝ }
 {
     memo::placed(words, lines, report.radio, report.east, report.north);
-    Swept {
-        table: table.replaced(at, entry_of(report)),
-        lines,
-    }
+    entries::replaced(table, n, at, entry_of(report));
+    Swept { n, lines }
 }
 
 // One report: "if d has an entry of that radio, it and any memo line take the new place; else add the entry".
 fn enter_report<'a>(
-    table: Entries,
+    table: &'a mut [u16; TABLE_WORDS],
+    n: usize,
     words: &'a mut [u16; Desk::MEMO_WORDS],
     lines: u16,
     report: Report,
 ) -> Swept
-    requires { ⌜ Enterable (heldIn table lines (now words)) (rowOf report ∷ []) ⌝ }
-    ensures { λ r. ⌜ Entered (heldIn table lines (now (words .entry))) (rowOf report ∷ []) (heldIn (r .table) (r .lines) (now (words .exit))) ⌝ }
+    requires { ⌜ Enterable (heldIn n (now table) lines (now words)) (rowOf report ∷ []) ⌝ }
+    ensures { λ r. ⌜ Entered (heldIn n (now (table .entry)) lines (now (words .entry))) (rowOf report ∷ [])
+        (heldIn (r .n) (now (table .exit)) (r .lines) (now (words .exit))) ⌝ }
 {
-    let Lookup::Found(at) = table.lookup(report.radio) else {
-        return added(table, words, lines, report);
+    let Lookup::Found(at) = entries::look_up(table, n, report.radio) else {
+        return added(table, n, words, lines, report);
     };
-    moved(table, words, lines, at, report)
+    moved(table, n, words, lines, at, report)
 }
 
 // "For each waiting report of m": these, by rising radio.
 pub fn enter_all<'a>(
     reports: &'a [u16; Desk::WAITING_WORDS],
-    n: u16,
-    table: Entries,
+    gone: u16,
+    table: &'a mut [u16; TABLE_WORDS],
+    n: usize,
     words: &'a mut [u16; Desk::MEMO_WORDS],
     lines: u16,
 ) -> Swept
-    requires { ⌜ (n ≤ fullMemory) × (length (now reports) ≡ reportFields * fullMemory)
-        × Enterable (heldIn table lines (now words)) (reportsOf (waitingWith n (now reports))) ⌝ }
-    ensures { λ r. ⌜ Entered (heldIn table lines (now (words .entry))) (reportsOf (waitingWith n (now (reports .entry))))
-        (heldIn (r .table) (r .lines) (now (words .exit))) ⌝ }
+    requires { ⌜ (gone ≤ fullMemory) × (length (now reports) ≡ reportFields * fullMemory)
+        × Enterable (heldIn n (now table) lines (now words)) (reportsOf (waitingWith gone (now reports))) ⌝ }
+    ensures { λ r. ⌜ Entered (heldIn n (now (table .entry)) lines (now (words .entry))) (reportsOf (waitingWith gone (now (reports .entry))))
+        (heldIn (r .n) (now (table .exit)) (r .lines) (now (words .exit))) ⌝ }
 {
-    let mut all = table;
+    let mut rows = n;
     let mut notes = lines;
     let mut i: usize = 0;
-    while i < n as usize {
+    while i < gone as usize {
         let x = desk::report_at(reports, i);
-        let step = enter_report(all, words, notes, x);
-        all = step.table;
+        let step = enter_report(table, rows, words, notes, x);
+        rows = step.n;
         notes = step.lines;
         i += 1;
     }
     Swept {
-        table: all,
+        n: rows,
         lines: notes,
     }
 }

@@ -1,14 +1,14 @@
 -- The work table as rows by rising radio (01, "Records and pages": "entries of radio, east, north", "entries by rising radio").
-use mathlib.Core.List.{map}
+use mathlib.Core.List.{List, map}
 use mathlib.Core.Option.{Option, none, some}
-use Prim.Native.Nat.{ℕ}
+use Prim.Native.Nat.{ℕ, _+_, _*_, _/_}
 use lib.Dec.{eqb}
-use lib.ListN.{take}
-use Rattle.terms.specs.Terms.{Place, Fix}
+use lib.ListN.{length, getD, take}
+use Rattle.terms.specs.Terms.{Place, Fix, maxOn}
+use Rattle.lists.specs.Parts.{tab}
 use Rattle.lists.specs.Tests.{firstAt}
 use Rattle.lists.specs.Rows.{Row, Rows}
 use Rattle.entries.specs.declared.Entry.{Entry}
-use Rattle.entries.specs.declared.Entries.{Entries}
 use Rattle.entries.specs.declared.Lookup.{Lookup}
 use Rattle.entries.specs.declared.Lookup.the-variants.{Found, Missing}
 
@@ -19,13 +19,54 @@ placeOf e = record { east = e .east; north = e .north }
 abbrev pub rowOf : Entry → Row Fix
 rowOf e = record { key = e .radio; val = placeOf e }
 
--- what stands past the end of a list of rows
+-- what stands past the end of a list of entries, and of rows
+abbrev pub noEntry : Entry
+noEntry = record { radio = 0; east = 0; north = 0 }
+
 abbrev pub noRow : Row Fix
 noRow = record { key = 0; val = record { east = 0; north = 0 } }
 
+-- ---- the table
+
+-- the array, and how many of its slots are in use; what the others hold is nobody's concern
+pub record Entries : Type 0 where
+  pub n : ℕ
+  pub words : List ℕ
+
+-- the table of a count and an array that is lent
+abbrev pub tableWith : ℕ → List ℕ → Entries
+tableWith n words = record { n = n; words = words }
+
+abbrev pub entryFields : ℕ
+entryFields = 3
+
+abbrev pub tableWords : ℕ
+tableWords = entryFields * maxOn
+
+-- the entry at its place in the array, whose columns have so many slots each
+abbrev pub entryIn : ℕ → List ℕ → ℕ → Entry
+entryIn slots ws i = record {
+  radio = getD ws i 0;
+  east = getD ws (slots + i) 0;
+  north = getD ws (2 * slots + i) 0;
+}
+
+-- all entries whose fields the array has column after column, in use or not
+unfoldable pub everyEntry : List ℕ → List Entry
+everyEntry ws = tab (length ws / entryFields) (entryIn (length ws / entryFields) ws)
+
+-- the easts of all of them, and the norths
+abbrev pub eastsOf : List ℕ → List ℕ
+eastsOf ws = map (λ e. e .east) (everyEntry ws)
+
+abbrev pub northsOf : List ℕ → List ℕ
+northsOf ws = map (λ e. e .north) (everyEntry ws)
+
 -- the rows that the table holds
 unfoldable pub rowsOf : Entries → Rows Fix
-rowsOf t = map rowOf (take (t .n) (t .all))
+rowsOf t = map rowOf (take (t .n) (everyEntry (t .words)))
+
+-- ---- the lookup
 
 -- the value of each case of a lookup: at which of the rows the radio stands, or none
 abbrev pub lookupOf : Lookup → Option ℕ

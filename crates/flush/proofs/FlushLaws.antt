@@ -11,7 +11,7 @@ use Rattle.terms.specs.Terms.{Place}
 use Rattle.lists.specs.Rows.{Rows}
 use Rattle.lists.specs.Sums.{filter}
 use Rattle.lists.specs.Among.{Among}
-use Rattle.entries.specs.Entries.{rowsOf}
+use Rattle.entries.specs.Entries.{tableWith, tableWords, rowsOf}
 use Rattle.page.specs.Buffer.{pagesOf}
 use Rattle.rules.specs.Limits.{maxCells, maxCuts, fullMemory}
 use Rattle.rules.specs.Grid.{eastward, northward, inside, Cuts, Box, cornerOf}
@@ -157,27 +157,28 @@ module _ {words : List ℕ} {at : ℕ} {taken : Waiting} {memo : Memo} (m : BoxA
   }
 
   -- `swept_at` has swept it
-  module _ (hand : Hand) (ws : List ℕ) (given : (y : BeforeSweepAt words at memo b) → InHand (swept (y .store .memo) (y .cell)) (sweptMemo (y .store .memo) (y .cell .entries)) hand ws) where
+  module _ (hand : Hand) (ws table : List ℕ) (given : (y : BeforeSweepAt words at memo b) → InHand (swept (y .store .memo) (y .cell)) (sweptMemo (y .store .memo) (y .cell .entries)) hand ws table) where
     abbrev from : Held
-    from = heldIn (hand .table) (hand .lines) ws
+    from = heldIn (hand .n) table (hand .lines) ws
 
-    cell-swept : InHand (swept (store .memo) (x .cell)) (sweptMemo (store .memo) (x .cell .entries)) hand ws
+    cell-swept : InHand (swept (store .memo) (x .cell)) (sweptMemo (store .memo) (x .cell .entries)) hand ws table
     cell-swept = given home-place
 
     -- what `enter_all` asks
     pub entered-asks : (taken .n ≤ fullMemory) × (length (taken .words) ≡ reportFields * fullMemory) × Enterable from (reportsOf taken)
-    entered-asks = enter-asks store (x .cell) m taken from (x .these) (cell-swept .rows) (cell-swept .memo-is) (x .mid) (omega (arith, x .early)) (x .home) (x .few) (cell-swept .count)
+    entered-asks = enter-asks store (x .cell) m taken from (x .these) (cell-swept .rows) (cell-swept .memo-is) (x .mid) (omega (arith, x .early)) (x .home) (x .few) (cell-swept .count) (cell-swept .size)
 
     -- what it leaves
-    pub entered-gives : (r : Swept) {ws′ : List ℕ} → Entered from (reportsOf taken) (heldIn (r .table) (r .lines) ws′) → InHand (into .cell) (into .store .memo) (record { chain = hand .chain; table = r .table; lines = r .lines }) ws′
+    pub entered-gives : (r : Swept) {ws′ table′ : List ℕ} → Entered from (reportsOf taken) (heldIn (r .n) table′ (r .lines) ws′) → InHand (into .cell) (into .store .memo) (record { chain = hand .chain; n = r .n; lines = r .lines }) ws′ table′
     unfolding flushedInto swept
-    entered-gives r {ws′} e =
-        let k = enter-gives store (x .cell) m taken from (x .these) (cell-swept .rows) (cell-swept .memo-is) (heldIn (r .table) (r .lines) ws′) e in
+    entered-gives r {ws′} {table′} e =
+        let k = enter-gives store (x .cell) m taken from (x .these) (cell-swept .rows) (cell-swept .memo-is) (heldIn (r .n) table′ (r .lines) ws′) e in
         record {
           bound = cell-swept .bound;
           chained = cell-swept .chained;
           few = omega (arith, e .count, entered-asks .2 .room .entries-fit);
           count = k .1;
+          size = k .3;
           rows = k .0;
           memo-is = k .2;
         }
@@ -202,8 +203,8 @@ module _ {words : List ℕ} {at : ℕ} {taken : Waiting} {memo : Memo} (m : BoxA
       (omega (arith, waiting-flushed (boxIn m) store (x .cell) k among home-inside, x .few))
 
   -- `entered` has entered the reports
-  module _ (hand : Hand) (ws : List ℕ) (given : (y : BeforeEnter words at taken memo (boxIn m) b) → InHand (flushedInto (boxIn m) (y .store) (y .cell) .cell) (flushedInto (boxIn m) (y .store) (y .cell) .store .memo) hand ws) where
-    midway : BeforeReshape grid at (pagesOf (hand .chain)) (rowsOf (hand .table)) (memoIn (hand .lines) ws) b
+  module _ (hand : Hand) (ws table : List ℕ) (given : (y : BeforeEnter words at taken memo (boxIn m) b) → InHand (flushedInto (boxIn m) (y .store) (y .cell) .cell) (flushedInto (boxIn m) (y .store) (y .cell) .store .memo) hand ws table) where
+    midway : BeforeReshape grid at (pagesOf (hand .chain)) (rowsOf (tableWith (hand .n) table)) (memoIn (hand .lines) ws) b
     midway =
         let i = given x in
         record {
@@ -223,12 +224,12 @@ module _ {words : List ℕ} {at : ℕ} {taken : Waiting} {memo : Memo} (m : BoxA
         }
 
     -- what `reshape` asks
-    reshape-asks : HandFits (hand .chain) (hand .table) × (hand .table .n ≡ length (rowsOf (hand .table))) × BeforeReshape grid at (pagesOf (hand .chain)) (rowsOf (hand .table)) (memoIn (hand .lines) ws) b
-    reshape-asks = let i = given x in ((i .bound, i .few), i .count ∙ ap length (sym (i .rows)), midway)
+    reshape-asks : HandFits (hand .chain) (hand .n) table × (hand .n ≡ length (rowsOf (tableWith (hand .n) table))) × BeforeReshape grid at (pagesOf (hand .chain)) (rowsOf (tableWith (hand .n) table)) (memoIn (hand .lines) ws) b
+    reshape-asks = let i = given x in ((i .bound, i .few, i .size), i .count ∙ ap length (sym (i .rows)), midway)
 
     -- what it leaves
     reshape-gives : {g : Grid} {lines : Memo} {b′ : List ℕ}
-        → ((y : BeforeReshape grid at (pagesOf (hand .chain)) (rowsOf (hand .table)) (memoIn (hand .lines) ws) b) → LaidMemo (reshaped (y .flushed)) g lines b′) → LaidMemo (reshaped into) g lines b′
+        → ((y : BeforeReshape grid at (pagesOf (hand .chain)) (rowsOf (tableWith (hand .n) table)) (memoIn (hand .lines) ws) b) → LaidMemo (reshaped (y .flushed)) g lines b′) → LaidMemo (reshaped into) g lines b′
     unfolding midway
     reshape-gives f = f midway
 
@@ -241,19 +242,19 @@ module _ {words : List ℕ} {at : ℕ} {taken : Waiting} {memo : Memo} (m : BoxA
 pub reshape-wants : {grid : Grid} {waiting : Waiting} {memo : Memo} {b : List ℕ} (x : BeforeFlush grid waiting memo b) (m : BoxAt) {o : FoundCell} {at : ℕ} {taken : Waiting}
     → foundAt o ≡ slotAt (slotsIn (grid .cells)) (cornerOf (cutsBy (grid .easts) (grid .norths)) (boxIn m)) → o ≡ At at
     → taken ≡ waitingOf (filter (inBox (cutsBy (grid .easts) (grid .norths)) (boxIn m)) (reportsOf waiting))
-    → (hand : Hand) (ws : List ℕ) → ((y : BeforeEnter (grid .cells .words) at taken memo (boxIn m) b) → InHand (flushedInto (boxIn m) (y .store) (y .cell) .cell) (flushedInto (boxIn m) (y .store) (y .cell) .store .memo) hand ws)
-    → HandFits (hand .chain) (hand .table) × (hand .table .n ≡ length (rowsOf (hand .table))) × BeforeReshape grid at (pagesOf (hand .chain)) (rowsOf (hand .table)) (memoIn (hand .lines) ws) b
+    → (hand : Hand) (ws table : List ℕ) → ((y : BeforeEnter (grid .cells .words) at taken memo (boxIn m) b) → InHand (flushedInto (boxIn m) (y .store) (y .cell) .cell) (flushedInto (boxIn m) (y .store) (y .cell) .store .memo) hand ws table)
+    → HandFits (hand .chain) (hand .n) table × (hand .n ≡ length (rowsOf (tableWith (hand .n) table))) × BeforeReshape grid at (pagesOf (hand .chain)) (rowsOf (tableWith (hand .n) table)) (memoIn (hand .lines) ws) b
 unfolding homed
-reshape-wants x m told e gone hand ws given = reshape-asks m (homed x m told e gone) hand ws given
+reshape-wants x m told e gone hand ws table given = reshape-asks m (homed x m told e gone) hand ws table given
 
 pub flush-returns : {grid : Grid} {waiting : Waiting} {memo : Memo} {b : List ℕ} (x : BeforeFlush grid waiting memo b) (m : BoxAt) {o : FoundCell} {at : ℕ} {taken : Waiting}
     → foundAt o ≡ slotAt (slotsIn (grid .cells)) (cornerOf (cutsBy (grid .easts) (grid .norths)) (boxIn m)) → o ≡ At at
     → taken ≡ waitingOf (filter (inBox (cutsBy (grid .easts) (grid .norths)) (boxIn m)) (reportsOf waiting))
-    → (hand : Hand) (ws : List ℕ) → ((y : BeforeEnter (grid .cells .words) at taken memo (boxIn m) b) → InHand (flushedInto (boxIn m) (y .store) (y .cell) .cell) (flushedInto (boxIn m) (y .store) (y .cell) .store .memo) hand ws)
-    → {g : Grid} {w : Waiting} {lines : Memo} {b′ : List ℕ} → ((y : BeforeReshape grid at (pagesOf (hand .chain)) (rowsOf (hand .table)) (memoIn (hand .lines) ws) b) → LaidMemo (reshaped (y .flushed)) g lines b′)
+    → (hand : Hand) (ws table : List ℕ) → ((y : BeforeEnter (grid .cells .words) at taken memo (boxIn m) b) → InHand (flushedInto (boxIn m) (y .store) (y .cell) .cell) (flushedInto (boxIn m) (y .store) (y .cell) .store .memo) hand ws table)
+    → {g : Grid} {w : Waiting} {lines : Memo} {b′ : List ℕ} → ((y : BeforeReshape grid at (pagesOf (hand .chain)) (rowsOf (tableWith (hand .n) table)) (memoIn (hand .lines) ws) b) → LaidMemo (reshaped (y .flushed)) g lines b′)
     → w ≡ waitingOf (filter (λ v. not (inBox (cutsBy (grid .easts) (grid .norths)) (boxIn m) v)) (reportsOf waiting)) → LaidWaiting (flush (boxIn m) (x .store)) g w lines b′
 unfolding homed
-flush-returns {grid} {waiting} x m told e gone hand ws given f w =
+flush-returns {grid} {waiting} x m told e gone hand ws table given f w =
     let y = homed x m told e gone in
-    flush-gives m y (reshape-gives m y hand ws given f)
+    flush-gives m y (reshape-gives m y hand ws table given f)
     (left-are (x .store) (boxIn m) (grid .easts) (grid .norths) waiting (laid-easts (x .laid .in-memo)) (laid-norths (x .laid .in-memo)) (x .laid .waiting-is) w)

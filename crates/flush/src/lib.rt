@@ -2,6 +2,7 @@
 ghost use mathlib.Core.Path.{_≡_};
 ghost use Prim.Native.Nat.{_*_, _≤_};
 ghost use lib.ListN.{length};
+ghost use Rattle.entries.specs.Entries.{tableWords};
 ghost use Rattle.rules.specs.Limits.{maxCells};
 ghost use Rattle.rules.specs.Grid.{cornerOf};
 ghost use Rattle.rules.specs.Flush.{flushedInto, flush};
@@ -19,6 +20,7 @@ use boxes::BoxAt;
 use desk::Desk;
 use desk::Frame;
 use directory::FoundCell;
+use entries::TABLE_WORDS;
 use tally::Hand;
 
 // What a flush changes, beside the arrays.
@@ -49,20 +51,21 @@ fn entered(
     words: &mut [u16; Desk::MEMO_WORDS],
     lines: u16,
     m: BoxAt,
+    table: &mut [u16; TABLE_WORDS],
 ) -> Hand
-    requires { ⌜ BeforeEnter (now cells) at (waitingWith n (now taken)) (memoIn lines (now words)) (boxIn m) (now buffer) ⌝ }
+    requires { ⌜ BeforeEnter (now cells) at (waitingWith n (now taken)) (memoIn lines (now words)) (boxIn m) (now buffer)
+        × (length (now table) ≡ tableWords) ⌝ }
     ensures { λ r. ⌜ ((x : BeforeEnter (now (cells .entry)) at (waitingWith n (now (taken .entry))) (memoIn lines (now (words .entry))) (boxIn m)
         (now (buffer .entry)))
-        → InHand (flushedInto (boxIn m) (x .store) (x .cell) .cell) (flushedInto (boxIn m) (x .store) (x .cell) .store .memo) r (now (words .exit))) ⌝ }
+        → InHand (flushedInto (boxIn m) (x .store) (x .cell) .cell) (flushedInto (boxIn m) (x .store) (x .cell) .store .memo) r (now (words .exit))
+        (now (table .exit))) ⌝ }
 {
-    let d = tally::swept_at(buffer, cells, at, words, lines);
+    let d = tally::swept_at(buffer, cells, at, words, lines, table);
     let chain = d.chain;
-    let table = d.table;
-    let done = enter::enter_all(taken, n, table, words, d.lines);
-    let all = done.table;
+    let done = enter::enter_all(taken, n, table, d.n, words, d.lines);
     Hand {
         chain,
-        table: all,
+        n: done.n,
         lines: done.lines,
     }
 }
@@ -95,10 +98,30 @@ pub fn flush(
     };
     let mut taken = [0u16; Desk::WAITING_WORDS];
     let sides = box_reports::parted(frame.easts, frame.norths, waiting, n, m, &mut taken);
-    let d = entered(buffer, cells, at, &taken, sides.gone, words, lines, m);
+    let mut table = [0u16; TABLE_WORDS];
+    let d = entered(
+        buffer,
+        cells,
+        at,
+        &taken,
+        sides.gone,
+        words,
+        lines,
+        m,
+        &mut table,
+    );
     let chain = d.chain;
-    let table = d.table;
-    let done = reshape::reshape(buffer, frame, cells, at, chain, table, words, d.lines);
+    let done = reshape::reshape(
+        buffer,
+        frame,
+        cells,
+        at,
+        chain,
+        &mut table,
+        d.n,
+        words,
+        d.lines,
+    );
     let shape = done.frame;
     Emptied {
         frame: shape,

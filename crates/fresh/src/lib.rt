@@ -13,7 +13,7 @@ ghost use Rattle.desk.specs.Layout.{pagesOf, freshPages};
 ghost use Rattle.fresh.specs.Begin.{Begins};
 use desk::Answer;
 use desk::Desk;
-use entries::Entries;
+use entries::TABLE_WORDS;
 use page::BUFFER_BYTES;
 use terms::NO_PAGE;
 use terms::PAGES;
@@ -60,7 +60,7 @@ fn write_pages(pages: &mut [u8])
         page::KIND_FIRST,
         NO_PAGE,
         0,
-        Entries::empty(),
+        &[0; TABLE_WORDS],
         0,
         0,
     );

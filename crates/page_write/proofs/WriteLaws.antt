@@ -1,6 +1,6 @@
 -- What the writers leave: a header, an entry, a page's entries one after the other, and the part of the buffer that was lent to them.
 use mathlib.Core.List.{List, [], _++_, append-assoc}
-use mathlib.Core.Path.{_≡_, refl, sym, _∙_}
+use mathlib.Core.Path.{_≡_, refl, sym, ap, _∙_}
 use Prim.Native.Nat.{ℕ, _+_, _-_, _*_, _≤_, _<_}
 use native.Mathlib.Omega.{arith}
 use lib.ListN.{length, getD, take, drop, replicate, length-append, length-replicate, length-take}
@@ -9,10 +9,9 @@ use Rattle.lists.specs.Parts.{part, put}
 use Rattle.lists.specs.Rows.{Row, Rows}
 use Rattle.lists.specs.Words.{le}
 use Rattle.lists.proofs.PartsLaws.{length-part, length-put, part-suc, part-zero, put-nil, put-then, put-whole, lent}
-use Rattle.entries.specs.Entries.{rowOf, rowsOf, noRow}
+use Rattle.entries.specs.Entries.{rowOf, noEntry, noRow, tableWith, tableWords, everyEntry, rowsOf}
 use Rattle.entries.specs.declared.Entry.{Entry}
-use Rattle.entries.specs.declared.Entries.{Entries}
-use Rattle.entries.proofs.TableLaws.{length-rows}
+use Rattle.entries.proofs.TableLaws.{length-rows, rows-get}
 use Rattle.page.specs.Page.{pageBytes, headBytes, entryBytes, kindFree, entryOf, entriesOf, headOf, pageOf, freePageOf}
 use Rattle.page.specs.Buffer.{putPage}
 use Rattle.page.proofs.PageLaws.{length-headOf, length-entriesOf, length-pageOf, entriesOf-snoc}
@@ -50,16 +49,18 @@ length-part-le l from n = simp length-take (omega arith)
 lengths : (l : Rows Fix) (from i : ℕ) → from + i ≤ length l → (length (part l from i) ≡ i) × (length (entriesOf (part l from i)) ≡ entryBytes * i)
 lengths l from i h = let e : length (part l from i) ≡ i = length-part l from i h in (e, length-entriesOf _ ∙ rw e)
 
-pub writing-start : (s : Entries) (from n : ℕ) (p : List ℕ) → length (s .all) ≡ maxOn → s .n ≤ maxOn → from + n ≤ s .n → n ≤ pageEntries → length p ≡ pageBytes
-    → Writing (rowsOf s) from n p 0 p
+pub writing-start : (ws : List ℕ) (from n : ℕ) (p : List ℕ) → from + n ≤ maxOn → length ws ≡ tableWords → n ≤ pageEntries → length p ≡ pageBytes
+    → Writing (rowsOf (tableWith (from + n) ws)) from n p 0 p
 unfolding entriesOf
-writing-start s from n p a b f k l =
-    let r = length-rows s (omega arith) in
-    record { fits = omega arith; few = k; passed = omega arith; size = l; list = rw (part-zero (rowsOf s) from) (sym (put-nil p headBytes)) }
+writing-start ws from n p f a k l =
+    let r = length-rows (from + n) ws f a in
+    record { fits = omega arith; few = k; passed = omega arith; size = l; list = rw (part-zero (rowsOf (tableWith (from + n) ws)) from) (sym (put-nil p headBytes)) }
 
-pub writing-turn : {l : Rows Fix} {from n : ℕ} {p : List ℕ} {i : ℕ} {q r : List ℕ} {e : Row Fix} → Writing l from n p i q → i < n
-    → e ≡ getD l (from + i) noRow → r ≡ put q (headBytes + entryBytes * i) (entryOf e) → Writing l from n p (i + 1) r
-writing-turn {l} {from} {n} {p} {i} w b g h =
+pub writing-turn : (ws : List ℕ) {from n : ℕ} {p : List ℕ} {i : ℕ} {q r : List ℕ} (e : Entry) → Writing (rowsOf (tableWith (from + n) ws)) from n p i q → i < n
+    → e ≡ getD (everyEntry ws) (from + i) noEntry → r ≡ put q (headBytes + entryBytes * i) (entryOf (rowOf e)) → Writing (rowsOf (tableWith (from + n) ws)) from n p (i + 1) r
+writing-turn ws {from} {n} {p} {i} e w b g h =
+    let l = rowsOf (tableWith (from + n) ws) in
+    let o : rowOf e ≡ getD l (from + i) noRow = ap rowOf g ∙ rows-get (from + n) ws (from + i) (omega arith) in
     let t = w .fits in
     let m = lengths l from i (omega arith) in
     record {
@@ -67,7 +68,7 @@ writing-turn {l} {from} {n} {p} {i} w b g h =
       few = w .few;
       passed = omega arith;
       size = w .size;
-      list = put-then p headBytes _ _ (w .list) h (omega arith) (omega arith) ∙ rw (part-suc l from i noRow (omega arith), entriesOf-snoc, g);
+      list = put-then p headBytes _ _ (w .list) h (omega arith) (omega arith) ∙ rw (part-suc l from i noRow (omega arith), entriesOf-snoc, o);
     }
 
 pub writing-end : {l : Rows Fix} {from n : ℕ} {p : List ℕ} {i : ℕ} {q r : List ℕ} (p₀ : List ℕ) (k x c : ℕ) → Writing l from n p i q → n ≤ i

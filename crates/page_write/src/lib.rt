@@ -4,11 +4,11 @@ ghost use Prim.Native.Nat.{_+_, _-_, _<_, _≤_};
 ghost use lib.ListN.{length, replicate};
 ghost use Rattle.terms.specs.Terms.{maxOn, pages, pageEntries};
 ghost use Rattle.lists.specs.Parts.{part, put};
-ghost use Rattle.entries.specs.Entries.{rowOf, rowsOf};
+ghost use Rattle.entries.specs.Entries.{rowOf, tableWith, tableWords, rowsOf};
 ghost use Rattle.page.specs.Page.{pageBytes, headBytes, entryBytes, entryOf, headOf, pageOf, freePageOf};
 ghost use Rattle.page.specs.Buffer.{bufferBytes, putPage};
-use entries::Entries;
 use entries::Entry;
+use entries::TABLE_WORDS;
 use page::ENTRY_BYTES;
 use page::HEAD_BYTES;
 use page::Header;
@@ -48,9 +48,17 @@ fn clear(page: &mut [u8], from: usize)
 }
 
 // The whole page from its header's fields and the table's `n` entries from `from` on.
-fn fill_page(page: &mut [u8], kind: u16, next: u16, cell: u16, es: Entries, from: usize, n: usize)
-    requires { ⌜ (length (now page) ≡ pageBytes) × (n ≤ pageEntries) × (from + n ≤ es .n) × (es .n ≤ maxOn) ⌝ }
-    ensures { λ _. ⌜ now (page .exit) ≡ pageOf kind next cell (part (rowsOf es) from n) ⌝ }
+fn fill_page(
+    page: &mut [u8],
+    kind: u16,
+    next: u16,
+    cell: u16,
+    table: &[u16; TABLE_WORDS],
+    from: usize,
+    n: usize,
+)
+    requires { ⌜ (length (now page) ≡ pageBytes) × (n ≤ pageEntries) × (from + n ≤ maxOn) × (length (now table) ≡ tableWords) ⌝ }
+    ensures { λ _. ⌜ now (page .exit) ≡ pageOf kind next cell (part (rowsOf (tableWith (from + n) (now (table .entry)))) from n) ⌝ }
 {
     let used = (HEAD_BYTES + ENTRY_BYTES * n) as u16;
     write_header(
@@ -64,8 +72,7 @@ fn fill_page(page: &mut [u8], kind: u16, next: u16, cell: u16, es: Entries, from
     );
     let mut i = 0;
     while i < n {
-        let at = from + i;
-        let e = es.all[at];
+        let e = entries::entry_at(table, from + i);
         write_entry(page, HEAD_BYTES + ENTRY_BYTES * i, e);
         i += 1;
     }
@@ -79,16 +86,17 @@ pub fn write_page(
     kind: u16,
     next: u16,
     cell: u16,
-    es: Entries,
+    table: &[u16; TABLE_WORDS],
     from: usize,
     n: usize,
 )
-    requires { ⌜ (length (now buffer) ≡ bufferBytes) × (p < pages) × (n ≤ pageEntries) × (from + n ≤ es .n) × (es .n ≤ maxOn) ⌝ }
-    ensures { λ _. ⌜ now (buffer .exit) ≡ putPage (now (buffer .entry)) p (pageOf kind next cell (part (rowsOf es) from n)) ⌝ }
+    requires { ⌜ (length (now buffer) ≡ bufferBytes) × (p < pages) × (n ≤ pageEntries) × (from + n ≤ maxOn) × (length (now table) ≡ tableWords) ⌝ }
+    ensures { λ _. ⌜ now (buffer .exit)
+        ≡ putPage (now (buffer .entry)) p (pageOf kind next cell (part (rowsOf (tableWith (from + n) (now (table .entry)))) from n)) ⌝ }
 {
     let start = PAGE_BYTES * p;
     let end = start + PAGE_BYTES;
-    fill_page(&mut buffer[start..end], kind, next, cell, es, from, n);
+    fill_page(&mut buffer[start..end], kind, next, cell, table, from, n);
 }
 
 fn fill_free(page: &mut [u8], next: u16)

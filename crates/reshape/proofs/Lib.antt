@@ -1,3 +1,2 @@
-pub mod CoordinatesLaws
 pub mod ReshapeLaws
 pub mod WholeLaws

@@ -3,14 +3,13 @@
 ghost use mathlib.Core.Path.{_≡_};
 ghost use Prim.Native.Nat.{_<_, _≤_};
 ghost use Rattle.terms.specs.Terms.{maxOn, pages, pageEntries};
-ghost use Rattle.entries.specs.Entries.{placeOf, rowsOf};
+ghost use Rattle.entries.specs.Entries.{tableWith, tableWords, rowsOf};
 ghost use Rattle.rules.specs.Cut.{chosenCut};
-ghost use Rattle.rules.specs.Grid.{along};
 ghost use Rattle.rules.specs.Limits.{maxCuts};
-ghost use Rattle.desk.specs.Views.{axisOf, cutsBy, edgesOf};
-ghost use Rattle.cut.specs.Choice.{choiceOf, coordinates};
+ghost use Rattle.desk.specs.Views.{cutsBy, edgesOf};
+ghost use Rattle.cut.specs.Choice.{choiceOf};
 ghost use Rattle.page.specs.Buffer.{pagesOf};
-ghost use lib.ListN.{length, take};
+ghost use lib.ListN.{length};
 ghost use Rattle.rules.specs.Flush.{reshaped};
 ghost use Rattle.desk.specs.Laid.{LaidMemo};
 ghost use Rattle.desk.specs.Held.{gridIn, memoIn};
@@ -20,47 +19,27 @@ use cell_last::Reshaped;
 use cut::CutChoice;
 use desk::CutList;
 use desk::Desk;
-use desk::EAST;
 use desk::Frame;
-use desk::NORTH;
 use desk::Slot;
-use entries::Entries;
-use entries::Entry;
+use entries::TABLE_WORDS;
 use join::Neighbour;
 use page::Chain;
 use terms::PAGE_ENTRIES;
 
-// ---- the coordinates of d's entries
-
-fn coordinate(e: Entry, axis: u8) -> u16
-    ensures { λ r. ⌜ r ≡ along (axisOf axis) (placeOf e) ⌝ }
+// The cut of d, if there is one. The places of its entries are lent column by column, as the table has them.
+fn chosen_cut(
+    easts: CutList,
+    norths: CutList,
+    d: Slot,
+    table: &[u16; TABLE_WORDS],
+    n: usize,
+) -> CutChoice
+    requires { ⌜ (n ≤ maxOn) × (length (now table) ≡ tableWords) × (easts .n ≤ maxCuts) × (norths .n ≤ maxCuts) ⌝ }
+    ensures { λ r. ⌜ choiceOf r ≡ chosenCut (cutsBy easts norths) (edgesOf d) (rowsOf (tableWith n (now (table .entry)))) ⌝ }
 {
-    if axis == EAST { e.east } else { e.north }
-}
-
-// The entries' coordinates in a direction, in an array of their own, which can be lent.
-fn coordinates(table: Entries, axis: u8) -> [u16; Desk::MAX_ON]
-    requires { ⌜ table .n ≤ maxOn ⌝ }
-    ensures { λ r. ⌜ take (table .n) r ≡ coordinates (axisOf axis) (rowsOf table) ⌝ }
-{
-    let mut xs = [0u16; Desk::MAX_ON];
-    let mut i: usize = 0;
-    while i < table.n {
-        let e = table.all[i];
-        xs[i] = coordinate(e, axis);
-        i += 1;
-    }
-    xs
-}
-
-// The cut of d, if there is one.
-fn chosen_cut(easts: CutList, norths: CutList, d: Slot, table: Entries) -> CutChoice
-    requires { ⌜ (table .n ≤ maxOn) × (easts .n ≤ maxCuts) × (norths .n ≤ maxCuts) ⌝ }
-    ensures { λ r. ⌜ choiceOf r ≡ chosenCut (cutsBy easts norths) (edgesOf d) (rowsOf table) ⌝ }
-{
-    let eastings = coordinates(table, EAST);
-    let northings = coordinates(table, NORTH);
-    cut::chosen_cut(easts, norths, d, table.n, &eastings, &northings)
+    let eastings = entries::easts(table);
+    let northings = entries::norths(table);
+    cut::chosen_cut(easts, norths, d, n, eastings, northings)
 }
 
 // ---- split, joined or left
@@ -72,23 +51,25 @@ fn split_or_grown(
     cells: &mut [u16; Desk::CELL_WORDS],
     at: usize,
     chain: Chain,
-    table: Entries,
+    table: &mut [u16; TABLE_WORDS],
+    count: usize,
 ) -> Frame
-    requires { ⌜ HandFits chain table × (pageEntries < length (rowsOf table))
-        × BeforeSplitOrGrow (gridIn frame (now cells)) at (pagesOf chain) (rowsOf table) (now buffer) ⌝ }
-    ensures { λ r. ⌜ ((x : BeforeSplitOrGrow (gridIn frame (now (cells .entry))) at (pagesOf chain) (rowsOf table) (now (buffer .entry)))
+    requires { ⌜ HandFits chain count (now table) × (pageEntries < length (rowsOf (tableWith count (now table))))
+        × BeforeSplitOrGrow (gridIn frame (now cells)) at (pagesOf chain) (rowsOf (tableWith count (now table))) (now buffer) ⌝ }
+    ensures { λ r. ⌜ ((x : BeforeSplitOrGrow (gridIn frame (now (cells .entry))) at (pagesOf chain) (rowsOf (tableWith count (now (table .entry))))
+        (now (buffer .entry)))
         → LaidMemo (reshaped (x .midway .flushed)) (gridIn r (now (cells .exit))) (x .memo) (now (buffer .exit))) ⌝ }
 {
     if Desk::MAX_CELLS <= frame.cells as usize {
-        return cell_last::settled_last(buffer, frame, cells, at, chain, table);
+        return cell_last::settled_last(buffer, frame, cells, at, chain, table, count);
     }
     let d = desk::slot_at(cells, at);
     let easts = frame.easts;
     let norths = frame.norths;
-    let CutChoice::At(axis, cut) = chosen_cut(easts, norths, d, table) else {
-        return cell_last::settled_last(buffer, frame, cells, at, chain, table);
+    let CutChoice::At(axis, cut) = chosen_cut(easts, norths, d, table, count) else {
+        return cell_last::settled_last(buffer, frame, cells, at, chain, table, count);
     };
-    cell_split::split(buffer, frame, cells, at, chain, table, axis, cut)
+    cell_split::split(buffer, frame, cells, at, chain, table, count, axis, cut)
 }
 
 // "after a flush that left d at most 32 entries": joined, if a cell beside it may be. d is taken out of the round first, so that the others are looked through.
@@ -98,27 +79,40 @@ fn joined_or_grown(
     cells: &mut [u16; Desk::CELL_WORDS],
     at: usize,
     chain: Chain,
-    table: Entries,
+    table: &mut [u16; TABLE_WORDS],
+    count: usize,
     words: &mut [u16; Desk::MEMO_WORDS],
     lines: u16,
 ) -> Reshaped
-    requires { ⌜ (chain .n ≤ pages) × (table .n ≡ length (rowsOf table)) × (length (rowsOf table) ≤ pageEntries)
-        × BeforeReshape (gridIn frame (now cells)) at (pagesOf chain) (rowsOf table) (memoIn lines (now words)) (now buffer) ⌝ }
-    ensures { λ r. ⌜ ((x : BeforeReshape (gridIn frame (now (cells .entry))) at (pagesOf chain) (rowsOf table)
+    requires { ⌜ (chain .n ≤ pages) × (count ≡ length (rowsOf (tableWith count (now table)))) × (length (rowsOf (tableWith count (now table))) ≤ pageEntries)
+        × BeforeReshape (gridIn frame (now cells)) at (pagesOf chain) (rowsOf (tableWith count (now table))) (memoIn lines (now words)) (now buffer)
+        × (length (now table) ≡ tableWords) ⌝ }
+    ensures { λ r. ⌜ ((x : BeforeReshape (gridIn frame (now (cells .entry))) at (pagesOf chain) (rowsOf (tableWith count (now (table .entry))))
         (memoIn lines (now (words .entry))) (now (buffer .entry)))
         → LaidMemo (reshaped (x .flushed)) (gridIn (r .frame) (now (cells .exit))) (memoIn (r .lines) (now (words .exit))) (now (buffer .exit))) ⌝ }
 {
     let d = desk::slot_at(cells, at);
     let n = frame.cells;
     directory::take_out(cells, n, at);
-    let Neighbour::At(k) = join::find_neighbour(buffer, cells, n - 1, d, table.n) else {
-        let grown = cell_last::hand_last(buffer, frame, cells, d, chain, table);
+    let Neighbour::At(k) = join::find_neighbour(buffer, cells, n - 1, d, count) else {
+        let grown = cell_last::hand_last(buffer, frame, cells, d, chain, table, count);
         return Reshaped {
             frame: grown,
             lines,
         };
     };
-    cell_join::join(buffer, frame, cells, d, k, chain, table, words, lines)
+    cell_join::join(
+        buffer,
+        frame,
+        cells,
+        d,
+        k,
+        chain,
+        table,
+        count,
+        words,
+        lines,
+    )
 }
 
 // d, with the reports in it, is split, joined, or keeps to itself; it goes to the end of the round with the pages that it needs.
@@ -128,22 +122,23 @@ pub fn reshape(
     cells: &mut [u16; Desk::CELL_WORDS],
     at: usize,
     chain: Chain,
-    table: Entries,
+    table: &mut [u16; TABLE_WORDS],
+    count: usize,
     words: &mut [u16; Desk::MEMO_WORDS],
     lines: u16,
 ) -> Reshaped
-    requires { ⌜ HandFits chain table × (table .n ≡ length (rowsOf table))
-        × BeforeReshape (gridIn frame (now cells)) at (pagesOf chain) (rowsOf table) (memoIn lines (now words)) (now buffer) ⌝ }
-    ensures { λ r. ⌜ ((x : BeforeReshape (gridIn frame (now (cells .entry))) at (pagesOf chain) (rowsOf table)
+    requires { ⌜ HandFits chain count (now table) × (count ≡ length (rowsOf (tableWith count (now table))))
+        × BeforeReshape (gridIn frame (now cells)) at (pagesOf chain) (rowsOf (tableWith count (now table))) (memoIn lines (now words)) (now buffer) ⌝ }
+    ensures { λ r. ⌜ ((x : BeforeReshape (gridIn frame (now (cells .entry))) at (pagesOf chain) (rowsOf (tableWith count (now (table .entry))))
         (memoIn lines (now (words .entry))) (now (buffer .entry)))
         → LaidMemo (reshaped (x .flushed)) (gridIn (r .frame) (now (cells .exit))) (memoIn (r .lines) (now (words .exit))) (now (buffer .exit))) ⌝ }
 {
-    if PAGE_ENTRIES < table.n {
-        let shape = split_or_grown(buffer, frame, cells, at, chain, table);
+    if PAGE_ENTRIES < count {
+        let shape = split_or_grown(buffer, frame, cells, at, chain, table, count);
         return Reshaped {
             frame: shape,
             lines,
         };
     }
-    joined_or_grown(buffer, frame, cells, at, chain, table, words, lines)
+    joined_or_grown(buffer, frame, cells, at, chain, table, count, words, lines)
 }

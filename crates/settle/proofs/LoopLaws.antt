@@ -1,6 +1,6 @@
 -- The loops of settling: pages taken by next page, pages given up, and a cell's pages written, each from the last to the first.
 use mathlib.Core.Bool.{true}
-use mathlib.Core.List.{List, [], _∷_, _++_, append-assoc}
+use mathlib.Core.List.{List, [], _∷_, _++_, map, append-assoc}
 use mathlib.Core.Logic.{_≢_}
 use mathlib.Core.Path.{_≡_, sym, ap, ap₂, _∙_}
 use Prim.Native.Nat.{ℕ, zero, suc, _+_, _-_, _*_, _≤_, _<_, min, max}
@@ -17,9 +17,10 @@ use Rattle.lists.specs.Parts.{part}
 use Rattle.lists.specs.Rows.{Rows}
 use Rattle.lists.specs.Tests.{Each}
 use Rattle.lists.proofs.Cases.{by-cases}
+use Rattle.lists.proofs.MapLaws.{map-take}
+use Rattle.lists.proofs.PartsLaws.{drop-take}
 use Rattle.lists.proofs.TestsLaws.{each-getD}
-use Rattle.entries.specs.Entries.{rowsOf}
-use Rattle.entries.specs.declared.Entries.{Entries}
+use Rattle.entries.specs.Entries.{rowOf, tableWith, tableWords, everyEntry, rowsOf}
 use Rattle.entries.proofs.TableLaws.{length-rows}
 use Rattle.page.specs.Page.{kindFirst, kindFurther, pageOf, freePageOf, next}
 use Rattle.page.specs.Buffer.{pageAt, putPage, there, chainFrom, atNone, endFrom}
@@ -100,27 +101,27 @@ kind-first k e = rw (eq-eqb k 0 e)
 pub kind-further : (k : ℕ) → k ≢ 0 → kindFurther ≡ kindAt k
 kind-further k n = rw (ne-eqb k 0 n)
 
--- the first n pages, which the table's entries need, hold their rows from number k on
-pub record Writing (b ps : List ℕ) (n cell : ℕ) (es : Entries) (c : List ℕ) (next k : ℕ) : Type 0 where
+-- the first n pages, which a table's e entries need, hold their rows from number k on
+pub record Writing (b ps : List ℕ) (n cell e : ℕ) (rows : Rows Fix) (c : List ℕ) (next k : ℕ) : Type 0 where
   pub size : length (take n ps) ≡ n
   pub below : Below (take n ps)
-  pub rows : length (rowsOf es) ≡ es .n
-  pub need : n ≡ pagesFor (es .n)
+  pub many : length rows ≡ e
+  pub need : n ≡ pagesFor e
   pub high : k ≤ n
-  pub bytes : c ≡ written b (leaves (kindAt k) cell (drop k (take n ps)) (drop (pageEntries * k) (rowsOf es)))
+  pub bytes : c ≡ written b (leaves (kindAt k) cell (drop k (take n ps)) (drop (pageEntries * k) rows))
   pub first : next ≡ firstOf noPage (drop k (take n ps))
 
 pub writing-few : (e : ℕ) {n : ℕ} → e ≤ maxOn → n ≡ pagesFor e → n ≤ pages
 unfolding pagesFor
 writing-few e h m = omega arith
 
-pub writing-start : (b ps : List ℕ) (n cell : ℕ) (es : Entries) → length ps ≡ pages → length (es .all) ≡ maxOn → es .n ≤ maxOn → n ≡ pagesFor (es .n) → Below (take n ps)
-    → Writing b ps n cell es b noPage n
+pub writing-start : (b ps : List ℕ) (n cell e : ℕ) (ws : List ℕ) → length ps ≡ pages → e ≤ maxOn → length ws ≡ tableWords → n ≡ pagesFor e → Below (take n ps)
+    → Writing b ps n cell e (rowsOf (tableWith e ws)) b noPage n
 unfolding written leaves
-writing-start b ps n cell es s t h m w =
-    let l = length-take-le n ps (omega (arith, writing-few (es .n) h m)) in
-    let e : drop n (take n ps) ≡ [] = drop-of-length-le (take n ps) {i = n} (omega arith) in
-    record { size = l; below = w; rows = length-rows es (omega arith); need = m; high = omega arith; bytes = rw e; first = rw e }
+writing-start b ps n cell e ws s h t m w =
+    let l = length-take-le n ps (omega (arith, writing-few e h m)) in
+    let z : drop n (take n ps) ≡ [] = drop-of-length-le (take n ps) {i = n} (omega arith) in
+    record { size = l; below = w; many = length-rows e ws h t; need = m; high = omega arith; bytes = rw z; first = rw z }
 
 -- the rows of one page
 part-page : (rows : Rows Fix) (e from : ℕ) → length rows ≡ e → part rows from (min pageEntries (e - from)) ≡ take pageEntries (drop from rows)
@@ -131,7 +132,21 @@ part-page rows e from l =
     (λ t. let k = leb-false pageEntries (e - from) t in
     take-all (min pageEntries (e - from)) (drop from rows) (rw length-drop (omega arith)) ∙ sym (take-all pageEntries (drop from rows) (rw length-drop (omega arith))))
 
-module _ {b ps : List ℕ} {n cell : ℕ} (es : Entries) {c : List ℕ} {next k : ℕ} (g : Writing b ps n cell es c next k) where
+-- a part of a table's rows is read without those behind it
+part-take : {A : Type 0} (l : List A) (a m : ℕ) → a ≤ length l → part (take (a + m) l) a m ≡ part l a m
+unfolding part
+part-take l a m h = ap (take m) (drop-take l a m h) ∙ take-take m m (drop a l) (omega arith)
+
+part-rows : (e : ℕ) (ws : List ℕ) (from m : ℕ) → e ≤ maxOn → length ws ≡ tableWords → from + m ≤ e
+    → part (rowsOf (tableWith (from + m) ws)) from m ≡ part (rowsOf (tableWith e ws)) from m
+unfolding rowsOf
+part-rows e ws from m h l f =
+    let n : length (rowsOf (tableWith e ws)) ≡ e = length-rows e ws h l in
+    let t : map rowOf (take (from + m) (everyEntry ws)) ≡ take (from + m) (map rowOf (take e (everyEntry ws))) =
+    ap (map rowOf) (sym (take-take (from + m) e (everyEntry ws) f)) ∙ map-take rowOf (from + m) (take e (everyEntry ws)) in
+    ap (λ (r : Rows Fix). part r from m) t ∙ part-take (map rowOf (take e (everyEntry ws))) from m (omega arith)
+
+module _ {b ps : List ℕ} {n cell e : ℕ} {rows : Rows Fix} {c : List ℕ} {next k : ℕ} (g : Writing b ps n cell e rows c next k) where
   writing-page : 0 < k → getD (take n ps) (k - 1) 0 ≡ getD ps (k - 1) 0
   writing-page more = getD-take n ps (k - 1) 0 (omega (arith, g .high))
 
@@ -139,32 +154,40 @@ module _ {b ps : List ℕ} {n cell : ℕ} (es : Entries) {c : List ℕ} {next k 
   writing-below more = rw (← writing-page more) (each-getD _ (take n ps) (k - 1) 0 (g .below) (omega (arith, g .high, g .size)))
 
   -- its page begins with one of the rows, if there is any
-  pub writing-from : 0 < k → pageEntries * (k - 1) ≤ es .n
+  pub writing-from : 0 < k → pageEntries * (k - 1) ≤ e
   unfolding pagesFor
   writing-from more = omega (arith, g .high, g .need)
 
-  pub writing-turn : {c′ : List ℕ} {kind m : ℕ} → 0 < k → kind ≡ kindAt (k - 1) → m ≡ min pageEntries (es .n - pageEntries * (k - 1))
-      → c′ ≡ putPage c (getD ps (k - 1) 0) (pageOf kind next cell (part (rowsOf es) (pageEntries * (k - 1)) m)) → Writing b ps n cell es c′ (getD ps (k - 1) 0) (k - 1)
+  writing-next : {c′ : List ℕ} {kind m : ℕ} → 0 < k → kind ≡ kindAt (k - 1) → m ≡ min pageEntries (e - pageEntries * (k - 1))
+      → c′ ≡ putPage c (getD ps (k - 1) 0) (pageOf kind next cell (part rows (pageEntries * (k - 1)) m)) → Writing b ps n cell e rows c′ (getD ps (k - 1) 0) (k - 1)
   unfolding written leaves
-  writing-turn more t q e =
+  writing-next more t q w =
       let d : drop (k - 1) (take n ps) ≡ getD ps (k - 1) 0 ∷ drop k (take n ps) =
       drop-before (take n ps) k 0 (omega arith) (omega (arith, g .high, g .size)) ∙ ap (λ p. p ∷ drop k (take n ps)) (writing-page more) in
       let s : pageEntries * (k - 1) + pageEntries ≡ pageEntries * k = omega arith in
-      let f : drop pageEntries (drop (pageEntries * (k - 1)) (rowsOf es)) ≡ drop (pageEntries * k) (rowsOf es) =
-      drop-drop pageEntries (pageEntries * (k - 1)) (rowsOf es) ∙ ap (λ i. drop i (rowsOf es)) s in
+      let f : drop pageEntries (drop (pageEntries * (k - 1)) rows) ≡ drop (pageEntries * k) rows =
+      drop-drop pageEntries (pageEntries * (k - 1)) rows ∙ ap (λ i. drop i rows) s in
       let o : kindAt k ≡ kindFurther = sym (kind-further k (λ z. omega arith)) in
       record {
         size = g .size;
         below = g .below;
-        rows = g .rows;
+        many = g .many;
         need = g .need;
         high = omega (arith, g .high);
-        bytes = rw (d, f) (e ∙ rw (t, q, part-page (rowsOf es) (es .n) (pageEntries * (k - 1)) (g .rows), g .bytes, g .first, o));
+        bytes = rw (d, f) (w ∙ rw (t, q, part-page rows e (pageEntries * (k - 1)) (g .many), g .bytes, g .first, o));
         first = rw d;
       }
 
-  pub writing-end : k ≤ 0 → c ≡ written b (leaves kindFirst cell (take n ps) (rowsOf es))
+  pub writing-end : k ≤ 0 → c ≡ written b (leaves kindFirst cell (take n ps) rows)
   writing-end h = let z : k ≡ 0 = omega arith in rw z at (g .bytes)
+
+pub writing-turn : {b ps : List ℕ} {n cell e : ℕ} (ws : List ℕ) {c : List ℕ} {next k : ℕ} → Writing b ps n cell e (rowsOf (tableWith e ws)) c next k
+    → {c′ : List ℕ} {kind m : ℕ} → e ≤ maxOn → length ws ≡ tableWords → 0 < k → kind ≡ kindAt (k - 1) → m ≡ min pageEntries (e - pageEntries * (k - 1))
+    → c′ ≡ putPage c (getD ps (k - 1) 0) (pageOf kind next cell (part (rowsOf (tableWith (pageEntries * (k - 1) + m) ws)) (pageEntries * (k - 1)) m))
+    → Writing b ps n cell e (rowsOf (tableWith e ws)) c′ (getD ps (k - 1) 0) (k - 1)
+writing-turn {e = e} ws {k = k} g {m = m} h l more t q w =
+    let f = writing-from g more in
+    writing-next g more t q (w ∙ rw (part-rows e ws (pageEntries * (k - 1)) m h l (omega arith)))
 
 -- ---- pages taken
 

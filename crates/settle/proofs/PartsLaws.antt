@@ -7,13 +7,13 @@ use lib.Dec.{leb}
 use lib.ListN.{length, getD, take, drop, length-take, take-append-drop, drop-of-length-le}
 use lib.Seq.{getD-take, drop-append-le, drop-append-add}
 use borrow.Author.Tests.{leb-true, leb-false}
-use Rattle.terms.specs.Terms.{maxOn, pages, noPage}
+use Rattle.terms.specs.Terms.{Fix, maxOn, pages, noPage}
 use Rattle.lists.specs.Chains.{firstOf, settledChain, settledFree}
+use Rattle.lists.specs.Rows.{Rows}
 use Rattle.lists.specs.Tests.{Each}
 use Rattle.lists.proofs.Cases.{by-cases}
 use Rattle.lists.proofs.TestsLaws.{each-map, each-append, each-split}
-use Rattle.entries.specs.Entries.{rowsOf}
-use Rattle.entries.specs.declared.Entries.{Entries}
+use Rattle.entries.specs.Entries.{tableWith, tableWords, rowsOf}
 use Rattle.entries.proofs.TableLaws.{length-rows}
 use Rattle.page.specs.Page.{kindFirst}
 use Rattle.page.specs.Buffer.{putPage, chainFrom, atNone, endFrom}
@@ -56,12 +56,10 @@ given-front need ch f =
     (λ t. let z : need - length ch ≡ 0 = omega (arith, leb-true need (length ch) t) in rw z)
     (λ t. rw (drop-of-length-le ch {i = need} (omega (arith, leb-false need (length ch) t))))
 
-pub pagesFor-rows : (es : Entries) → length (es .all) ≡ maxOn → es .n ≤ maxOn → pagesFor (es .n) ≡ pagesFor (length (rowsOf es))
-pagesFor-rows es a h = ap pagesFor (sym (length-rows es (omega arith)))
-
-pub settle-few : (es : Entries) {need : ℕ} (k : ℕ) → length (es .all) ≡ maxOn → es .n ≤ maxOn → need ≡ pagesFor (es .n) → pagesFor (length (rowsOf es)) ≤ k → (need ≤ pages) × (need ≤ k)
+pub settle-few : (n : ℕ) (ws : List ℕ) {need : ℕ} (k : ℕ) → n ≤ maxOn → length ws ≡ tableWords → need ≡ pagesFor n → pagesFor (length (rowsOf (tableWith n ws))) ≤ k
+    → (need ≤ pages) × (need ≤ k)
 unfolding pagesFor
-settle-few es k a h e m = (omega arith, omega (arith, length-rows es (omega arith)))
+settle-few n ws k h l e m = (omega arith, omega (arith, length-rows n ws h l))
 
 pub settled-below : (b ch : List ℕ) (free need : ℕ) {ps : List ℕ} → Below ch → endFrom pages b free ≡ atNone → ps ≡ settledChain need ch (chainFrom pages b free) → Below ps
 unfolding settledChain
@@ -74,19 +72,22 @@ first-of : (l : List ℕ) → 0 < length l → getD l 0 0 ≡ firstOf noPage l
 first-of [] k = absurd (omega arith)
 first-of (x ∷ l) k = refl
 
-module _ (b ch f ps : List ℕ) (es : Entries) {need front : ℕ} (a : length (es .all) ≡ maxOn) (h : es .n ≤ maxOn) (n : need ≡ pagesFor (es .n))
+module _ (b ch f ps : List ℕ) (n : ℕ) (ws : List ℕ) {need front : ℕ} (h : n ≤ maxOn) (l : length ws ≡ tableWords) (asked : need ≡ pagesFor n)
     (taken : take need ps ≡ settledChain need ch f) (left : front ≡ firstOf noPage (drop (need - length ch) f)) where
-  need-rows : need ≡ pagesFor (length (rowsOf es))
-  need-rows = n ∙ pagesFor-rows es a h
+  abbrev rows : Rows Fix
+  rows = rowsOf (tableWith n ws)
 
-  pub settle-bytes : (cell : ℕ) {b₁ b₂ : List ℕ} → b₁ ≡ written b (givenLeaves front (drop need ch)) → b₂ ≡ written b₁ (leaves kindFirst cell (take need ps) (rowsOf es))
-      → b₂ ≡ written b (settledLeaves cell ch f (rowsOf es))
+  need-rows : need ≡ pagesFor (length rows)
+  need-rows = asked ∙ ap pagesFor (sym (length-rows n ws h l))
+
+  pub settle-bytes : (cell : ℕ) {b₁ b₂ : List ℕ} → b₁ ≡ written b (givenLeaves front (drop need ch)) → b₂ ≡ written b₁ (leaves kindFirst cell (take need ps) rows)
+      → b₂ ≡ written b (settledLeaves cell ch f rows)
   unfolding settledLeaves
   settle-bytes cell e g =
       let given : givenLeaves front (drop need ch) ≡ givenLeaves (firstOf noPage f) (drop need ch) = rw left (given-front need ch f) in
-      rw (← need-rows) (g ∙ rw (e, given, taken) (sym (written-append b (leaves kindFirst cell (settledChain need ch f) (rowsOf es)) (givenLeaves (firstOf noPage f) (drop need ch)))))
+      rw (← need-rows) (g ∙ rw (e, given, taken) (sym (written-append b (leaves kindFirst cell (settledChain need ch f) rows) (givenLeaves (firstOf noPage f) (drop need ch)))))
 
-  pub settle-ends : {first : ℕ} → length ps ≡ pages → first ≡ firstOf front (drop need ch) → record { first = getD ps 0 0; free = first } ≡ settledEnds ch f (rowsOf es)
+  pub settle-ends : {first : ℕ} → length ps ≡ pages → first ≡ firstOf front (drop need ch) → record { first = getD ps 0 0; free = first } ≡ settledEnds ch f rows
   unfolding settledEnds settledFree pagesFor
   settle-ends s g =
       let some : 0 < need = omega arith in

@@ -6,13 +6,13 @@ ghost use lib.ListN.{length, drop, take};
 ghost use Rattle.terms.specs.Terms.{maxOn, pages, pageEntries, noPage};
 ghost use Rattle.lists.specs.Chains.{firstOf, settledChain};
 ghost use Rattle.lists.specs.Tests.{Each};
-ghost use Rattle.entries.specs.Entries.{rowsOf};
+ghost use Rattle.entries.specs.Entries.{tableWith, tableWords, rowsOf};
 ghost use Rattle.page.specs.Page.{kindFirst};
 ghost use Rattle.page.specs.Buffer.{bufferBytes, pagesOf, chainFrom, atNone, endFrom};
 ghost use Rattle.rules.specs.Store.{pagesFor};
 ghost use Rattle.desk.specs.Layout.{leaves};
 ghost use Rattle.settle.specs.Settle.{written, givenLeaves, settledLeaves, settledEnds, kindAt};
-use entries::Entries;
+use entries::TABLE_WORDS;
 use page::Chain;
 use page::KIND_FIRST;
 use page::KIND_FURTHER;
@@ -103,9 +103,18 @@ fn entries_from(n: usize, from: usize) -> usize
 }
 
 // The entries on the first `need` pages of `onto`, from the last to the first, so that each is led on to.
-fn write_chain(buffer: &mut [u8], onto: [u16; PAGES], need: usize, cell: u16, es: Entries)
-    requires { ⌜ (length (now buffer) ≡ bufferBytes) × Each (λ p. p < pages) (take need onto) × (es .n ≤ maxOn) × (need ≡ pagesFor (es .n)) ⌝ }
-    ensures { λ _. ⌜ now (buffer .exit) ≡ written (now (buffer .entry)) (leaves kindFirst cell (take need onto) (rowsOf es)) ⌝ }
+fn write_chain(
+    buffer: &mut [u8],
+    onto: [u16; PAGES],
+    need: usize,
+    cell: u16,
+    table: &[u16; TABLE_WORDS],
+    n: usize,
+)
+    requires { ⌜ (length (now buffer) ≡ bufferBytes) × Each (λ p. p < pages) (take need onto) × (n ≤ maxOn) × (length (now table) ≡ tableWords)
+        × (need ≡ pagesFor n) ⌝ }
+    ensures { λ _. ⌜ now (buffer .exit)
+        ≡ written (now (buffer .entry)) (leaves kindFirst cell (take need onto) (rowsOf (tableWith n (now (table .entry))))) ⌝ }
 {
     let mut next = NO_PAGE;
     let mut k = need;
@@ -119,9 +128,9 @@ fn write_chain(buffer: &mut [u8], onto: [u16; PAGES], need: usize, cell: u16, es
             kind_at(j),
             next,
             cell,
-            es,
+            table,
             from,
-            entries_from(es.n, from),
+            entries_from(n, from),
         );
         next = p;
         k = j;
@@ -129,22 +138,30 @@ fn write_chain(buffer: &mut [u8], onto: [u16; PAGES], need: usize, cell: u16, es
 }
 
 // The cell's entries on the pages that they need: the chain gives up its last pages, or takes from the front of the free chain.
-pub fn settle(buffer: &mut [u8], chain: Chain, free: u16, cell: u16, es: Entries) -> Settled
+pub fn settle(
+    buffer: &mut [u8],
+    chain: Chain,
+    free: u16,
+    cell: u16,
+    table: &[u16; TABLE_WORDS],
+    n: usize,
+) -> Settled
     requires { ⌜ (length (now buffer) ≡ bufferBytes)
-        × (es .n ≤ maxOn)
+        × (n ≤ maxOn)
+        × (length (now table) ≡ tableWords)
         × (chain .n ≤ pages)
         × Each (λ p. p < pages) (pagesOf chain)
         × (endFrom pages (now buffer) free ≡ atNone)
-        × (pagesFor (length (rowsOf es)) ≤ length (pagesOf chain) + length (chainFrom pages (now buffer) free)) ⌝ }
-    ensures { λ r. ⌜ (now (buffer .exit)
-        ≡ written (now (buffer .entry)) (settledLeaves cell (pagesOf chain) (chainFrom pages (now (buffer .entry)) free) (rowsOf es)))
-        × (r ≡ settledEnds (pagesOf chain) (chainFrom pages (now (buffer .entry)) free) (rowsOf es)) ⌝ }
+        × (pagesFor (length (rowsOf (tableWith n (now table)))) ≤ length (pagesOf chain) + length (chainFrom pages (now buffer) free)) ⌝ }
+    ensures { λ r. ⌜ (now (buffer .exit) ≡ written (now (buffer .entry))
+        (settledLeaves cell (pagesOf chain) (chainFrom pages (now (buffer .entry)) free) (rowsOf (tableWith n (now (table .entry))))))
+        × (r ≡ settledEnds (pagesOf chain) (chainFrom pages (now (buffer .entry)) free) (rowsOf (tableWith n (now (table .entry))))) ⌝ }
 {
-    let need = pages_for(es.n);
+    let need = pages_for(n);
     let grown = grow(buffer, chain, free, need);
     let front = give_up(buffer, chain, grown.free, need);
     let pages = grown.pages;
-    write_chain(buffer, pages, need, cell, es);
+    write_chain(buffer, pages, need, cell, table, n);
     Settled {
         first: pages[0],
         free: front,

@@ -3,10 +3,11 @@ ghost use mathlib.Core.Path.{_≡_};
 ghost use Prim.Native.Nat.{_<_, _≤_};
 ghost use lib.ListN.{length};
 ghost use Rattle.terms.specs.Terms.{pages, pageEntries, maxOn};
+ghost use Rattle.entries.specs.Entries.{tableWords};
 ghost use Rattle.page.specs.Page.{pageBytes};
 ghost use Rattle.page.specs.Buffer.{bufferBytes};
-use entries::Entries;
 use entries::Entry;
+use entries::TABLE_WORDS;
 use libc::STDOUT_FILENO;
 use page::BUFFER_BYTES;
 use page::Chain;
@@ -22,7 +23,9 @@ const ENTRIES: usize = 70;
 
 fn main() {
     let mut buffer = [0u8; BUFFER_BYTES];
-    write_chain(&mut buffer, table());
+    let mut table = [0u16; TABLE_WORDS];
+    fill_table(&mut table);
+    write_chain(&mut buffer, &table);
     page_write::free_page(&mut buffer, 7, 11);
     print_chain(&buffer, page_chain::read_chain(&buffer, 5));
     print_page(&buffer, 7);
@@ -40,30 +43,29 @@ fn entry(i: usize) -> Entry
     }
 }
 
-fn table() -> Entries
-    ensures { λ r. ⌜ r .n ≡ 70 ⌝ }
+fn fill_table(table: &mut [u16; TABLE_WORDS])
+    requires { ⌜ length (now table) ≡ tableWords ⌝ }
+    ensures { λ _. ⌜ length (now (table .exit)) ≡ tableWords ⌝ }
 {
-    let mut es = Entries::empty();
     let mut i: usize = 0;
     while i < ENTRIES {
-        es = es.pushed(entry(i));
+        entries::pushed(table, i, entry(i));
         i += 1;
     }
-    es
 }
 
 // The table as a chain of pages 5, 2 and 9.
-fn write_chain(buffer: &mut [u8], es: Entries)
-    requires { ⌜ (length (now buffer) ≡ bufferBytes) × (es .n ≡ 70) ⌝ }
+fn write_chain(buffer: &mut [u8], table: &[u16; TABLE_WORDS])
+    requires { ⌜ (length (now buffer) ≡ bufferBytes) × (length (now table) ≡ tableWords) ⌝ }
 {
-    page_write::write_page(buffer, 5, page::KIND_FIRST, 2, CELL, es, 0, PAGE_ENTRIES);
+    page_write::write_page(buffer, 5, page::KIND_FIRST, 2, CELL, table, 0, PAGE_ENTRIES);
     page_write::write_page(
         buffer,
         2,
         page::KIND_FURTHER,
         9,
         CELL,
-        es,
+        table,
         PAGE_ENTRIES,
         PAGE_ENTRIES,
     );
@@ -73,7 +75,7 @@ fn write_chain(buffer: &mut [u8], es: Entries)
         page::KIND_FURTHER,
         NO_PAGE,
         CELL,
-        es,
+        table,
         2 * PAGE_ENTRIES,
         6,
     );

@@ -3,10 +3,11 @@ ghost use mathlib.Core.Path.{_≡_};
 ghost use Prim.Native.Nat.{_+_, _<_, _≤_};
 ghost use lib.ListN.{length};
 ghost use Rattle.terms.specs.Terms.{pages, maxOn, fieldBytes};
+ghost use Rattle.entries.specs.Entries.{tableWords};
 ghost use Rattle.page.specs.Page.{pageBytes};
 ghost use Rattle.page.specs.Buffer.{bufferBytes};
-use entries::Entries;
 use entries::Entry;
+use entries::TABLE_WORDS;
 use libc::STDOUT_FILENO;
 use page::BUFFER_BYTES;
 use page::Chain;
@@ -44,7 +45,9 @@ const LAST_AT: usize = 198;
 
 fn main() {
     let mut buffer = [0u8; BUFFER_BYTES];
-    write_pages(&mut buffer, table());
+    let mut table = [0u16; TABLE_WORDS];
+    fill_table(&mut table);
+    write_pages(&mut buffer, &table);
     show_chains(&mut buffer);
     show_pages(&mut buffer);
 }
@@ -61,20 +64,19 @@ fn entry(i: usize) -> Entry
     }
 }
 
-fn table() -> Entries
-    ensures { λ r. ⌜ r .n ≡ 34 ⌝ }
+fn fill_table(table: &mut [u16; TABLE_WORDS])
+    requires { ⌜ length (now table) ≡ tableWords ⌝ }
+    ensures { λ _. ⌜ length (now (table .exit)) ≡ tableWords ⌝ }
 {
-    let mut es = Entries::empty();
     let mut i: usize = 0;
     while i < ENTRIES {
-        es = es.pushed(entry(i));
+        entries::pushed(table, i, entry(i));
         i += 1;
     }
-    es
 }
 
-fn write_pages(buffer: &mut [u8], es: Entries)
-    requires { ⌜ (length (now buffer) ≡ bufferBytes) × (es .n ≡ 34) ⌝ }
+fn write_pages(buffer: &mut [u8], table: &[u16; TABLE_WORDS])
+    requires { ⌜ (length (now buffer) ≡ bufferBytes) × (length (now table) ≡ tableWords) ⌝ }
 {
     page_write::write_page(
         buffer,
@@ -82,7 +84,7 @@ fn write_pages(buffer: &mut [u8], es: Entries)
         page::KIND_FIRST,
         FURTHER as u16,
         CELL,
-        es,
+        table,
         0,
         PAGE_ENTRIES,
     );
@@ -92,7 +94,7 @@ fn write_pages(buffer: &mut [u8], es: Entries)
         page::KIND_FURTHER,
         NO_PAGE,
         CELL,
-        es,
+        table,
         PAGE_ENTRIES,
         2,
     );

@@ -5,6 +5,7 @@ ghost use mathlib.Core.Path.{_≡_};
 ghost use Prim.Native.Nat.{_<_, _≤_};
 ghost use lib.ListN.{length};
 ghost use Rattle.terms.specs.Terms.{pages};
+ghost use Rattle.entries.specs.Entries.{tableWords};
 ghost use Rattle.page.specs.Buffer.{bufferBytes};
 ghost use Rattle.desk.specs.Layout.{lineSlots};
 use desk::CutList;
@@ -14,8 +15,8 @@ use desk::Line;
 use desk::Parts;
 use desk::Report;
 use desk::Slot;
-use entries::Entries;
 use entries::Entry;
+use entries::TABLE_WORDS;
 use terms::NO_PAGE;
 use terms::PAGE_ENTRIES;
 use terms::PAGES;
@@ -335,16 +336,15 @@ fn low_entry(i: usize) -> Entry
     }
 }
 
-fn low_entries() -> Entries
-    ensures { λ r. ⌜ r .n ≡ 34 ⌝ }
+fn fill_low(table: &mut [u16; TABLE_WORDS])
+    requires { ⌜ length (now table) ≡ tableWords ⌝ }
+    ensures { λ _. ⌜ length (now (table .exit)) ≡ tableWords ⌝ }
 {
-    let mut es = Entries::empty();
     let mut i: usize = 0;
     while i < LOW_ENTRIES {
-        es = es.pushed(low_entry(i));
+        entries::pushed(table, i, low_entry(i));
         i += 1;
     }
-    es
 }
 
 // An entry of the high cell.
@@ -357,14 +357,14 @@ fn high_entry(radio: u16) -> Entry {
 }
 
 // Those of radios 5, 7, `third` and 10.
-fn high_entries(third: u16) -> Entries
-    ensures { λ r. ⌜ r .n ≡ 4 ⌝ }
+fn fill_high(table: &mut [u16; TABLE_WORDS], third: u16)
+    requires { ⌜ length (now table) ≡ tableWords ⌝ }
+    ensures { λ _. ⌜ length (now (table .exit)) ≡ tableWords ⌝ }
 {
-    let mut es = Entries::empty();
-    es = es.pushed(high_entry(5));
-    es = es.pushed(high_entry(7));
-    es = es.pushed(high_entry(third));
-    es.pushed(high_entry(10))
+    entries::pushed(table, 0, high_entry(5));
+    entries::pushed(table, 1, high_entry(7));
+    entries::pushed(table, 2, high_entry(third));
+    entries::pushed(table, 3, high_entry(10));
 }
 
 // The low cell's entries, so many on each of its pages.
@@ -372,14 +372,15 @@ pub fn write_low(buffer: &mut [u8], first: usize, further: usize)
     requires { ⌜ (length (now buffer) ≡ bufferBytes) × (first ≤ 32) × (further ≤ 2) ⌝ }
     ensures { λ _. ⌜ length (now (buffer .exit)) ≡ bufferBytes ⌝ }
 {
-    let es = low_entries();
+    let mut table = [0u16; TABLE_WORDS];
+    fill_low(&mut table);
     page_write::write_page(
         buffer,
         LOW_FIRST,
         page::KIND_FIRST,
         LOW_FURTHER as u16,
         0,
-        es,
+        &table,
         0,
         first,
     );
@@ -389,7 +390,7 @@ pub fn write_low(buffer: &mut [u8], first: usize, further: usize)
         page::KIND_FURTHER,
         NO_PAGE,
         0,
-        es,
+        &table,
         first,
         further,
     );
@@ -400,25 +401,28 @@ pub fn write_high(buffer: &mut [u8], twice: bool)
     requires { ⌜ length (now buffer) ≡ bufferBytes ⌝ }
     ensures { λ _. ⌜ length (now (buffer .exit)) ≡ bufferBytes ⌝ }
 {
+    let mut table = [0u16; TABLE_WORDS];
     if twice {
+        fill_high(&mut table, 7);
         page_write::write_page(
             buffer,
             HIGH_FIRST,
             page::KIND_FIRST,
             NO_PAGE,
             1,
-            high_entries(7),
+            &table,
             0,
             4,
         );
     } else {
+        fill_high(&mut table, 10);
         page_write::write_page(
             buffer,
             HIGH_FIRST,
             page::KIND_FIRST,
             NO_PAGE,
             1,
-            high_entries(10),
+            &table,
             0,
             3,
         );
@@ -430,16 +434,8 @@ pub fn write_none(buffer: &mut [u8], p: usize, cell: u16)
     requires { ⌜ (length (now buffer) ≡ bufferBytes) × (p < pages) ⌝ }
     ensures { λ _. ⌜ length (now (buffer .exit)) ≡ bufferBytes ⌝ }
 {
-    page_write::write_page(
-        buffer,
-        p,
-        page::KIND_FIRST,
-        NO_PAGE,
-        cell,
-        Entries::empty(),
-        0,
-        0,
-    );
+    let table = [0u16; TABLE_WORDS];
+    page_write::write_page(buffer, p, page::KIND_FIRST, NO_PAGE, cell, &table, 0, 0);
 }
 
 // The pages from a to b are free in that order.

@@ -3,6 +3,7 @@
 ghost use mathlib.Core.Path.{_≡_};
 ghost use Prim.Native.Nat.{_<_, _≤_};
 ghost use lib.ListN.{length};
+ghost use Rattle.entries.specs.Entries.{tableWords};
 ghost use Rattle.page.specs.Buffer.{bufferBytes};
 use super::small;
 use super::small::CUT;
@@ -12,8 +13,8 @@ use super::small::Memo;
 use desk::Desk;
 use desk::Line;
 use desk::Slot;
-use entries::Entries;
 use entries::Entry;
+use entries::TABLE_WORDS;
 use terms::NO_PAGE;
 use terms::PAGE_ENTRIES;
 
@@ -40,21 +41,23 @@ fn stale_memo(n: usize) -> Memo
 }
 
 // The entries of the radios from `first` on.
-fn stale_entries(first: usize, n: usize) -> Entries
-    requires { ⌜ (first ≤ 1152) × (n ≤ 32) ⌝ }
-    ensures { λ r. ⌜ r .n ≡ n ⌝ }
+fn fill_stale(table: &mut [u16; TABLE_WORDS], first: usize, n: usize)
+    requires { ⌜ (length (now table) ≡ tableWords) × (first ≤ 1152) × (n ≤ 32) ⌝ }
+    ensures { λ _. ⌜ length (now (table .exit)) ≡ tableWords ⌝ }
 {
-    let mut es = Entries::empty();
     let mut i: usize = 0;
     while i < n {
-        es = es.pushed(Entry {
-            radio: (first + i) as u16,
-            east: 1,
-            north: 1,
-        });
+        entries::pushed(
+            table,
+            i,
+            Entry {
+                radio: (first + i) as u16,
+                east: 1,
+                north: 1,
+            },
+        );
         i += 1;
     }
-    es
 }
 
 fn stale_kind(p: usize) -> u16 {
@@ -70,16 +73,17 @@ fn write_full(buffer: &mut [u8])
     requires { ⌜ length (now buffer) ≡ bufferBytes ⌝ }
     ensures { λ _. ⌜ length (now (buffer .exit)) ≡ bufferBytes ⌝ }
 {
+    let mut table = [0u16; TABLE_WORDS];
     let mut p: usize = 0;
     while p < STALE_PAGES - 1 {
-        let es = stale_entries(PAGE_ENTRIES * p + 1, PAGE_ENTRIES);
+        fill_stale(&mut table, PAGE_ENTRIES * p + 1, PAGE_ENTRIES);
         page_write::write_page(
             buffer,
             p,
             stale_kind(p),
             (p + 1) as u16,
             0,
-            es,
+            &table,
             0,
             PAGE_ENTRIES,
         );
@@ -103,14 +107,15 @@ pub fn write_rest(buffer: &mut [u8], n: usize)
     ensures { λ _. ⌜ length (now (buffer .exit)) ≡ bufferBytes ⌝ }
 {
     let rest = n - PAGE_ENTRIES * (STALE_PAGES - 1);
-    let es = stale_entries(PAGE_ENTRIES * (STALE_PAGES - 1) + 1, rest);
+    let mut table = [0u16; TABLE_WORDS];
+    fill_stale(&mut table, PAGE_ENTRIES * (STALE_PAGES - 1) + 1, rest);
     page_write::write_page(
         buffer,
         STALE_PAGES - 1,
         page::KIND_FURTHER,
         NO_PAGE,
         0,
-        es,
+        &table,
         0,
         rest,
     );

@@ -1,23 +1,22 @@
 -- The two sides of a cut: which entries stay, walked from the first to the last, and the two cells' slots where the desk is that of a store.
 use mathlib.Core.Path.{_≡_, refl, sym, ap, _∙_}
-use mathlib.Core.Bool.{Bool, true, false, not, Bool·beq}
+use mathlib.Core.Bool.{Bool, true, false, not}
 use mathlib.Core.List.{List, [], _∷_, _++_, append-nil, map}
 use Prim.Native.Nat.{ℕ, suc, _+_, _-_, _≤_, _<_}
 use native.Mathlib.Omega.{arith}
 use native.Mathlib.Numerals.{add-one}
 use lib.Dec.{ltb}
-use lib.ListN.{length, getD, set, take, length-set}
-use lib.Seq.{take-suc, take-suc-set, take-set-le}
-use Rattle.terms.specs.Terms.{Fix, maxOn, noPage}
+use lib.ListN.{length, getD, set, take}
+use lib.Seq.{take-suc, take-suc-set, take-set-le, getD-set-other}
+use Rattle.terms.specs.Terms.{maxOn, noPage}
 use Rattle.lists.specs.Chains.{firstOf}
-use Rattle.lists.specs.Rows.{Row}
 use Rattle.lists.specs.Sums.{keep, filter}
 use Rattle.lists.specs.Tests.{one-if}
 use Rattle.lists.proofs.Cases.{by-cases}
 use Rattle.lists.proofs.MapLaws.{map-filter}
 use Rattle.entries.specs.declared.Entry.{Entry}
-use Rattle.entries.specs.declared.Entries.{Entries}
-use Rattle.entries.specs.Entries.{rowOf, rowsOf}
+use Rattle.entries.specs.Entries.{rowOf, noEntry, tableWith, tableWords, everyEntry, rowsOf}
+use Rattle.entries.proofs.ArrayLaws.{length-every}
 use Rattle.entries.proofs.TableLaws.{length-rows}
 use Rattle.rules.specs.Store.{Cell, settled}
 use Rattle.rules.specs.Cut.{Cut, lowSide}
@@ -26,7 +25,7 @@ use Rattle.desk.specs.declared.Slot.{Slot}
 use Rattle.desk.specs.Layout.{slotOf}
 use Rattle.cut.specs.Choice.{cutAt}
 use Rattle.cut.proofs.SideLaws.{axis-east, axis-north}
-use Rattle.split.specs.Split.{sideOf, lowSlot, highSlot}
+use Rattle.split.specs.Split.{lowSlot, highSlot}
 
 -- ---- lists
 
@@ -57,56 +56,69 @@ module _ (e : Entry) (a at : ℕ) where
   pub low-north : (a ≡ 0 → ⊥) → ltb (e .north) at ≡ lowSide (cutAt a at) (rowOf e)
   low-north h = rw (axis-north a h)
 
-side-is : (b low : Bool) (c : Cut) (e : Row Fix) → b ≡ lowSide c e → Bool·beq b low ≡ sideOf low c e
-side-is true true c e s = s
-side-is false true c e s = s
-side-is true false c e s = ap not s
-side-is false false c e s = ap not s
+-- ---- the entries of the sides
 
-module _ {b : Bool} (low : Bool) (c : Cut) (e : Row Fix) (said : b ≡ lowSide c e) where
-  pub side-yes : Bool·beq b low ≡ true → 1 ≡ one-if (sideOf low c e)
-  side-yes t = ap one-if (sym t ∙ side-is b low c e said)
+abbrev isLow : Cut → Entry → Bool
+isLow c e = lowSide c (rowOf e)
 
-  pub side-no : Bool·beq b low ≡ false → 0 ≡ one-if (sideOf low c e)
-  side-no t = ap one-if (sym t ∙ side-is b low c e said)
+abbrev isHigh : Cut → Entry → Bool
+isHigh c e = not (lowSide c (rowOf e))
 
--- ---- the entries of a side
+-- of the first i those of the low side stand one after the other, so do the others in an array of their own, and the entries to come are as they were
+pub record Parted (c : Cut) (old : List Entry) (i low : ℕ) (left far : List Entry) : Type 0 where
+  pub stay : take low left ≡ filter (isLow c) (take i old)
+  pub went : take (i - low) far ≡ filter (isHigh c) (take i old)
+  pub rest : (j : ℕ) → i ≤ j → getD left j noEntry ≡ getD old j noEntry
 
-abbrev noEntry : Entry
-noEntry = record { radio = 0; east = 0; north = 0 }
-
-abbrev on : Bool → Cut → Entry → Bool
-on low c e = sideOf low c (rowOf e)
-
--- of the first i the ones of the side are kept, one after the other
-pub record Parted (es : Entries) (low : Bool) (c : Cut) (i kept : ℕ) (all : List Entry) : Type 0 where
-  pub fits : es .n ≤ maxOn
-  pub given : length (es .all) ≡ maxOn
-  pub size : length all ≡ maxOn
-  pub list : take kept all ≡ filter (on low c) (take i (es .all))
-
-pub part-start : (es : Entries) (low : Bool) (c : Cut) → length (es .all) ≡ maxOn → es .n ≤ maxOn → Parted es low c 0 0 (es .all)
+pub part-start : (c : Cut) (old far : List Entry) → Parted c old 0 0 old far
 unfolding filter
-part-start es low c l h = record { fits = h; given = l; size = l; list = refl }
+part-start c old far = record { stay = refl; went = refl; rest = λ j h. refl }
 
-module _ {es : Entries} {low : Bool} {c : Cut} {i kept : ℕ} {all : List Entry} (r : Parted es low c i kept all) where
-  pub part-turn : {e : ℕ} → i < es .n → kept ≤ i → e ≡ one-if (sideOf low c (rowOf (getD (es .all) i noEntry)))
-      → Parted es low c (i + 1) (kept + e) (set all kept (getD (es .all) i noEntry))
-  part-turn more room said = record {
-    fits = r .fits;
-    given = r .given;
-    size = length-set all kept (getD (es .all) i noEntry) ∙ r .size;
-    list = filter-turn (on low c) (es .all) all noEntry i kept (omega (arith, r .fits, r .given)) (omega (arith, r .fits, r .size)) said (r .list);
-  }
+other-side : (b : Bool) → one-if b + one-if (not b) ≡ 1
+other-side true = refl
+other-side false = refl
 
-  pub part-rows : i ≤ es .n → es .n ≤ i → rowsOf (record { n = kept; all = all }) ≡ filter (sideOf low c) (rowsOf es)
+module _ {c : Cut} (ws : List ℕ) {i low : ℕ} (us vs : List ℕ) (r : Parted c (everyEntry ws) i low (everyEntry us) (everyEntry vs)) (room : low ≤ i) (more : i < maxOn)
+    (size : length ws ≡ tableWords) (left-size : length us ≡ tableWords) (far-size : length vs ≡ tableWords) where
+  pub part-turn : {e : Entry} {b : Bool} {t : ℕ} {left far : List Entry} → e ≡ getD (everyEntry us) i noEntry → left ≡ set (everyEntry us) low e
+      → far ≡ set (everyEntry vs) (i - low) e → b ≡ lowSide c (rowOf e) → t ≡ one-if b → Parted c (everyEntry ws) (i + 1) (low + t) left far
+  part-turn {e} {b} {t} read put-low put-far is-low counts =
+      let old : List Entry = everyEntry ws in
+      let x : Entry = getD old i noEntry in
+      let same : e ≡ x = read ∙ r .rest i (omega arith) in
+      let m = length-every ws size in
+      let k = length-every us left-size in
+      let l = length-every vs far-size in
+      let here : t ≡ one-if (isLow c x) = counts ∙ ap one-if (is-low ∙ ap (isLow c) same) in
+      let there : one-if (isHigh c x) + t ≡ 1 = omega (arith, here, other-side (isLow c x)) in
+      let gap : i + 1 - (low + t) ≡ i - low + one-if (isHigh c x) = omega arith in
+      record {
+        stay = rw (put-low, same) (filter-turn (isLow c) old (everyEntry us) noEntry i low (omega arith) (omega arith) here (r .stay));
+        went = rw (put-far, same, gap) (filter-turn (isHigh c) old (everyEntry vs) noEntry i (i - low) (omega arith) (omega arith) refl (r .went));
+        rest = λ j h. ap (λ (y : List Entry). getD y j noEntry) put-low ∙ getD-set-other (everyEntry us) low j e noEntry (omega arith) ∙ r .rest j (omega arith);
+      }
+
+-- where the loop ends
+module _ {c : Cut} (n : ℕ) (ws : List ℕ) {i low : ℕ} (us vs : List ℕ) (r : Parted c (everyEntry ws) i low (everyEntry us) (everyEntry vs)) (h : i ≤ n) (k : n ≤ i) where
+  pub low-rows : rowsOf (tableWith low us) ≡ filter (lowSide c) (rowsOf (tableWith n ws))
   unfolding rowsOf
-  part-rows h k =
-      let z : i ≡ es .n = omega arith in
-      ap (map rowOf) (r .list ∙ ap (λ (n : ℕ). filter (on low c) (take n (es .all))) z) ∙ map-filter rowOf (sideOf low c) (take (es .n) (es .all))
+  low-rows =
+      let z : i ≡ n = omega arith in
+      ap (map rowOf) (r .stay ∙ ap (λ (m : ℕ). filter (isLow c) (take m (everyEntry ws))) z) ∙ map-filter rowOf (lowSide c) (take n (everyEntry ws))
 
-  pub part-count : i ≤ es .n → es .n ≤ i → kept ≤ i → kept ≡ length (filter (sideOf low c) (rowsOf es))
-  part-count h k room = sym (length-rows (record { n = kept; all = all }) (omega (arith, r .fits, r .size))) ∙ ap length (part-rows h k)
+  pub high-rows : rowsOf (tableWith (n - low) vs) ≡ filter (λ e. not (lowSide c e)) (rowsOf (tableWith n ws))
+  unfolding rowsOf
+  high-rows =
+      let z : i ≡ n = omega arith in
+      ap (λ (m : ℕ). map rowOf (take (m - low) (everyEntry vs))) (sym z)
+      ∙ ap (map rowOf) (r .went ∙ ap (λ (m : ℕ). filter (isHigh c) (take m (everyEntry ws))) z) ∙ map-filter rowOf (λ e. not (lowSide c e)) (take n (everyEntry ws))
+
+  module _ (fits : n ≤ maxOn) (room : low ≤ i) where
+    pub low-count : length us ≡ tableWords → low ≡ length (filter (lowSide c) (rowsOf (tableWith n ws)))
+    low-count l = sym (length-rows low us (omega arith) l) ∙ ap length low-rows
+
+    pub high-count : length vs ≡ tableWords → n - low ≡ length (filter (λ e. not (lowSide c e)) (rowsOf (tableWith n ws)))
+    high-count l = sym (length-rows (n - low) vs (omega arith) l) ∙ ap length high-rows
 
 -- ---- the slots
 

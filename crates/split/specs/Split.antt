@@ -1,18 +1,10 @@
--- What a split makes of a cell (01, "Split") on what the desk holds: the entries of each side, and the two cells' slots.
-use mathlib.Core.Bool.{Bool, true, false, not}
+-- What a split makes of a cell (01, "Split") on what the desk holds: the two cells' slots.
 use Prim.Native.Nat.{ℕ}
-use Rattle.terms.specs.Terms.{Fix}
-use Rattle.lists.specs.Rows.{Row}
 use Rattle.rules.specs.Grid.{Rect}
-use Rattle.rules.specs.Cut.{Cut, lowSide}
+use Rattle.rules.specs.Cut.{Cut}
 use Rattle.rules.specs.Flush.{lowEdges, highEdges}
 use Rattle.desk.specs.declared.Slot.{Slot}
 use Rattle.desk.specs.Views.{edgesOf}
-
--- an entry on the low side of the cut, or on the other
-abbrev pub sideOf : Bool → Cut → Row Fix → Bool
-sideOf true c e = lowSide c e
-sideOf false c e = not (lowSide c e)
 
 -- a cell's slot
 abbrev pub slotWith : ℕ → Rect → ℕ → Slot

@@ -5,17 +5,22 @@ ghost use Prim.Native.Nat.{_≤_};
 ghost use lib.ListN.{length};
 ghost use Rattle.terms.specs.Terms.{maxOn};
 ghost use Rattle.lists.specs.Sums.{filter};
-ghost use Rattle.lists.specs.Tests.{one-if};
-ghost use Rattle.entries.specs.Entries.{rowOf, rowsOf};
+ghost use Rattle.entries.specs.Entries.{rowOf, tableWith, tableWords, rowsOf};
 ghost use Rattle.rules.specs.Cut.{lowSide};
 ghost use Rattle.cut.specs.Choice.{cutAt};
-ghost use Rattle.split.specs.Split.{sideOf, lowSlot, highSlot};
+ghost use Rattle.split.specs.Split.{lowSlot, highSlot};
 use desk::EAST;
 use desk::Slot;
-use entries::Entries;
 use entries::Entry;
+use entries::TABLE_WORDS;
 
-// ---- the entries of a side
+// How many entries lie on each side.
+pub struct Sides {
+    pub low: usize,
+    pub high: usize,
+}
+
+// ---- the entries of the sides
 
 // "coordinates below c on the low side"
 fn is_low(e: Entry, axis: u8, at: u16) -> bool
@@ -28,48 +33,33 @@ fn is_low(e: Entry, axis: u8, at: u16) -> bool
     }
 }
 
-// 1 for an entry on the side asked for, else 0.
-fn stays(e: Entry, axis: u8, at: u16, low: bool) -> usize
-    ensures { λ r. ⌜ (r ≡ one-if (sideOf low (cutAt axis at) (rowOf e))) × (r ≤ 1) ⌝ }
+// The entries on the low side of the cut move up in the table, those on its other side go into `far`. The sides take turns at random, so there is no branch: an
+// entry is put after those of either side, and kept where it lies there.
+pub fn parted<'a>(
+    table: &'a mut [u16; TABLE_WORDS],
+    n: usize,
+    axis: u8,
+    at: u16,
+    far: &'a mut [u16; TABLE_WORDS],
+) -> Sides
+    requires { ⌜ (n ≤ maxOn) × (length (now table) ≡ tableWords) × (length (now far) ≡ tableWords) ⌝ }
+    ensures { λ r. ⌜ (rowsOf (tableWith (r .low) (now (table .exit))) ≡ filter (lowSide (cutAt axis at)) (rowsOf (tableWith n (now (table .entry)))))
+        × (rowsOf (tableWith (r .high) (now (far .exit))) ≡ filter (λ e. not (lowSide (cutAt axis at) e)) (rowsOf (tableWith n (now (table .entry)))))
+        × (r .low ≡ length (filter (lowSide (cutAt axis at)) (rowsOf (tableWith n (now (table .entry))))))
+        × (r .high ≡ length (filter (λ e. not (lowSide (cutAt axis at) e)) (rowsOf (tableWith n (now (table .entry))))))
+        × (r .low ≤ n) × (r .high ≤ n) × (length (now (table .exit)) ≡ tableWords) × (length (now (far .exit)) ≡ tableWords) ⌝ }
 {
-    if is_low(e, axis, at) == low { 1 } else { 0 }
-}
-
-// The entries of one side: an entry is put after those kept, and kept where it lies there.
-fn part_of(es: Entries, axis: u8, at: u16, low: bool) -> Entries
-    requires { ⌜ es .n ≤ maxOn ⌝ }
-    ensures { λ r. ⌜ (rowsOf r ≡ filter (sideOf low (cutAt axis at)) (rowsOf es)) × (r .n ≡ length (filter (sideOf low (cutAt axis at)) (rowsOf es)))
-        × (r .n ≤ es .n) ⌝ }
-{
-    let mut part = es;
-    let mut kept: usize = 0;
+    let mut low: usize = 0;
     let mut i: usize = 0;
-    while i < es.n {
-        let e = es.all[i];
-        part.all[kept] = e;
-        kept += stays(e, axis, at, low);
-        i += 1;
+    while i < n {
+        let e = entries::entry_at(table, i);
+        entries::put_entry(table, low, e);
+        entries::put_entry(far, i - low, e);
+        let stays = is_low(e, axis, at);
+        low = low + lists::one_if(stays);
+        i = i + 1;
     }
-    part.n = kept;
-    part
-}
-
-// The entries on the low side of the cut.
-pub fn low_part(es: Entries, axis: u8, at: u16) -> Entries
-    requires { ⌜ es .n ≤ maxOn ⌝ }
-    ensures { λ r. ⌜ (rowsOf r ≡ filter (lowSide (cutAt axis at)) (rowsOf es)) × (r .n ≡ length (filter (lowSide (cutAt axis at)) (rowsOf es)))
-        × (r .n ≤ es .n) ⌝ }
-{
-    part_of(es, axis, at, true)
-}
-
-// The entries on its other side.
-pub fn high_part(es: Entries, axis: u8, at: u16) -> Entries
-    requires { ⌜ es .n ≤ maxOn ⌝ }
-    ensures { λ r. ⌜ (rowsOf r ≡ filter (λ e. not (lowSide (cutAt axis at) e)) (rowsOf es))
-        × (r .n ≡ length (filter (λ e. not (lowSide (cutAt axis at) e)) (rowsOf es))) × (r .n ≤ es .n) ⌝ }
-{
-    part_of(es, axis, at, false)
+    Sides { low, high: n - low }
 }
 
 // ---- the two cells in the directory

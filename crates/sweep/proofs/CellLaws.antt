@@ -12,7 +12,7 @@ use Rattle.lists.specs.Sums.{sumBy}
 use Rattle.lists.specs.Tests.{Each}
 use Rattle.lists.proofs.SumsLaws.{sum-cons, sum-le, length-filter, length-filter-not}
 use Rattle.lists.proofs.TestsLaws.{each-map, each-zip}
-use Rattle.entries.specs.Entries.{rowsOf}
+use Rattle.entries.specs.Entries.{tableWith, tableWords, rowsOf}
 use Rattle.page.specs.declared.Chain.{Chain}
 use Rattle.page.specs.Buffer.{there, pagesOf, chainFrom, entriesOn}
 use Rattle.rules.specs.Store.{Line, Cell, Store}
@@ -26,7 +26,6 @@ use Rattle.desk.specs.Layout.{lineSlots, memoOf, Laid}
 use Rattle.desk.proofs.ReadLaws.{CellRead, Paged, cells-read, pages-enough}
 use Rattle.memo.specs.Memo.{linesOf, Whole}
 use Rattle.memo.proofs.MemoLaws.{lines-are, whole-is, count-is}
-use Rattle.entries.specs.declared.Entries.{Entries}
 
 -- ---- lists
 
@@ -83,9 +82,10 @@ module _ {b : List ℕ} {memo : Rows Line} {c : Cell} (cell : Sweepable b memo c
   on-chain : entriesOn b (pagesOf chain) ≡ c .entries
   on-chain = ap (entriesOn b) whole-chain ∙ cell .entries
 
-  pub cell-asks : chain .n ≤ pages → length memo ≤ lineSlots → Rising 0 memo
+  pub cell-asks : (table : List ℕ) → chain .n ≤ pages → length memo ≤ lineSlots → Rising 0 memo → length table ≡ tableWords
       → (chain .n ≤ pages) × Each (λ p. there b p ≡ true) (pagesOf chain) × Rising 0 (entriesOn b (pagesOf chain)) × Whole m × (m .n ≤ lineSlots) × Rising 0 (linesOf m) × (length (sweptEntries (linesOf m) (entriesOn b (pagesOf chain))) ≤ maxOn)
-  cell-asks n f a = (
+      × (length table ≡ tableWords)
+  cell-asks table n f a t = (
     n,
     subst (λ (l : List ℕ). Each (λ p. there b p ≡ true) l) (sym whole-chain) (cell .all-there),
     subst (λ (l : Rows Fix). Rising 0 l) (sym on-chain) (cell .rising),
@@ -93,10 +93,12 @@ module _ {b : List ℕ} {memo : Rows Line} {c : Cell} (cell : Sweepable b memo c
     omega (arith, count-is memo held),
     subst (λ (l : Rows Line). Rising 0 l) (sym (lines-are memo held)) a,
     rw (on-chain, lines-are memo held) (cell .room),
+    t,
   )
 
-  pub cell-gives : (table : Entries) {after : Memo}
-      → (rowsOf table ≡ sweptEntries (linesOf m) (entriesOn b (pagesOf chain))) × (table .n ≡ length (sweptEntries (linesOf m) (entriesOn b (pagesOf chain)))) × (after ≡ memoOf (sweptMemo (linesOf m) (entriesOn b (pagesOf chain))))
-      → (rowsOf table ≡ swept memo c .entries) × (table .n ≡ length (swept memo c .entries)) × (after ≡ memoOf (sweptMemo memo (c .entries)))
+  pub cell-gives : (n : ℕ) (table : List ℕ) {after : Memo}
+      → (rowsOf (tableWith n table) ≡ sweptEntries (linesOf m) (entriesOn b (pagesOf chain))) × (n ≡ length (sweptEntries (linesOf m) (entriesOn b (pagesOf chain)))) × (after ≡ memoOf (sweptMemo (linesOf m) (entriesOn b (pagesOf chain))))
+      × (length table ≡ tableWords)
+      → (rowsOf (tableWith n table) ≡ swept memo c .entries) × (n ≡ length (swept memo c .entries)) × (after ≡ memoOf (sweptMemo memo (c .entries))) × (length table ≡ tableWords)
   unfolding swept
-  cell-gives table = rw (on-chain, lines-are memo held) (λ g. g)
+  cell-gives n table = rw (on-chain, lines-are memo held) (λ g. g)

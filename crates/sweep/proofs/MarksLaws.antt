@@ -16,8 +16,8 @@ use Rattle.lists.specs.Tests.{isSome, orElse}
 use Rattle.lists.proofs.Cases.{by-cases, option-cases}
 use Rattle.lists.proofs.RowsLaws.{rising-less, rising-alter, rising-filter, find-below, ext-find}
 use Rattle.lists.proofs.SearchLaws.{rank-le}
-use Rattle.entries.specs.declared.Entries.{Entries}
-use Rattle.entries.specs.Entries.{rowsOf}
+use Rattle.entries.specs.Entries.{tableWith, tableWords, rowsOf}
+use Rattle.entries.proofs.TableLaws.{length-rows}
 use Rattle.rules.specs.Store.{Line as StoreLine}
 use Rattle.rules.specs.Sweep.{stale, lowered, lowerEach, sweptEntries, sweptMemo}
 use Rattle.rules.proofs.BooksLaws.{loweredIf, find-sweptMemo}
@@ -26,9 +26,8 @@ use Rattle.desk.specs.Layout.{lineSlots, memoOf}
 use Rattle.memo.specs.Memo.{linesOf, Whole}
 use Rattle.memo_sweep.specs.Lowering.{lowerIf, lowerWhere, markOf}
 use Rattle.memo_sweep.proofs.LowerLaws.{isSome-kept, in-slots}
-use Rattle.sweep.specs.Sweep.{linePlaces, rowsIn, State, begun, judged, walked}
+use Rattle.sweep.specs.Sweep.{linePlaces, Roomy, State, begun, judged, walked}
 use Rattle.sweep.proofs.LinesLaws.{rank-past}
-use Rattle.sweep.proofs.TableLaws.{length-rowsIn}
 
 -- ---- marks
 
@@ -159,12 +158,16 @@ module _ (l : Rows StoreLine) (es : Rows Fix) (rising : Rising 0 es) (lines : Ri
 
 -- ---- the call
 
-pub chain-swept : (m : Memo) (es : Rows Fix) (table : Entries) (k : ℕ) (radios easts norths : List ℕ) {after : List Bool} {r : Memo} → Whole m → m .n ≤ lineSlots → Rising 0 (linesOf m) → Rising 0 es
-    → rowsIn k radios easts norths ≡ sweptEntries (linesOf m) es → after ≡ walked (linesOf m) (begun (replicate linePlaces false)) es .marks
-    → (rowsOf table ≡ rowsIn k radios easts norths) × (table .n ≡ k) → r ≡ memoOf (lowerWhere (markOf after (linesOf m)) (linesOf m))
-    → (rowsOf table ≡ sweptEntries (linesOf m) es) × (table .n ≡ length (sweptEntries (linesOf m) es)) × (r ≡ memoOf (sweptMemo (linesOf m) es))
-chain-swept m es table k radios easts norths {after} {r} whole few lines a stay marked read low = (
-  read .0 ∙ stay,
-  read .1 ∙ sym (length-rowsIn k radios easts norths) ∙ ap length stay,
-  low ∙ ap (λ (b : List Bool). memoOf (lowerWhere (markOf b (linesOf m)) (linesOf m))) marked ∙ ap memoOf (lower-swept (linesOf m) es a lines (omega (arith, in-slots m whole .count))),
-)
+pub chain-swept : (m : Memo) (es : Rows Fix) (k : ℕ) (ws : List ℕ) {after : List Bool} {r : Memo} → Whole m → m .n ≤ lineSlots → Rising 0 (linesOf m) → Rising 0 es
+    → (rowsOf (tableWith k ws) ≡ sweptEntries (linesOf m) es) × (after ≡ walked (linesOf m) (begun (replicate linePlaces false)) es .marks) × Roomy k ws
+    → r ≡ memoOf (lowerWhere (markOf after (linesOf m)) (linesOf m))
+    → (rowsOf (tableWith k ws) ≡ sweptEntries (linesOf m) es) × (k ≡ length (sweptEntries (linesOf m) es)) × (r ≡ memoOf (sweptMemo (linesOf m) es)) × (length ws ≡ tableWords)
+chain-swept m es k ws {after} {r} whole few lines a went low =
+    let stay = went .0 in
+    let marked = went .1 in
+    let roomy = went .2 in (
+      stay,
+      sym (length-rows k ws (roomy .0) (roomy .1)) ∙ ap length stay,
+      low ∙ ap (λ (b : List Bool). memoOf (lowerWhere (markOf b (linesOf m)) (linesOf m))) marked ∙ ap memoOf (lower-swept (linesOf m) es a lines (omega (arith, in-slots m whole .count))),
+      roomy .1,
+    )

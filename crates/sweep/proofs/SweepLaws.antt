@@ -19,14 +19,15 @@ use Rattle.lists.proofs.RowsLaws.{rising-less, rising-above}
 use Rattle.lists.proofs.SumsLaws.{filter-append}
 use Rattle.lists.proofs.TestsLaws.{each-map, each-split, each-getD, each-every}
 use Rattle.entries.specs.declared.Entry.{Entry}
-use Rattle.entries.specs.Entries.{rowOf}
+use Rattle.entries.specs.Entries.{rowOf, tableWith, tableWords, everyEntry, rowsOf}
+use Rattle.entries.proofs.TableLaws.{length-rows, rows-empty, rows-push}
 use Rattle.page.specs.Page.{count, entryAt, entries}
 use Rattle.page.specs.Buffer.{pageAt, there, entriesOn}
 use Rattle.rules.specs.Store.{Line}
 use Rattle.rules.specs.Sweep.{stale, sweptEntries}
-use Rattle.sweep.specs.Sweep.{rowsIn, Roomy, State, stateOf, begun, judged, walked, Ready}
+use Rattle.sweep.specs.Sweep.{Roomy, State, stateOf, begun, judged, walked, Ready}
 use Rattle.sweep.proofs.LinesLaws.{rank-rises}
-use Rattle.sweep.proofs.TableLaws.{length-rowsIn, rows-skip, rows-more, rows-none}
+use Rattle.sweep.proofs.TableLaws.{rows-skip}
 
 -- ---- lists
 
@@ -116,25 +117,28 @@ module _ (l : Rows Line) (x : Row Fix) where
   unfolding sweptEntries filter
   one-stays t = rw t
 
-module _ (l : Rows Line) (e : Entry) (k : ℕ) (radios easts norths : List ℕ) (roomy : Roomy radios easts norths) (room : length (rowsIn k radios easts norths) + length (sweptEntries l (rowOf e ∷ [])) ≤ maxOn) where
-  abbrev rows : ℕ → Rows Fix
-  rows n = rowsIn n (set radios k (e .radio)) (set easts k (e .east)) (set norths k (e .north))
-
-  rows-judged : rows (k + one-if (not (stale l (rowOf e)))) ≡ rowsIn k radios easts norths ++ sweptEntries l (rowOf e ∷ [])
-  rows-judged =
+module _ (l : Rows Line) (e : Entry) (k : ℕ) (ws : List ℕ) (roomy : Roomy k ws) (room : length (rowsOf (tableWith k ws)) + length (sweptEntries l (rowOf e ∷ [])) ≤ maxOn) where
+  fits-judged : k + one-if (not (stale l (rowOf e))) ≤ maxOn
+  fits-judged =
+      let n = length-rows k ws (roomy .0) (roomy .1) in
       by-cases (stale l (rowOf e))
-      (λ t. let o = one-goes l (rowOf e) t in
-      ap (λ (b : Bool). rows (k + one-if (not b))) t ∙ ap rows (add-zero k) ∙ rows-skip e k radios easts norths
-      ∙ sym (append-nil (rowsIn k radios easts norths)) ∙ ap (λ (y : Rows Fix). rowsIn k radios easts norths ++ y) (sym o))
-      (λ t. let o = one-stays l (rowOf e) t in
-      ap (λ (b : Bool). rows (k + one-if (not b))) t
-      ∙ rows-more e k radios easts norths roomy (omega (arith, ap length o, length-rowsIn k radios easts norths))
-      ∙ ap (λ (y : Rows Fix). rowsIn k radios easts norths ++ y) (sym o))
+      (λ t. omega (arith, ap (λ (b : Bool). one-if (not b)) t, roomy .0))
+      (λ t. omega (arith, ap (λ (b : Bool). one-if (not b)) t, ap length (one-stays l (rowOf e) t)))
+
+  module _ (vs : List ℕ) (put : everyEntry vs ≡ set (everyEntry ws) k e) where
+    rows-judged : rowsOf (tableWith (k + one-if (not (stale l (rowOf e)))) vs) ≡ rowsOf (tableWith k ws) ++ sweptEntries l (rowOf e ∷ [])
+    rows-judged =
+        by-cases (stale l (rowOf e))
+        (λ t. let o = one-goes l (rowOf e) t in
+        ap (λ (b : Bool). rowsOf (tableWith (k + one-if (not b)) vs)) t ∙ ap (λ (n : ℕ). rowsOf (tableWith n vs)) (add-zero k) ∙ rows-skip e k ws vs put
+        ∙ sym (append-nil (rowsOf (tableWith k ws))) ∙ ap (λ (y : Rows Fix). rowsOf (tableWith k ws) ++ y) (sym o))
+        (λ t. let o = one-stays l (rowOf e) t in
+        let n = length-rows k ws (roomy .0) (roomy .1) in
+        ap (λ (b : Bool). rowsOf (tableWith (k + one-if (not b)) vs)) t
+        ∙ rows-push k ws vs e (omega (arith, ap length o)) (roomy .1) put
+        ∙ ap (λ (y : Rows Fix). rowsOf (tableWith k ws) ++ y) (sym o))
 
 -- ---- the entries of a page
-
-pub page-few : {l : Rows Line} (k at : ℕ) (radios easts norths : List ℕ) {marks : List Bool} {es : Rows Fix} → Ready l (stateOf (record { at = at; kept = k }) radios easts norths marks) es → k ≤ maxOn + 0
-page-few k at radios easts norths r = omega (arith, r .room, length-rowsIn k radios easts norths)
 
 pub page-start : (l : Rows Line) (s : State) (v : List ℕ) → s ≡ walked l s (tab 0 (entryAt v))
 unfolding tab
@@ -170,14 +174,18 @@ module _ {l : Rows Line} {s t : State} (b v : List ℕ) (p : ℕ) {n i : ℕ} (r
         ap (λ (x : State). judged l x (rowOf e)) done ∙ sym (walked-one l (walked l s (tab i (entryAt v))) (rowOf e)) ∙ sym (walked-append l s (tab i (entryAt v)) (rowOf e ∷ []))
         ∙ ap (walked l s) (ap (λ (x : Row Fix). tab i (entryAt v) ++ (x ∷ [])) read ∙ sym (tab-suc i (entryAt v)))
 
-pub page-turn : {l : Rows Line} {s : State} {at : ℕ} (k : ℕ) (radios easts norths : List ℕ) {marks : List Bool} (b v : List ℕ) (p : ℕ) {n i : ℕ}
-    → Ready l s (entries (pageAt b p)) → v ≡ pageAt b p → n ≡ count v → stateOf (record { at = at; kept = k }) radios easts norths marks ≡ walked l s (tab i (entryAt v)) → i < n
-    → {e : Entry} {next d : ℕ} {g : Bool} {radios′ easts′ norths′ : List ℕ} → rowOf e ≡ entryAt v i → Roomy radios easts norths → next ≡ rank (e .radio) l → g ≡ stale l (rowOf e)
-    → (radios′ ≡ set radios k (e .radio)) × (easts′ ≡ set easts k (e .east)) × (norths′ ≡ set norths k (e .north)) × Roomy radios′ easts′ norths′ → d ≡ one-if (not g)
-    → stateOf (record { at = next; kept = k + d }) radios′ easts′ norths′ (set marks next g) ≡ walked l s (tab (i + 1) (entryAt v))
-page-turn {l} {s} {at} k radios easts norths {marks} b v p {n} {i} ready here many done more {e} read roomy q t put w =
-    let r = rows-judged l e k radios easts norths roomy (next b v p ready here many done more read .room) in
-    rw (put .0, put .1, put .2, w, q, t, r) (page-then b v p ready here many done more read)
+module _ {l : Rows Line} {s : State} {at : ℕ} (k : ℕ) (ws : List ℕ) {marks : List Bool} (b v : List ℕ) (p : ℕ) {n i : ℕ} (ready : Ready l s (entries (pageAt b p)))
+    (here : v ≡ pageAt b p) (many : n ≡ count v) (done : stateOf (record { at = at; kept = k }) ws marks ≡ walked l s (tab i (entryAt v))) (more : i < n)
+    {e : Entry} {d : ℕ} {g : Bool} (read : rowOf e ≡ entryAt v i) (roomy : Roomy k ws) (judge : g ≡ stale l (rowOf e)) (one : d ≡ one-if (not g)) where
+  room : length (rowsOf (tableWith k ws)) + length (sweptEntries l (rowOf e ∷ [])) ≤ maxOn
+  room = next b v p ready here many done more read .room
+
+  pub page-fits : k + d ≤ maxOn
+  page-fits = rw (one, judge) (fits-judged l e k ws roomy room)
+
+  pub page-turn : {next : ℕ} (vs : List ℕ) → next ≡ rank (e .radio) l → (everyEntry vs ≡ set (everyEntry ws) k e) × (length vs ≡ tableWords)
+      → stateOf (record { at = next; kept = k + d }) vs (set marks next g) ≡ walked l s (tab (i + 1) (entryAt v))
+  page-turn vs q put = rw (one, q, judge, rows-judged l e k ws roomy room vs (put .0)) (page-then b v p ready here many done more read)
 
 -- ---- the pages of a chain
 
@@ -189,8 +197,8 @@ entriesOn-one : (b : List ℕ) (p : ℕ) → entriesOn b (p ∷ []) ≡ entries 
 unfolding entriesOn concat
 entriesOn-one b p = append-nil (entries (pageAt b p))
 
-pub chain-begins : {l : Rows Line} (radios easts norths : List ℕ) {marks : List Bool} (es : Rows Fix) → Rising 0 es → length (sweptEntries l es) ≤ maxOn → Ready l (stateOf (record { at = 0; kept = 0 }) radios easts norths marks) es
-chain-begins {l} radios easts norths es a r = record { rising = a; ahead = each-every _ es (λ e. omega arith); room = omega (arith, length-rowsIn 0 radios easts norths) }
+pub chain-begins : {l : Rows Line} (ws : List ℕ) {marks : List Bool} (es : Rows Fix) → Rising 0 es → length (sweptEntries l es) ≤ maxOn → Ready l (stateOf (record { at = 0; kept = 0 }) ws marks) es
+chain-begins {l} ws es a r = record { rising = a; ahead = each-every _ es (λ e. omega arith); room = omega (arith, ap length (rows-empty ws)) }
 
 pub chain-start : (l : Rows Line) (s : State) (b ps : List ℕ) → s ≡ walked l s (entriesOn b (take 0 ps))
 unfolding entriesOn concat
@@ -230,16 +238,13 @@ module _ (b ps : List ℕ) (n : ℕ) {i : ℕ} (size : length ps ≡ pages) (fit
         ∙ ap (walked l s) (sym one-more)
 
 -- the whole chain, from nothing
-module _ (l : Rows Line) (b ps : List ℕ) {n i : ℕ} (low : i ≤ n) (high : n ≤ i) (radios₀ easts₀ norths₀ : List ℕ) (marks₀ : List Bool) {at : ℕ} (k : ℕ) (radios easts norths : List ℕ) {marks : List Bool}
-    (done : stateOf (record { at = at; kept = k }) radios easts norths marks ≡ walked l (stateOf (record { at = 0; kept = 0 }) radios₀ easts₀ norths₀ marks₀) (entriesOn b (take i ps))) where
-  all-done : stateOf (record { at = at; kept = k }) radios easts norths marks ≡ walked l (begun marks₀) (entriesOn b (take n ps))
+module _ (l : Rows Line) (b ps : List ℕ) {n i : ℕ} (low : i ≤ n) (high : n ≤ i) (ws₀ : List ℕ) (marks₀ : List Bool) {at : ℕ} (k : ℕ) (ws : List ℕ) {marks : List Bool}
+    (done : stateOf (record { at = at; kept = k }) ws marks ≡ walked l (stateOf (record { at = 0; kept = 0 }) ws₀ marks₀) (entriesOn b (take i ps))) where
+  all-done : stateOf (record { at = at; kept = k }) ws marks ≡ walked l (begun marks₀) (entriesOn b (take n ps))
   all-done =
       let z : i ≡ n = omega arith in
-      done ∙ ap (λ (x : Rows Fix). walked l (record { passed = 0; stay = x; marks = marks₀ }) (entriesOn b (take i ps))) (rows-none radios₀ easts₀ norths₀)
+      done ∙ ap (λ (x : Rows Fix). walked l (record { passed = 0; stay = x; marks = marks₀ }) (entriesOn b (take i ps))) (rows-empty ws₀)
       ∙ ap (λ (j : ℕ). walked l (begun marks₀) (entriesOn b (take j ps))) z
 
-  pub chain-end : length (sweptEntries l (entriesOn b (take n ps))) ≤ maxOn
-      → (rowsIn k radios easts norths ≡ sweptEntries l (entriesOn b (take n ps))) × (marks ≡ walked l (begun marks₀) (entriesOn b (take n ps)) .marks) × (k ≤ maxOn)
-  chain-end h =
-      let r = ap (λ (x : State). x .stay) all-done ∙ walked-stay l (begun marks₀) (entriesOn b (take n ps)) in
-      (r, ap (λ (x : State). x .marks) all-done, omega (arith, ap length r, length-rowsIn k radios easts norths))
+  pub chain-end : (rowsOf (tableWith k ws) ≡ sweptEntries l (entriesOn b (take n ps))) × (marks ≡ walked l (begun marks₀) (entriesOn b (take n ps)) .marks)
+  chain-end = (ap (λ (x : State). x .stay) all-done ∙ walked-stay l (begun marks₀) (entriesOn b (take n ps)), ap (λ (x : State). x .marks) all-done)

@@ -4,25 +4,21 @@ use mathlib.Core.Bool.{Bool}
 use mathlib.Core.List.{List, [], _∷_, _++_}
 use mathlib.Core.Path.{_≡_}
 use Prim.Native.Nat.{ℕ, suc, _+_, _≤_}
-use lib.ListN.{length, getD, set}
+use lib.ListN.{length, set}
 use Rattle.terms.specs.Terms.{Fix, maxOn}
-use Rattle.lists.specs.Parts.{tab}
 use Rattle.lists.specs.Rows.{Row, Rows, Rising, rank}
 use Rattle.lists.specs.Tests.{Each}
+use Rattle.entries.specs.Entries.{tableWith, tableWords, rowsOf}
 use Rattle.rules.specs.Store.{Line}
 use Rattle.rules.specs.Sweep.{stale, sweptEntries}
 use Rattle.desk.specs.Layout.{lineSlots}
 use Rattle.sweep.specs.declared.Reached.{Reached}
 
--- ---- entries in three arrays
+-- ---- entries that stay, in a table that is lent
 
--- the first n of them
-unfoldable pub rowsIn : ℕ → List ℕ → List ℕ → List ℕ → Rows Fix
-rowsIn n radios easts norths = tab n (λ i. record { key = getD radios i 0; val = record { east = getD easts i 0; north = getD norths i 0 } })
-
--- each array has a slot for every radio that may be on
-abbrev pub Roomy : List ℕ → List ℕ → List ℕ → Type 0
-Roomy radios easts norths = (length radios ≡ maxOn) × (length easts ≡ maxOn) × (length norths ≡ maxOn)
+-- so many stand there, and the table has a slot for every radio that may be on
+abbrev pub Roomy : ℕ → List ℕ → Type 0
+Roomy kept table = (kept ≤ maxOn) × (length table ≡ tableWords)
 
 -- ---- a run of entries
 
@@ -36,8 +32,8 @@ pub record State : Type 0 where
   pub stay : Rows Fix
   pub marks : List Bool
 
-abbrev pub stateOf : Reached → List ℕ → List ℕ → List ℕ → List Bool → State
-stateOf r radios easts norths marks = record { passed = r .at; stay = rowsIn (r .kept) radios easts norths; marks = marks }
+abbrev pub stateOf : Reached → List ℕ → List Bool → State
+stateOf r table marks = record { passed = r .at; stay = rowsOf (tableWith (r .kept) table); marks = marks }
 
 abbrev pub begun : List Bool → State
 begun marks = record { passed = 0; stay = []; marks = marks }

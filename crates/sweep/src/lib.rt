@@ -1,6 +1,6 @@
 // Sweep a cell: its pages are read one after the other, and each entry is judged by the memo's line at its radio's rank. Entries and lines both rise by radio,
-// so that both are walked at once and no line is looked for anew. What stays goes to three arrays, which are lent from page to page, and at the end each line
-// that has lost an entry is lowered. No page is written.
+// so that both are walked at once and no line is looked for anew. What stays goes straight to the table that is lent, and at the end each line that has lost an
+// entry is lowered. No page is written.
 ghost use mathlib.Core.Bool.{true, not};
 ghost use mathlib.Core.Path.{_≡_};
 ghost use Prim.Native.Nat.{_≤_};
@@ -8,25 +8,25 @@ ghost use lib.ListN.{length, set};
 ghost use Rattle.terms.specs.Terms.{maxOn, pages};
 ghost use Rattle.lists.specs.Rows.{Rising, rank};
 ghost use Rattle.lists.specs.Tests.{Each};
-ghost use Rattle.entries.specs.Entries.{rowOf, placeOf, rowsOf};
+ghost use Rattle.entries.specs.Entries.{rowOf, placeOf, tableWith, tableWords, everyEntry, rowsOf};
 ghost use Rattle.page.specs.Page.{entries};
 ghost use Rattle.page.specs.Buffer.{pageAt, there, pagesOf, entriesOn};
 ghost use Rattle.rules.specs.Sweep.{isAt, stale, sweptEntries, sweptMemo};
 ghost use Rattle.desk.specs.Layout.{lineSlots, memoOf};
 ghost use Rattle.desk.specs.Held.{memoIn};
 ghost use Rattle.memo.specs.Memo.{lastOf, linesOf, Whole, GoodMemo};
-ghost use Rattle.sweep.specs.Sweep.{rowsIn, Roomy, stateOf, begun, walked, Ready};
+ghost use Rattle.sweep.specs.Sweep.{Roomy, stateOf, begun, walked, Ready};
 use desk::Desk;
 use desk::Line;
-use entries::Entries;
 use entries::Entry;
+use entries::TABLE_WORDS;
 use memo_sweep::PLACES;
 use memo_sweep::UNPLACED;
 use page::Chain;
 
-// What stays of the entries read, and how many lines the memo then has.
+// How many of the entries read stay, and how many lines the memo then has.
 pub struct Swept {
-    pub table: Entries,
+    pub n: usize,
     pub lines: u16,
 }
 
@@ -85,23 +85,14 @@ fn is_stale<'a>(words: &'a [u16; Desk::MEMO_WORDS], n: usize, at: usize, e: Entr
 // ---- entries
 
 // The entry in slot k, if there is one: at the end every slot may be taken, and what follows is stale.
-fn put_entry<'a>(
-    radios: &'a mut [u16; Desk::MAX_ON],
-    easts: &'a mut [u16; Desk::MAX_ON],
-    norths: &'a mut [u16; Desk::MAX_ON],
-    k: usize,
-    e: Entry,
-)
-    requires { ⌜ Roomy (now radios) (now easts) (now norths) ⌝ }
-    ensures { λ _. ⌜ (now (radios .exit) ≡ set (now (radios .entry)) k (e .radio)) × (now (easts .exit) ≡ set (now (easts .entry)) k (e .east))
-        × (now (norths .exit) ≡ set (now (norths .entry)) k (e .north)) × Roomy (now (radios .exit)) (now (easts .exit)) (now (norths .exit)) ⌝ }
+fn put_entry<'a>(table: &'a mut [u16; TABLE_WORDS], k: usize, e: Entry)
+    requires { ⌜ length (now table) ≡ tableWords ⌝ }
+    ensures { λ _. ⌜ (everyEntry (now (table .exit)) ≡ set (everyEntry (now (table .entry))) k e) × (length (now (table .exit)) ≡ tableWords) ⌝ }
 {
     if Desk::MAX_ON <= k {
         return;
     }
-    radios[k] = e.radio;
-    easts[k] = e.east;
-    norths[k] = e.north;
+    entries::put_entry(table, k, e);
 }
 
 // The entries of page p: each goes behind those that stay, and counts as one of them unless it is stale.
@@ -111,18 +102,14 @@ fn sweep_page<'a>(
     words: &'a [u16; Desk::MEMO_WORDS],
     n: usize,
     from: Reached,
-    radios: &'a mut [u16; Desk::MAX_ON],
-    easts: &'a mut [u16; Desk::MAX_ON],
-    norths: &'a mut [u16; Desk::MAX_ON],
+    table: &'a mut [u16; TABLE_WORDS],
     marks: &'a mut [bool; PLACES],
 ) -> Reached
-    requires { ⌜ (there (now buffer) p ≡ true) × GoodMemo (memoIn n (now words)) × Roomy (now radios) (now easts) (now norths)
-        × Ready (linesOf (memoIn n (now words))) (stateOf from (now radios) (now easts) (now norths) (now marks)) (entries (pageAt (now buffer) p)) ⌝ }
-    ensures { λ r. ⌜ (stateOf r (now (radios .exit)) (now (easts .exit)) (now (norths .exit)) (now (marks .exit))
-        ≡ walked (linesOf (memoIn n (now (words .entry))))
-        (stateOf from (now (radios .entry)) (now (easts .entry)) (now (norths .entry)) (now (marks .entry)))
-        (entries (pageAt (now (buffer .entry)) p)))
-        × Roomy (now (radios .exit)) (now (easts .exit)) (now (norths .exit)) ⌝ }
+    requires { ⌜ (there (now buffer) p ≡ true) × GoodMemo (memoIn n (now words)) × Roomy (from .kept) (now table)
+        × Ready (linesOf (memoIn n (now words))) (stateOf from (now table) (now marks)) (entries (pageAt (now buffer) p)) ⌝ }
+    ensures { λ r. ⌜ (stateOf r (now (table .exit)) (now (marks .exit))
+        ≡ walked (linesOf (memoIn n (now (words .entry)))) (stateOf from (now (table .entry)) (now (marks .entry))) (entries (pageAt (now (buffer .entry)) p)))
+        × Roomy (r .kept) (now (table .exit)) ⌝ }
 {
     let page = page::page_at(buffer, p as usize);
     let count = page::entry_count(page);
@@ -134,7 +121,7 @@ fn sweep_page<'a>(
         at = rank_from(words, n, at, e.radio);
         let stale = is_stale(words, n, at, e);
         marks[at] = stale;
-        put_entry(radios, easts, norths, k, e);
+        put_entry(table, k, e);
         k = k + lists::one_if(!stale);
         i += 1;
     }
@@ -147,92 +134,54 @@ fn sweep_pages<'a>(
     chain: Chain,
     words: &'a [u16; Desk::MEMO_WORDS],
     n: usize,
-    radios: &'a mut [u16; Desk::MAX_ON],
-    easts: &'a mut [u16; Desk::MAX_ON],
-    norths: &'a mut [u16; Desk::MAX_ON],
+    table: &'a mut [u16; TABLE_WORDS],
     marks: &'a mut [bool; PLACES],
 ) -> usize
     requires { ⌜ (chain .n ≤ pages) × Each (λ p. there (now buffer) p ≡ true) (pagesOf chain) × Rising 0 (entriesOn (now buffer) (pagesOf chain))
-        × GoodMemo (memoIn n (now words)) × Roomy (now radios) (now easts) (now norths)
+        × GoodMemo (memoIn n (now words)) × (length (now table) ≡ tableWords)
         × (length (sweptEntries (linesOf (memoIn n (now words))) (entriesOn (now buffer) (pagesOf chain))) ≤ maxOn) ⌝ }
-    ensures { λ r. ⌜ (rowsIn r (now (radios .exit)) (now (easts .exit)) (now (norths .exit))
+    ensures { λ r. ⌜ (rowsOf (tableWith r (now (table .exit)))
         ≡ sweptEntries (linesOf (memoIn n (now (words .entry)))) (entriesOn (now (buffer .entry)) (pagesOf chain)))
         × (now (marks .exit)
         ≡ walked (linesOf (memoIn n (now (words .entry)))) (begun (now (marks .entry))) (entriesOn (now (buffer .entry)) (pagesOf chain)) .marks)
-        × (r ≤ maxOn) ⌝ }
+        × Roomy r (now (table .exit)) ⌝ }
 {
     let mut s = Reached { at: 0, kept: 0 };
     let mut i: usize = 0;
     while i < chain.n {
         let p = chain.pages[i];
-        s = sweep_page(buffer, p, words, n, s, radios, easts, norths, marks);
+        s = sweep_page(buffer, p, words, n, s, table, marks);
         i += 1;
     }
     s.kept
 }
 
-// The first k entries of the arrays as a table.
-fn table_of<'a>(
-    radios: &'a [u16; Desk::MAX_ON],
-    easts: &'a [u16; Desk::MAX_ON],
-    norths: &'a [u16; Desk::MAX_ON],
-    k: usize,
-) -> Entries
-    requires { ⌜ k ≤ maxOn ⌝ }
-    ensures { λ r. ⌜ (rowsOf r ≡ rowsIn k (now (radios .entry)) (now (easts .entry)) (now (norths .entry))) × (r .n ≡ k) ⌝ }
-{
-    let none = Entry {
-        radio: 0,
-        east: 0,
-        north: 0,
-    };
-    let mut all = [none; Desk::MAX_ON];
-    let mut i: usize = 0;
-    while i < k {
-        all[i] = Entry {
-            radio: radios[i],
-            east: easts[i],
-            north: norths[i],
-        };
-        i += 1;
-    }
-    Entries { n: k, all }
-}
-
 // ---- a chain
 
 // "remove each entry whose radio has a memo line with another place or none; lower the missed count by 1; drop the line at 0": the entries on the pages of a
-// chain.
+// chain. What stays is written to the table.
 pub fn sweep_chain<'a>(
     buffer: &'a [u8],
     chain: Chain,
     words: &'a mut [u16; Desk::MEMO_WORDS],
-    n: u16,
+    lines: u16,
+    table: &'a mut [u16; TABLE_WORDS],
 ) -> Swept
     requires { ⌜ (chain .n ≤ pages) × Each (λ p. there (now buffer) p ≡ true) (pagesOf chain) × Rising 0 (entriesOn (now buffer) (pagesOf chain))
-        × Whole (memoIn n (now words)) × (n ≤ lineSlots) × Rising 0 (linesOf (memoIn n (now words)))
-        × (length (sweptEntries (linesOf (memoIn n (now words))) (entriesOn (now buffer) (pagesOf chain))) ≤ maxOn) ⌝ }
-    ensures { λ r. ⌜ (rowsOf (r .table) ≡ sweptEntries (linesOf (memoIn n (now (words .entry)))) (entriesOn (now (buffer .entry)) (pagesOf chain)))
-        × (r .table .n ≡ length (sweptEntries (linesOf (memoIn n (now (words .entry)))) (entriesOn (now (buffer .entry)) (pagesOf chain))))
+        × Whole (memoIn lines (now words)) × (lines ≤ lineSlots) × Rising 0 (linesOf (memoIn lines (now words)))
+        × (length (sweptEntries (linesOf (memoIn lines (now words))) (entriesOn (now buffer) (pagesOf chain))) ≤ maxOn)
+        × (length (now table) ≡ tableWords) ⌝ }
+    ensures { λ r. ⌜ (rowsOf (tableWith (r .n) (now (table .exit)))
+        ≡ sweptEntries (linesOf (memoIn lines (now (words .entry)))) (entriesOn (now (buffer .entry)) (pagesOf chain)))
+        × (r .n ≡ length (sweptEntries (linesOf (memoIn lines (now (words .entry)))) (entriesOn (now (buffer .entry)) (pagesOf chain))))
         × (memoIn (r .lines) (now (words .exit))
-        ≡ memoOf (sweptMemo (linesOf (memoIn n (now (words .entry)))) (entriesOn (now (buffer .entry)) (pagesOf chain)))) ⌝ }
+        ≡ memoOf (sweptMemo (linesOf (memoIn lines (now (words .entry)))) (entriesOn (now (buffer .entry)) (pagesOf chain))))
+        × (length (now (table .exit)) ≡ tableWords) ⌝ }
 {
-    let mut radios = [0u16; Desk::MAX_ON];
-    let mut easts = [0u16; Desk::MAX_ON];
-    let mut norths = [0u16; Desk::MAX_ON];
     let mut marks = [false; PLACES];
-    let kept = sweep_pages(
-        buffer,
-        chain,
-        words,
-        n as usize,
-        &mut radios,
-        &mut easts,
-        &mut norths,
-        &mut marks,
-    );
+    let n = sweep_pages(buffer, chain, words, lines as usize, table, &mut marks);
     Swept {
-        table: table_of(&radios, &easts, &norths, kept),
-        lines: memo_sweep::lowered(words, n, &marks),
+        n,
+        lines: memo_sweep::lowered(words, lines, &marks),
     }
 }

@@ -11,7 +11,7 @@ use Rattle.lists.specs.Rows.{Rising}
 use Rattle.lists.specs.Tests.{Each}
 use Rattle.lists.specs.Among.{Among}
 use Rattle.lists.proofs.AmongLaws.{each-among}
-use Rattle.entries.specs.Entries.{rowsOf}
+use Rattle.entries.specs.Entries.{tableWith, tableWords, rowsOf}
 use Rattle.page.specs.Buffer.{there, pagesOf, chainFrom, endOf, endFrom, entriesOn}
 use Rattle.page.specs.declared.Chain.{Chain}
 use Rattle.rules.specs.Limits.{maxCells, sweepEvery}
@@ -76,21 +76,26 @@ module _ {cells : List ℕ} {at : ℕ} {memo : Memo} {b : List ℕ} (x : BeforeS
     first-place = read .0 ∙ ap (λ (s : Slot). chainFrom pages b (s .first)) (slot ∙ x .stands .element)
 
     -- what `sweep_chain` asks
-    pub place-asks : (chain .n ≤ pages) × Each (λ p. there b p ≡ true) (pagesOf chain) × Rising 0 (entriesOn b (pagesOf chain)) × Whole memo × (memo .n ≤ lineSlots) × Rising 0 (linesOf memo) × (length (sweptEntries (linesOf memo) (entriesOn b (pagesOf chain))) ≤ maxOn)
-    place-asks = cell-asks sweepable-place chain memo first-place (x .laid .memo-is) (read .2) (few-lines (x .store) (x .c) (x .mid) (x .late)) (x .mid .core .books .memo-rises)
+    pub place-asks : (table : List ℕ) → length table ≡ tableWords
+        → (chain .n ≤ pages) × Each (λ p. there b p ≡ true) (pagesOf chain) × Rising 0 (entriesOn b (pagesOf chain)) × Whole memo × (memo .n ≤ lineSlots) × Rising 0 (linesOf memo) × (length (sweptEntries (linesOf memo) (entriesOn b (pagesOf chain))) ≤ maxOn)
+        × (length table ≡ tableWords)
+    place-asks table l =
+        cell-asks sweepable-place chain memo first-place (x .laid .memo-is) table (read .2) (few-lines (x .store) (x .c) (x .mid) (x .late)) (x .mid .core .books .memo-rises) l
 
     -- what it leaves
-    pub place-gives : (s : Swept) {ws : List ℕ}
-        → (rowsOf (s .table) ≡ sweptEntries (linesOf memo) (entriesOn b (pagesOf chain))) × (s .table .n ≡ length (sweptEntries (linesOf memo) (entriesOn b (pagesOf chain)))) × (memoIn (s .lines) ws ≡ memoOf (sweptMemo (linesOf memo) (entriesOn b (pagesOf chain))))
-        → InHand (swept (x .store .memo) (x .cell)) (sweptMemo (x .store .memo) (x .cell .entries)) (record { chain = chain; table = s .table; lines = s .lines }) ws
+    pub place-gives : (s : Swept) {ws : List ℕ} (table : List ℕ)
+        → (rowsOf (tableWith (s .n) table) ≡ sweptEntries (linesOf memo) (entriesOn b (pagesOf chain))) × (s .n ≡ length (sweptEntries (linesOf memo) (entriesOn b (pagesOf chain)))) × (memoIn (s .lines) ws ≡ memoOf (sweptMemo (linesOf memo) (entriesOn b (pagesOf chain))))
+        × (length table ≡ tableWords)
+        → InHand (swept (x .store .memo) (x .cell)) (sweptMemo (x .store .memo) (x .cell .entries)) (record { chain = chain; n = s .n; lines = s .lines }) ws table
     unfolding swept
-    place-gives s g =
-        let k = cell-gives sweepable-place chain memo first-place (x .laid .memo-is) (s .table) g in
+    place-gives s table g =
+        let k = cell-gives sweepable-place chain memo first-place (x .laid .memo-is) (s .n) table g in
         record {
           bound = read .2;
           chained = first-place ∙ sweepable-place .read;
           few = omega (arith, k .1, sweepable-place .room);
           count = k .1;
+          size = k .3;
           rows = k .0;
           memo-is = k .2;
         }

@@ -8,7 +8,7 @@ use lib.Dec.{ltb}
 use lib.ListN.{length, drop}
 use borrow.Author.Tests.{lt-ltb, le-ltb}
 use Rattle.lists.proofs.SumsLaws.{length-filter-not}
-use Rattle.entries.specs.Entries.{rowsOf}
+use Rattle.entries.specs.Entries.{tableWith, rowsOf}
 use Rattle.page.specs.Buffer.{pagesOf}
 use Rattle.rules.specs.Limits.{sweepEvery}
 use Rattle.rules.specs.Store.{Line, Cell}
@@ -43,11 +43,11 @@ module _ {grid : Grid} {memo : Memo} {b : List ℕ} (x : BeforeSweep grid memo b
   front = front-place .cell
 
   -- `swept_at` has read it
-  module _ (hand : Hand) (ws : List ℕ) (given : (y : BeforeSweepAt (grid .cells .words) 0 memo b) → InHand (swept (y .store .memo) (y .cell)) (sweptMemo (y .store .memo) (y .cell .entries)) hand ws) where
-    front-swept : InHand (swept (x .store .memo) front) (sweptMemo (x .store .memo) (front .entries)) hand ws
+  module _ (hand : Hand) (ws table : List ℕ) (given : (y : BeforeSweepAt (grid .cells .words) 0 memo b) → InHand (swept (y .store .memo) (y .cell)) (sweptMemo (y .store .memo) (y .cell .entries)) hand ws table) where
+    front-swept : InHand (swept (x .store .memo) front) (sweptMemo (x .store .memo) (front .entries)) hand ws table
     front-swept = given front-place
 
-    front-loose : BeforeSettle grid 0 (pagesOf (hand .chain)) (rowsOf (hand .table)) b
+    front-loose : BeforeSettle grid 0 (pagesOf (hand .chain)) (rowsOf (tableWith (hand .n) table)) b
     unfolding swept chains
     front-loose =
         let k = x .roomy .mid .core in
@@ -76,12 +76,12 @@ module _ {grid : Grid} {memo : Memo} {b : List ℕ} (x : BeforeSweep grid memo b
         }
 
     -- what `settled_last` asks
-    pub front-asks : HandFits (hand .chain) (hand .table) × BeforeSettle grid 0 (pagesOf (hand .chain)) (rowsOf (hand .table)) b
-    front-asks = ((front-swept .bound, front-swept .few), front-loose)
+    pub front-asks : HandFits (hand .chain) (hand .n) table × BeforeSettle grid 0 (pagesOf (hand .chain)) (rowsOf (tableWith (hand .n) table)) b
+    front-asks = ((front-swept .bound, front-swept .few, front-swept .size), front-loose)
 
     -- what it leaves
     pub front-laid : {g : Grid} {b′ : List ℕ}
-        → ((y : BeforeSettle grid 0 (pagesOf (hand .chain)) (rowsOf (hand .table)) b) → LaidGrid (movedLast (y .store) (y .before ++ y .after) (y .cell)) g b′)
+        → ((y : BeforeSettle grid 0 (pagesOf (hand .chain)) (rowsOf (tableWith (hand .n) table)) b) → LaidGrid (movedLast (y .store) (y .before ++ y .after) (y .cell)) g b′)
         → LaidMemo (sweepFront (x .store .cells) (x .store)) g (memoIn (hand .lines) ws) b′
     unfolding sweepFront movedLast front-loose
     front-laid {g = g} {b′ = b′} l =

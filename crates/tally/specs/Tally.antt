@@ -5,7 +5,7 @@ use Prim.Native.Nat.{ℕ, _+_, _≤_, _<_}
 use lib.ListN.{length}
 use Rattle.terms.specs.Terms.{maxOn, pages}
 use Rattle.lists.specs.Rows.{Rows}
-use Rattle.entries.specs.Entries.{rowsOf}
+use Rattle.entries.specs.Entries.{tableWith, tableWords, rowsOf}
 use Rattle.page.specs.Buffer.{pagesOf}
 use Rattle.rules.specs.Limits.{sweepEvery}
 use Rattle.rules.specs.Store.{Line, Cell, Store}
@@ -31,13 +31,14 @@ pub record BeforeSweepAt (words : List ℕ) (at : ℕ) (memo : Memo) (bytes : Li
   pub cell : Cell
   pub stands : Stands (directoryIn (frame .cells) words) (store .cells) cell at
 
--- a cell's old pages and its entries are at hand, and the memo in these words
-pub record InHand (c : Cell) (memo : Rows Line) (hand : Hand) (words : List ℕ) : Type 0 where
+-- a cell's old pages and its entries are at hand, and the memo in these words; the entries are in an array that is lent
+pub record InHand (c : Cell) (memo : Rows Line) (hand : Hand) (words table : List ℕ) : Type 0 where
   pub bound : hand .chain .n ≤ pages
   pub chained : pagesOf (hand .chain) ≡ c .chain
-  pub few : hand .table .n ≤ maxOn
-  pub count : hand .table .n ≡ length (c .entries)
-  pub rows : rowsOf (hand .table) ≡ c .entries
+  pub few : hand .n ≤ maxOn
+  pub count : hand .n ≡ length (c .entries)
+  pub size : length table ≡ tableWords
+  pub rows : rowsOf (tableWith (hand .n) table) ≡ c .entries
   pub memo-is : memoIn (hand .lines) words ≡ memoOf memo
 
 -- ---- the tally

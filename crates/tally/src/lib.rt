@@ -1,18 +1,20 @@
 // The tally counts each accepted sign-on, report and sign-off, and at the 16th the cell at the front of the round is swept and goes last.
 ghost use mathlib.Core.Path.{_≡_};
+ghost use lib.ListN.{length};
+ghost use Rattle.entries.specs.Entries.{tableWords};
 ghost use Rattle.rules.specs.Sweep.{swept, sweptMemo, sweepFront};
 ghost use Rattle.desk.specs.Held.{gridIn, memoIn};
 ghost use Rattle.desk.specs.Laid.{LaidMemo};
 ghost use Rattle.tally.specs.Tally.{BeforeSweepAt, InHand, BeforeTally, BeforeSweep, AfterTally};
 use desk::Desk;
 use desk::Frame;
-use entries::Entries;
+use entries::TABLE_WORDS;
 use page::Chain;
 
-// A cell's old pages, its entries as they now are, and how many lines the memo then has.
+// A cell's old pages, how many entries it now has, which are in the table that is lent, and how many lines the memo then has.
 pub struct Hand {
     pub chain: Chain,
-    pub table: Entries,
+    pub n: usize,
     pub lines: u16,
 }
 
@@ -23,18 +25,18 @@ pub fn swept_at(
     at: usize,
     words: &mut [u16; Desk::MEMO_WORDS],
     lines: u16,
+    table: &mut [u16; TABLE_WORDS],
 ) -> Hand
-    requires { ⌜ BeforeSweepAt (now cells) at (memoIn lines (now words)) (now buffer) ⌝ }
+    requires { ⌜ BeforeSweepAt (now cells) at (memoIn lines (now words)) (now buffer) × (length (now table) ≡ tableWords) ⌝ }
     ensures { λ r. ⌜ ((x : BeforeSweepAt (now (cells .entry)) at (memoIn lines (now (words .entry))) (now (buffer .entry)))
-        → InHand (swept (x .store .memo) (x .cell)) (sweptMemo (x .store .memo) (x .cell .entries)) r (now (words .exit))) ⌝ }
+        → InHand (swept (x .store .memo) (x .cell)) (sweptMemo (x .store .memo) (x .cell .entries)) r (now (words .exit)) (now (table .exit))) ⌝ }
 {
     let d = desk::slot_at(cells, at);
     let chain = page_chain::read_chain(buffer, d.first);
-    let swept = sweep::sweep_chain(buffer, chain, words, lines);
-    let table = swept.table;
+    let swept = sweep::sweep_chain(buffer, chain, words, lines, table);
     Hand {
         chain,
-        table,
+        n: swept.n,
         lines: swept.lines,
     }
 }
@@ -62,10 +64,10 @@ fn sweep_front(
         → LaidMemo (sweepFront (x .store .cells) (x .store)) (gridIn (r .frame) (now (cells .exit))) (memoIn (r .lines) (now (words .exit)))
         (now (buffer .exit))) ⌝ }
 {
-    let d = swept_at(buffer, cells, 0, words, lines);
+    let mut table = [0u16; TABLE_WORDS];
+    let d = swept_at(buffer, cells, 0, words, lines, &mut table);
     let chain = d.chain;
-    let table = d.table;
-    let moved = cell_last::settled_last(buffer, frame, cells, 0, chain, table);
+    let moved = cell_last::settled_last(buffer, frame, cells, 0, chain, &table, d.n);
     Ticked {
         frame: moved,
         lines: d.lines,

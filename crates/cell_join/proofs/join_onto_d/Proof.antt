@@ -12,7 +12,7 @@ settle-requires : tie.Need-settle-requires
 settle-requires c κs =
     let e = c .before .before in
     let q = d-asks (e .pre .3) in
-    (e .pre .3 .laid .size, e .pre .0 .1, e .pre .0 .0, q .0, q .1, q .2)
+    (e .pre .3 .laid .size, e .pre .0 .1, e .pre .0 .2, e .pre .0 .0, q .0, q .1, q .2)
 
 give-up-requires : tie.Need-give-up-requires
 give-up-requires c κs =

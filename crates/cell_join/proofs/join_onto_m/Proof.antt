@@ -19,7 +19,7 @@ settle-requires c κs =
     let g = c .before .before .before in
     let e = g .before .before .before in
     let q = m-asks (e .pre .3) (g .give-up .ensures .0) (g .give-up .ensures .1) in
-    (m-size (e .pre .3) (g .give-up .ensures .0) (g .give-up .ensures .1), e .pre .0 .1, e .pre .1, q .0, q .1, q .2)
+    (m-size (e .pre .3) (g .give-up .ensures .0) (g .give-up .ensures .1), e .pre .0 .1, e .pre .0 .2, e .pre .1, q .0, q .1, q .2)
 
 same-length : tie.Need-same-length
 same-length c = search needs

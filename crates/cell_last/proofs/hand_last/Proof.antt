@@ -4,7 +4,7 @@ use Rattle.cell_last.proofs.hand_last.Statement.{statement}
 use Rattle.cell_last.proofs.hand_last.Tie as tie
 
 settle-requires : tie.Need-settle-requires
-settle-requires c κs = let e = c .before .before in hand-settles (e .args .chain) (e .args .table) (e .pre .1) (e .pre .0 .0) (e .pre .0 .1)
+settle-requires c κs = let e = c .before .before in hand-settles (e .args .chain) (e .args .count) (e .args .table .now) (e .pre .1) (e .pre .0)
 
 begun-at-requires : tie.Need-begun-at-requires
 begun-at-requires c κs = search needs

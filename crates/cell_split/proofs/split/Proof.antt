@@ -16,13 +16,13 @@ split-cells-requires c κs = search split-asks
 
 add-with-cells : tie.Need-add-with-cells
 add-with-cells c =
-    let q = split-asks (c .before .before .before .before .before .before .before .before .before .before .pre .1) in omega (arith, q .2)
+    let q = split-asks (c .before .before .before .before .before .before .before .before .before .before .before .pre .1) in omega (arith, q .2)
 
 with-cells-requires : tie.Need-with-cells-requires
 with-cells-requires c κs = search needs
 
 cut-frame-requires : tie.Need-cut-frame-requires
-cut-frame-requires c κs = split-cuts (c .before .before .before .before .before .before .before .before .before .before .before .pre .1) refl (c .with-cells .ensures)
+cut-frame-requires c κs = split-cuts (c .before .before .before .before .before .before .before .before .before .before .before .before .pre .1) refl (c .with-cells .ensures)
 
 same-length : tie.Need-same-length
 same-length c = search needs
@@ -33,7 +33,7 @@ returns c =
     let w = c .before in
     let t = w .before in
     let s = t .before .before .before .before in
-    let n = s .before .before .before in
+    let n = s .before .before .before .before in
     split-laid x refl (w .with-cells .ensures) (s .settle-sides .result) (n .unused-number .ensures) (s .settle-sides .ensures x) (t .split-cells .ensures) refl (c .cut-frame .ensures)
 
 pub split-spec : {M : Type 1} → statement M

@@ -8,10 +8,10 @@ use Rattle.enter.proofs.enter_all.Statement.{statement}
 use Rattle.enter.proofs.enter_all.Tie as tie
 
 abbrev Inv-loop : tie.InvT-loop
-Inv-loop reports n words₀ lines all₀ notes₀ i₀ words all notes i = (i ≤ n) × Entering (waitingWith n reports) (heldIn all₀ notes₀ words₀) i (heldIn all notes words)
+Inv-loop reports gone table₀ n words₀ lines rows₀ notes₀ i₀ table words rows notes i = (i ≤ gone) × Entering (waitingWith gone reports) (heldIn rows₀ table₀ notes₀ words₀) i (heldIn rows table notes words)
 
 abbrev μ-loop : tie.MeasureT-loop
-μ-loop reports n words₀ lines all₀ notes₀ i₀ words all notes i = n - i
+μ-loop reports gone table₀ n words₀ lines rows₀ notes₀ i₀ table words rows notes i = gone - i
 
 loop-holds : tie.Need-loop-holds Inv-loop μ-loop
 loop-holds c = (search needs, search entering-start)

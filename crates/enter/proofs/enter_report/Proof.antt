@@ -4,8 +4,8 @@ use Rattle.enter.proofs.EnterLaws.{table-fits}
 use Rattle.enter.proofs.enter_report.Statement.{statement}
 use Rattle.enter.proofs.enter_report.Tie as tie
 
-lookup-requires : tie.Need-lookup-requires
-lookup-requires c κs = (search table-fits, search needs)
+look-up-requires : tie.Need-look-up-requires
+look-up-requires c κs = (search table-fits, search needs, search needs)
 
 enum-known-at : tie.Need-enum-known-at
 enum-known-at c = search needs
@@ -29,7 +29,7 @@ pub enter-report-spec : {M : Type 1} → statement M
 enter-report-spec =
     tie.close
     (tie.spec
-    lookup-requires
+    look-up-requires
     enum-known-at
     enum-told
     added-requires

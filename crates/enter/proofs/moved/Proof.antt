@@ -10,7 +10,7 @@ entry-of-requires : tie.Need-entry-of-requires
 entry-of-requires c κs = search needs
 
 replaced-requires : tie.Need-replaced-requires
-replaced-requires c κs = (search found-inside, search table-fits)
+replaced-requires c κs = (search found-inside, search table-fits, search needs)
 
 returns : tie.Need-returns
 returns c = search moves

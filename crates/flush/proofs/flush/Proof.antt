@@ -23,20 +23,20 @@ parted-requires c κs =
 
 entered-requires : tie.Need-entered-requires
 entered-requires c κs =
-    let p = c .before .before .before .before in
+    let p = c .before .before .before .before .before in
     let a = p .before .before .before .before in
     let h = a .before .before in
     let e = h .before .before .before in
-    homed (e .pre .0) (e .args .m) (h .home-of .ensures) (a .at .given .1) (p .parted .ensures .0)
+    (homed (e .pre .0) (e .args .m) (h .home-of .ensures) (a .at .given .1) (p .parted .ensures .0), search needs)
 
 reshape-requires : tie.Need-reshape-requires
 reshape-requires c κs =
     let d = c .before .before .before .before .before in
-    let p = d .before .before .before .before .before in
+    let p = d .before .before .before .before .before .before in
     let a = p .before .before .before .before in
     let h = a .before .before in
     let e = h .before .before .before in
-    reshape-wants (e .pre .0) (e .args .m) (h .home-of .ensures) (a .at .given .1) (p .parted .ensures .0) _ _ (d .entered .ensures)
+    reshape-wants (e .pre .0) (e .args .m) (h .home-of .ensures) (a .at .given .1) (p .parted .ensures .0) _ _ _ (d .entered .ensures)
 
 same-length : tie.Need-same-length
 same-length c = search needs
@@ -45,11 +45,11 @@ returns-2 : tie.Need-returns-2
 returns-2 c =
     let r = c .before .before .before in
     let d = r .before .before .before .before .before .before in
-    let p = d .before .before .before .before .before in
+    let p = d .before .before .before .before .before .before in
     let a = p .before .before .before .before in
     let h = a .before .before in
     let e = h .before .before .before in
-    λ x. flush-returns x (e .args .m) (h .home-of .ensures) (a .at .given .1) (p .parted .ensures .0) _ _ (d .entered .ensures) (r .reshape .ensures) (p .parted .ensures .1)
+    λ x. flush-returns x (e .args .m) (h .home-of .ensures) (a .at .given .1) (p .parted .ensures .0) _ _ _ (d .entered .ensures) (r .reshape .ensures) (p .parted .ensures .1)
 
 pub flush-spec : {M : Type 1} → statement M
 flush-spec =

@@ -3,9 +3,6 @@ use borrow.Author.Needs.{needs}
 use Rattle.fresh.proofs.write_pages.Statement.{statement}
 use Rattle.fresh.proofs.write_pages.Tie as tie
 
-empty-requires : tie.Need-empty-requires
-empty-requires c κs = search needs
-
 write-page-requires : tie.Need-write-page-requires
 write-page-requires c κs = search needs
 
@@ -19,5 +16,4 @@ returns : tie.Need-returns
 returns c = search all-written
 
 pub write-pages-spec : {M : Type 1} → statement M
-write-pages-spec =
-    tie.close (tie.spec empty-requires write-page-requires free-pages-requires same-length returns)
+write-pages-spec = tie.close (tie.spec write-page-requires free-pages-requires same-length returns)

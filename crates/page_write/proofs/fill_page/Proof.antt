@@ -1,22 +1,19 @@
 -- Behind the header stand the bytes of the entries passed; header, entries and zeros side by side are the whole page.
+use borrow.Author.Needs.{needs}
 use mathlib.Core.Path.{_≡_}
-use Prim.Native.Nat.{_+_, _-_, _<_}
-use native.Mathlib.Omega.{arith}
+use Prim.Native.Nat.{_+_, _-_}
 use lib.ListN.{length}
-use Rattle.lists.proofs.ShiftLaws.{length-mapped}
-use Rattle.entries.specs.Entries.{rowsOf}
-use Rattle.entries.proofs.TableLaws.{rows-get}
+use Rattle.entries.specs.Entries.{tableWith, rowsOf}
 use Rattle.page.specs.Page.{pageBytes}
 use Rattle.page_write.proofs.WriteLaws.{Writing, writing-start, writing-turn, writing-end}
-use borrow.Author.Needs.{needs}
 use Rattle.page_write.proofs.fill_page.Statement.{statement}
 use Rattle.page_write.proofs.fill_page.Tie as tie
 
 abbrev Inv-loop : tie.InvT-loop
-Inv-loop page₀ kind next cell from n es used i₀ page i = (length page ≡ pageBytes) × Writing (rowsOf es) from n page₀ i page
+Inv-loop page₀ kind next cell table from n used i₀ page i = (length page ≡ pageBytes) × Writing (rowsOf (tableWith (from + n) table)) from n page₀ i page
 
 abbrev μ-loop : tie.MeasureT-loop
-μ-loop page₀ kind next cell from n es used i₀ page i = n - i
+μ-loop page₀ kind next cell table from n used i₀ page i = n - i
 
 mul-used : tie.Need-mul-used Inv-loop μ-loop
 mul-used c = search needs
@@ -31,16 +28,13 @@ write-header-requires : tie.Need-write-header-requires Inv-loop μ-loop
 write-header-requires c κs = search needs
 
 loop-holds : tie.Need-loop-holds Inv-loop μ-loop
-loop-holds c = (search needs, writing-start _ _ _ _ (search length-mapped) (search needs) (search needs) (search needs) (search needs))
+loop-holds c = (search needs, writing-start _ _ _ _ (search needs) (search needs) (search needs) (search needs))
 
-add-at : tie.Need-add-at Inv-loop μ-loop
-add-at c = search needs
+add-entry-at : tie.Need-add-entry-at Inv-loop μ-loop
+add-entry-at c = search needs
 
-mul-e : tie.Need-mul-e Inv-loop μ-loop
-mul-e c = search needs
-
-element-copy-out-e : tie.Need-element-copy-out-e Inv-loop μ-loop
-element-copy-out-e c = search needs
+entry-at-requires : tie.Need-entry-at-requires Inv-loop μ-loop
+entry-at-requires c κs = search needs
 
 mul-write-entry : tie.Need-mul-write-entry Inv-loop μ-loop
 mul-write-entry c = search needs
@@ -59,10 +53,10 @@ loop-less c = search needs
 
 loop-again : tie.Need-loop-again Inv-loop μ-loop
 loop-again c =
-    let l = c .before .before .before .before .before in
-    let s = l .before .before .before .before .before .before .before in
-    let w : l .before .loop .i < s .args .n = omega arith in
-    (search needs, writing-turn (l .before .loop .inv .1) (l .loop-test .taken) (rows-get (s .args .t5) (s .args .from + l .before .loop .i) (omega (arith, s .pre .2))) (c .before .before .write-entry .ensures))
+    let k = c .before .before in
+    let r = k .before .before in
+    let l = r .before in
+    (search needs, writing-turn _ _ (l .before .loop .inv .1) (l .loop-test .taken) (r .entry-at .ensures) (k .write-entry .ensures))
 
 mul-clear : tie.Need-mul-clear Inv-loop μ-loop
 mul-clear c = search needs
@@ -90,9 +84,8 @@ fill-page-spec =
     cast-used
     write-header-requires
     loop-holds
-    add-at
-    mul-e
-    element-copy-out-e
+    add-entry-at
+    entry-at-requires
     mul-write-entry
     add-write-entry
     write-entry-requires

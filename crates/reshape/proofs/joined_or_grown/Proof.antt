@@ -31,10 +31,10 @@ enum-told c = search needs
 
 hand-last-requires : tie.Need-hand-last-requires
 hand-last-requires c κs =
-    let t = c .before .before .before .before .before .before .before in
+    let t = c .before .before .before .before .before .before .before .before in
     let s = t .before .before in
     let e = s .before .before .before in
-    ((e .pre .0, omega (arith, e .pre .1, e .pre .2)), lasts (e .args .frame) (e .pre .3) (s .slot-at .ensures) (t .take-out .ensures))
+    ((e .pre .0, omega (arith, e .pre .1, e .pre .2), e .pre .4), lasts (e .args .frame) (e .pre .3) (s .slot-at .ensures) (t .take-out .ensures))
 
 same-length : tie.Need-same-length
 same-length c = search needs
@@ -43,7 +43,7 @@ returns : tie.Need-returns
 returns c =
     λ x.
     let h = c .before .before in
-    let o = h .before .before .before in
+    let o = h .before .before .before .before in
     let f = o .before .before in
     let t = f .before .before .before in
     let s = t .before .before in
@@ -52,12 +52,12 @@ returns c =
 
 join-requires : tie.Need-join-requires
 join-requires c κs =
-    let k = c .before .before .before .before in
+    let k = c .before .before .before .before .before in
     let f = k .before .before in
     let t = f .before .before .before in
     let s = t .before .before in
     let e = s .before .before .before in
-    (e .pre .0, e .pre .1, nears (e .args .frame) (e .pre .3) (s .slot-at .ensures) (t .take-out .ensures) (e .pre .1) (e .pre .2) (f .find-neighbour .ensures) _ (k .k .given .1))
+    (e .pre .0, e .pre .1, nears (e .args .frame) (e .pre .3) (s .slot-at .ensures) (t .take-out .ensures) (e .pre .1) (e .pre .2) (f .find-neighbour .ensures) _ (k .k .given .1), e .pre .4)
 
 same-length-2 : tie.Need-same-length-2
 same-length-2 c = search needs
@@ -66,7 +66,7 @@ returns-2 : tie.Need-returns-2
 returns-2 c =
     λ x.
     let j = c .before .before in
-    let k = j .before .before .before .before .before in
+    let k = j .before .before .before .before .before .before in
     let f = k .before .before in
     let t = f .before .before .before in
     let s = t .before .before in

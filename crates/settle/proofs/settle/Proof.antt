@@ -1,4 +1,3 @@
-use Rattle.lists.proofs.ShiftLaws.{length-mapped}
 use Rattle.settle.proofs.PartsLaws.{settle-few, settled-below, settle-bytes, settle-ends}
 use borrow.Author.Needs.{needs}
 use Rattle.settle.proofs.settle.Statement.{statement}
@@ -9,8 +8,8 @@ pages-for-requires c κs = search needs
 
 grow-requires : tie.Need-grow-requires
 grow-requires c κs =
-    let p = c .before .before .before .pre in
-    let f = settle-few (c .before .before .before .args .es) _ (search length-mapped) (search needs) (c .before .pages-for .ensures) (p .5) in
+    let s = c .before .before .before in
+    let f = settle-few (s .args .n) (s .args .table .now) _ (s .pre .1) (s .pre .2) (c .before .pages-for .ensures) (s .pre .6) in
     (search needs, f .0, search needs, f .1)
 
 give-up-requires : tie.Need-give-up-requires
@@ -19,16 +18,16 @@ give-up-requires c κs = search needs
 write-chain-requires : tie.Need-write-chain-requires
 write-chain-requires c κs =
     let p = c .before .before .before .before .before .before .before .before .before .before .pre in
-    (search needs, settled-below _ _ _ _ (p .3) (p .4) (c .before .before .before .before .before .before .grow .ensures .0), search needs, search needs)
+    (search needs, settled-below _ _ _ _ (p .4) (p .5) (c .before .before .before .before .before .before .grow .ensures .0), search needs, search needs, search needs)
 
-array-read-t20 : tie.Need-array-read-t20
-array-read-t20 c = search needs
+array-read-t21 : tie.Need-array-read-t21
+array-read-t21 c = search needs
 
 same-length : tie.Need-same-length
 same-length c = search needs
 
 returns : tie.Need-returns
-returns c = (search (settle-bytes, length-mapped), search (settle-ends, length-mapped, needs))
+returns c = (search settle-bytes, search (settle-ends, needs))
 
 pub settle-spec : {M : Type 1} → statement M
 settle-spec =
@@ -38,6 +37,6 @@ settle-spec =
     grow-requires
     give-up-requires
     write-chain-requires
-    array-read-t20
+    array-read-t21
     same-length
     returns)

@@ -3,7 +3,7 @@ use mathlib.Core.Path.{_≡_}
 use Prim.Native.Nat.{_≤_}
 use lib.ListN.{length}
 use Rattle.terms.specs.Terms.{pages}
-use Rattle.lists.proofs.ShiftLaws.{length-mapped}
+use Rattle.entries.specs.Entries.{tableWith, rowsOf}
 use Rattle.page.specs.Buffer.{bufferBytes}
 use Rattle.settle.proofs.LoopLaws.{Writing, writing-few, writing-start, writing-below, writing-from, writing-turn, writing-end}
 use borrow.Author.Needs.{needs}
@@ -11,13 +11,14 @@ use Rattle.settle.proofs.write_chain.Statement.{statement}
 use Rattle.settle.proofs.write_chain.Tie as tie
 
 abbrev Inv-loop : tie.InvT-loop
-Inv-loop buffer₀ need cell es onto next₀ k₀ buffer next k = (length buffer ≡ bufferBytes) × (k ≤ pages) × Writing buffer₀ onto k₀ cell es buffer next k
+Inv-loop buffer₀ need cell table n onto next₀ k₀ buffer next k =
+    (length buffer ≡ bufferBytes) × (k ≤ pages) × Writing buffer₀ onto k₀ cell n (rowsOf (tableWith n table)) buffer next k
 
 abbrev μ-loop : tie.MeasureT-loop
-μ-loop buffer₀ need cell es onto next₀ k₀ buffer next k = k
+μ-loop buffer₀ need cell table n onto next₀ k₀ buffer next k = k
 
 loop-holds : tie.Need-loop-holds Inv-loop μ-loop
-loop-holds c = (search needs, search writing-few, writing-start _ _ _ _ _ (search needs) (search length-mapped) (search needs) (search needs) (search needs))
+loop-holds c = (search needs, search writing-few, writing-start _ _ _ _ _ _ (search needs) (search needs) (search needs) (search needs) (search needs))
 
 sub-j : tie.Need-sub-j Inv-loop μ-loop
 sub-j c = search needs
@@ -38,13 +39,13 @@ kind-at-requires : tie.Need-kind-at-requires Inv-loop μ-loop
 kind-at-requires c κs = search needs
 
 entries-from-requires : tie.Need-entries-from-requires Inv-loop μ-loop
-entries-from-requires c κs = let l = c .before .before .before in writing-from _ (l .loop .inv .2) (c .before .before .loop-test .taken)
+entries-from-requires c κs = let l = c .before .before .before in writing-from (l .loop .inv .2) (c .before .before .loop-test .taken)
 
 write-page-requires : tie.Need-write-page-requires Inv-loop μ-loop
 write-page-requires c κs =
     let l = c .before .before .before in
-    let f = writing-from _ (l .before .loop .inv .2) (l .loop-test .taken) in
-    (search needs, writing-below _ (l .before .loop .inv .2) (l .loop-test .taken), search needs, search needs, search needs)
+    let f = writing-from (l .before .loop .inv .2) (l .loop-test .taken) in
+    (search needs, writing-below (l .before .loop .inv .2) (l .loop-test .taken), search needs, search needs, search needs)
 
 loop-less : tie.Need-loop-less Inv-loop μ-loop
 loop-less c = search needs
@@ -56,7 +57,7 @@ same-length : tie.Need-same-length Inv-loop μ-loop
 same-length c = search needs
 
 returns : tie.Need-returns Inv-loop μ-loop
-returns c = writing-end _ (c .before .loop .inv .2) (c .loop-test .left)
+returns c = writing-end (c .before .loop .inv .2) (c .loop-test .left)
 
 pub write-chain-spec : {M : Type 1} → statement M
 write-chain-spec =

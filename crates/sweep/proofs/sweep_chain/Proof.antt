@@ -6,20 +6,14 @@ use Rattle.sweep.proofs.sweep_chain.Tie as tie
 sweep-pages-requires : tie.Need-sweep-pages-requires
 sweep-pages-requires c κs = search needs
 
-table-of-requires : tie.Need-table-of-requires
-table-of-requires c κs = search needs
-
 lowered-requires : tie.Need-lowered-requires
 lowered-requires c κs = search needs
 
 returns : tie.Need-returns
 returns c =
-    let table = c .before .before .before in
-    let walk = table .before .before .before .before in
-    let start = walk .before .before .before .before .before .before .before in
-    let s = walk .sweep-pages .ensures in
-    chain-swept _ _ _ _ _ _ _ (start .pre .3) (start .pre .4) (start .pre .5) (start .pre .2) (s .0) (s .1) (table .table-of .ensures) (c .lowered .ensures)
+    let walk = c .before .before .before in
+    let start = walk .before .before .before .before .before in
+    chain-swept _ _ _ _ (start .pre .3) (start .pre .4) (start .pre .5) (start .pre .2) (walk .sweep-pages .ensures) (c .lowered .ensures)
 
 pub sweep-chain-spec : {M : Type 1} → statement M
-sweep-chain-spec =
-    tie.close (tie.spec sweep-pages-requires table-of-requires lowered-requires returns)
+sweep-chain-spec = tie.close (tie.spec sweep-pages-requires lowered-requires returns)

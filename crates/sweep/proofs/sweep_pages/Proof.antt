@@ -13,12 +13,12 @@ use Rattle.sweep.proofs.sweep_pages.Statement.{statement}
 use Rattle.sweep.proofs.sweep_pages.Tie as tie
 
 abbrev Inv-loop : tie.InvT-loop
-Inv-loop buffer words n radios₀ easts₀ norths₀ marks₀ chain s₀ i₀ radios easts norths marks s i =
-    (i ≤ chain .n) × (length (chain .pages) ≡ pages) × Roomy radios easts norths × Ready (linesOf (memoIn n words)) (stateOf s₀ radios₀ easts₀ norths₀ marks₀) (entriesOn buffer (pagesOf chain))
-    × (stateOf s radios easts norths marks ≡ walked (linesOf (memoIn n words)) (stateOf s₀ radios₀ easts₀ norths₀ marks₀) (entriesOn buffer (take i (chain .pages))))
+Inv-loop buffer words n table₀ marks₀ chain s₀ i₀ table marks s i =
+    (i ≤ chain .n) × (length (chain .pages) ≡ pages) × Roomy (s .kept) table × Ready (linesOf (memoIn n words)) (stateOf s₀ table₀ marks₀) (entriesOn buffer (pagesOf chain))
+    × (stateOf s table marks ≡ walked (linesOf (memoIn n words)) (stateOf s₀ table₀ marks₀) (entriesOn buffer (take i (chain .pages))))
 
 abbrev μ-loop : tie.MeasureT-loop
-μ-loop buffer words n radios₀ easts₀ norths₀ marks₀ chain s₀ i₀ radios easts norths marks s i = chain .n - i
+μ-loop buffer words n table₀ marks₀ chain s₀ i₀ table marks s i = chain .n - i
 
 loop-holds : tie.Need-loop-holds Inv-loop μ-loop
 loop-holds c = (search needs, search needs, search needs, search chain-begins, search chain-start)
@@ -45,7 +45,8 @@ returns : tie.Need-returns Inv-loop μ-loop
 returns c =
     let l = c .before in
     let start = l .before .before in
-    chain-end _ _ (start .args .t2 .pages) (l .loop .inv .0) (c .loop-test .left) _ _ _ _ _ _ _ _ (l .loop .inv .4) (start .pre .5)
+    let e = chain-end _ _ (start .args .t2 .pages) (l .loop .inv .0) (c .loop-test .left) _ _ _ _ (l .loop .inv .4) in
+    (e .0, e .1, l .loop .inv .2)
 
 pub sweep-pages-spec : {M : Type 1} → statement M
 sweep-pages-spec =

@@ -11,16 +11,16 @@ read-chain-requires c κs = search needs
 
 sweep-chain-requires : tie.Need-sweep-chain-requires
 sweep-chain-requires c κs =
-    let r = c .before in
+    let r = c .before .before in
     let s = r .before in
-    place-asks (s .before .before .pre) (s .slot-at .ensures) (r .read-chain .result) (r .read-chain .ensures)
+    let e = s .before .before in
+    place-asks (e .pre .0) (s .slot-at .ensures) (r .read-chain .result) (r .read-chain .ensures) (e .args .table .now) (e .pre .1)
 
 returns : tie.Need-returns
 returns c =
     λ x.
-    let w = c .before in
-    let r = w .before .before in
-    place-gives x (r .before .slot-at .ensures) (r .read-chain .result) (r .read-chain .ensures) (w .sweep-chain .result) (w .sweep-chain .ensures)
+    let r = c .before .before .before in
+    place-gives x (r .before .slot-at .ensures) (r .read-chain .result) (r .read-chain .ensures) (c .sweep-chain .result) _ (c .sweep-chain .ensures)
 
 pub swept-at-spec : {M : Type 1} → statement M
 swept-at-spec =

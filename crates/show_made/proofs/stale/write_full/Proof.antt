@@ -1,16 +1,17 @@
 use mathlib.Core.Path.{_≡_}
 use Prim.Native.Nat.{_-_, _≤_}
 use lib.ListN.{length}
+use Rattle.entries.specs.Entries.{tableWords}
 use Rattle.page.specs.Buffer.{bufferBytes}
 use borrow.Author.Needs.{needs}
 use Rattle.show_made.proofs.stale.write_full.Statement.{statement}
 use Rattle.show_made.proofs.stale.write_full.Tie as tie
 
 abbrev Inv-loop : tie.InvT-loop
-Inv-loop buffer₀ p₀ buffer p = (p ≤ 35) × (length buffer ≡ bufferBytes)
+Inv-loop buffer₀ table₀ p₀ buffer table p = (p ≤ 35) × (length buffer ≡ bufferBytes) × (length table ≡ tableWords)
 
 abbrev μ-loop : tie.MeasureT-loop
-μ-loop buffer₀ p₀ buffer p = 35 - p
+μ-loop buffer₀ table₀ p₀ buffer table p = 35 - p
 
 loop-holds : tie.Need-loop-holds Inv-loop μ-loop
 loop-holds c = search needs
@@ -18,14 +19,14 @@ loop-holds c = search needs
 sub-loop : tie.Need-sub-loop Inv-loop μ-loop
 sub-loop c = search needs
 
-mul-stale-entries : tie.Need-mul-stale-entries Inv-loop μ-loop
-mul-stale-entries c = search needs
+mul-fill-stale : tie.Need-mul-fill-stale Inv-loop μ-loop
+mul-fill-stale c = search needs
 
-add-stale-entries : tie.Need-add-stale-entries Inv-loop μ-loop
-add-stale-entries c = search needs
+add-fill-stale : tie.Need-add-fill-stale Inv-loop μ-loop
+add-fill-stale c = search needs
 
-stale-entries-requires : tie.Need-stale-entries-requires Inv-loop μ-loop
-stale-entries-requires c κs = search needs
+fill-stale-requires : tie.Need-fill-stale-requires Inv-loop μ-loop
+fill-stale-requires c κs = search needs
 
 stale-kind-requires : tie.Need-stale-kind-requires Inv-loop μ-loop
 stale-kind-requires c κs = search needs
@@ -62,9 +63,9 @@ write-full-spec =
     μ-loop
     loop-holds
     sub-loop
-    mul-stale-entries
-    add-stale-entries
-    stale-entries-requires
+    mul-fill-stale
+    add-fill-stale
+    fill-stale-requires
     stale-kind-requires
     add-write-page
     cast-write-page
