@@ -24,8 +24,9 @@ use Rattle.rules.specs.Told.{toldList}
 use Rattle.desk.specs.Held.{Directory, Memo, Waiting, onWith}
 use Rattle.desk.specs.Views.{radioRow, radiosOf, slotsIn}
 use Rattle.memo.specs.Memo.{linesOf}
+use Rattle.memo_index.specs.Index.{tableSize}
 use Rattle.waiting.specs.Waiting.{reportsOf}
-use Rattle.range_places.specs.Places.{Places, noPlaces, placesIn, radioSlots, Holds, placesOf}
+use Rattle.range_places.specs.Places.{Places, noPlaces, placesIn, Holds, placesOf}
 use Rattle.range.specs.Range.{isMarked, rowAt, rowsAt, listHeld, foundIn}
 
 -- ---- nothing stands in an empty table
@@ -39,10 +40,10 @@ empty-places : (n : ℕ) (easts norths : List ℕ) → placesIn easts norths (re
 unfolding placesIn noPlaces
 empty-places n easts norths = fun-ext (λ r. rw (getD-same n r false))
 
-pub empty-table : Holds (replicate radioSlots 0) (replicate radioSlots 0) (replicate radioSlots false) noPlaces
+pub empty-table : Holds (replicate tableSize 0) (replicate tableSize 0) (replicate tableSize false) noPlaces
 empty-table = record {
-  columns = record { east = length-replicate {A = ℕ} radioSlots 0; north = length-replicate {A = ℕ} radioSlots 0; mark = length-replicate radioSlots false };
-  places = empty-places radioSlots _ _;
+  columns = record { east = length-replicate {A = ℕ} tableSize 0; north = length-replicate {A = ℕ} tableSize 0; mark = length-replicate tableSize false };
+  places = empty-places tableSize _ _;
 }
 
 -- ---- radios in an array

@@ -7,12 +7,13 @@ use lib.Dec.{ltb}
 use lib.ListN.{length, length-map}
 use Rattle.terms.specs.Terms.{Fix, maxRadio, maxOn, noPage}
 use Rattle.lists.specs.Chains.{firstOf}
-use Rattle.lists.specs.Rows.{Rows, UpTo}
+use Rattle.lists.specs.Rows.{Rows, Rising, UpTo}
 use Rattle.lists.specs.Tests.{Each}
 use Rattle.lists.proofs.Cases.{by-cases}
 use Rattle.lists.proofs.TestsLaws.{each-map, each-zip, each-over-map}
 use Rattle.rules.specs.Grid.{Rect}
 use Rattle.rules.specs.Store.{Line, Report, Cell, Store}
+use Rattle.rules.specs.Sweep.{stale}
 use Rattle.rules.specs.Carry.{listBytes, found, Outcome, answered}
 use Rattle.rules.specs.Told.{Told, toldList}
 use Rattle.rules.specs.WellFormed.{WellFormed, GoodCell}
@@ -30,7 +31,7 @@ use Rattle.waiting.proofs.OnLaws.{radios-laid, count-on-laid}
 use Rattle.waiting.proofs.SlotsLaws.{length-slotted}
 use Rattle.page.specs.Buffer.{entriesOn, entriesFrom}
 use Rattle.sweep.proofs.CellLaws.{Sweepable, well-sweep}
-use Rattle.range_places.specs.Places.{Places, noPlaces, over, linesOver, reportsOver, slotOver, placesOf, Readable}
+use Rattle.range_places.specs.Places.{Places, noPlaces, over, reportsOver, slotOver, placesOf, Readable}
 use Rattle.range.specs.Range.{listHeld, foundIn}
 use Rattle.range.proofs.LatestLaws.{cellOver, tableOf, found-table}
 
@@ -44,14 +45,15 @@ cells-read : (s : Store) (b : List ℕ) → WellFormed s → Laid s b → Each (
 unfolding entriesFrom
 cells-read s b w l = each-map (Sweepable b (s .memo)) (Read b) (s .cells) (λ c k. ap (entriesOn b) (k .read) ∙ k .entries) (well-sweep s b w l)
 
-slot-cell : (b : List ℕ) (rect : Rect) (c : Cell) (f : Places) → Read b c → slotOver b rect (slotOf c) f ≡ cellOver rect c f
-unfolding slotOver
-slot-cell b rect c f e = rw e
+module _ (memo : Rows Line) (b : List ℕ) (rect : Rect) where
+  slot-cell : (c : Cell) (f : Places) → Read b c → slotOver (stale memo) b rect (slotOf c) f ≡ cellOver rect memo c f
+  unfolding slotOver
+  slot-cell c f e = rw e
 
-cells-over : (b : List ℕ) (rect : Rect) (cells : List Cell) (f : Places) → Each (Read b) cells → over (slotOver b rect) (map slotOf cells) f ≡ over (cellOver rect) cells f
-unfolding over
-cells-over b rect [] f e = refl
-cells-over b rect (c ∷ cs) f e = ap (over (slotOver b rect) (map slotOf cs)) (slot-cell b rect c f (e .0)) ∙ cells-over b rect cs (cellOver rect c f) (e .1)
+  cells-over : (cells : List Cell) (f : Places) → Each (Read b) cells → over (slotOver (stale memo) b rect) (map slotOf cells) f ≡ over (cellOver rect memo) cells f
+  unfolding over
+  cells-over [] f e = refl
+  cells-over (c ∷ cs) f e = ap (over (slotOver (stale memo) b rect) (map slotOf cs)) (slot-cell c f (e .0)) ∙ cells-over cs (cellOver rect memo c f) (e .1)
 
 slots-laid : (d : Directory) (cells : List Cell) → d ≡ directoryOf cells → slotsIn d ≡ map slotOf cells
 unfolding slotsIn
@@ -109,6 +111,7 @@ module _ (s : Store) (b : List ℕ) (desk : Desk) (w : WellFormed s) (l : Laid s
       entry-radios = radios-read;
       report-radios = subst (λ (x : Rows Report). UpTo maxRadio x) (sym (reports-laid waiting-is)) (w .waiting-radios);
       line-radios = subst (λ (x : Rows Line). UpTo maxRadio x) (sym (lines-are (s .memo) memo-is)) (w .memo-radios);
+      lines-rise = subst (λ (x : Rows Line). Rising 0 x) (sym (lines-are (s .memo) memo-is)) (w .memo-rises);
     },
     slots-on,
     omega (arith, count-on-laid (deskOn desk) (s .on) on-is, w .few-on),
@@ -119,8 +122,8 @@ module _ (s : Store) (b : List ℕ) (desk : Desk) (w : WellFormed s) (l : Laid s
   unfolding placesOf
   places-are rect =
       ap₂ (λ (x : Rows Report) (f : Places). reportsOver rect x f) (reports-laid waiting-is)
-      (ap₂ (λ (x : Rows Line) (f : Places). linesOver rect x f) (lines-are (s .memo) memo-is)
-      (ap (λ (x : List Slot). over (slotOver b rect) x noPlaces) (slots-laid (deskGrid desk .cells) (s .cells) cells-are) ∙ cells-over b rect (s .cells) noPlaces (cells-read s b w l)))
+      (ap₂ (λ (m : Rows Line) (x : List Slot). over (slotOver (stale m) b rect) x noPlaces) (lines-are (s .memo) memo-is) (slots-laid (deskGrid desk .cells) (s .cells) cells-are)
+      ∙ cells-over (s .memo) b rect (s .cells) noPlaces (cells-read s b w l))
 
   pub found-is : (rect : Rect) → foundIn b rect (deskGrid desk .cells) (deskWaiting desk) (deskMemo desk) (deskOn desk) ≡ found s rect
   unfolding foundIn

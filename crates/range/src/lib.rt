@@ -11,12 +11,13 @@ ghost use Rattle.rules.specs.Carry.{listBytes, bytesOf};
 ghost use Rattle.rules.specs.Told.{toldList};
 ghost use Rattle.desk.specs.Views.{radioRow, radiosOf, rectOf};
 ghost use Rattle.desk.specs.Held.{directoryIn, waitingWith, memoIn, onWith};
-ghost use Rattle.range_places.specs.Places.{radioSlots, Arrays, Readable};
+ghost use Rattle.memo_index.specs.Index.{tableSize};
+ghost use Rattle.range_places.specs.Places.{Arrays, Readable};
 ghost use Rattle.range.specs.Range.{isMarked, rowAt, rowsAt, foundIn};
 use desk::Desk;
 use desk::Parts;
 use desk::Rectangle;
-use range_places::RADIO_SLOTS;
+use memo_index::RADIOS;
 
 const LIST_BYTES: usize = 6;
 
@@ -33,8 +34,8 @@ pub struct Listed {
 // ---- the list
 
 // Whether the table has a place of the radio: only one in the rectangle is marked there.
-fn is_marked(marks: &[bool; RADIO_SLOTS], radio: u16) -> bool
-    requires { ⌜ (length (now marks) ≡ radioSlots) × (radio ≤ maxRadio) ⌝ }
+fn is_marked(marks: &[bool; RADIOS], radio: u16) -> bool
+    requires { ⌜ (length (now marks) ≡ tableSize) × (radio ≤ maxRadio) ⌝ }
     ensures { λ r. ⌜ r ≡ isMarked (now (marks .entry)) (radioRow radio) ⌝ }
 {
     marks[radio as usize]
@@ -42,12 +43,12 @@ fn is_marked(marks: &[bool; RADIO_SLOTS], radio: u16) -> bool
 
 // Those of the radios on that are marked: a radio is put after those kept, and kept where it is marked.
 fn found_on<'a>(
-    marks: &'a [bool; RADIO_SLOTS],
+    marks: &'a [bool; RADIOS],
     radios: &'a [u16; Desk::MAX_ON],
     n: u16,
     found: &'a mut [u16; Desk::MAX_ON],
 ) -> u16
-    requires { ⌜ (length (now marks) ≡ radioSlots) × (length (now radios) ≡ maxOn) × (length (now found) ≡ maxOn) × (n ≤ maxOn)
+    requires { ⌜ (length (now marks) ≡ tableSize) × (length (now radios) ≡ maxOn) × (length (now found) ≡ maxOn) × (n ≤ maxOn)
         × UpTo maxRadio (radiosOf (onWith n (now radios))) ⌝ }
     ensures { λ r. ⌜ (radiosOf (onWith r (now (found .exit))) ≡ filter (isMarked (now (marks .entry))) (radiosOf (onWith n (now (radios .entry)))))
         × (length (now (found .exit)) ≡ maxOn) × (r ≤ maxOn) ⌝ }
@@ -67,11 +68,11 @@ fn found_on<'a>(
 fn write_row(
     buffer: &mut [u8],
     at: usize,
-    easts: &[u16; RADIO_SLOTS],
-    norths: &[u16; RADIO_SLOTS],
+    easts: &[u16; RADIOS],
+    norths: &[u16; RADIOS],
     radio: u16,
 )
-    requires { ⌜ (length (now easts) ≡ radioSlots) × (length (now norths) ≡ radioSlots) × (radio ≤ maxRadio) × (at + listBytes ≤ length (now buffer)) ⌝ }
+    requires { ⌜ (length (now easts) ≡ tableSize) × (length (now norths) ≡ tableSize) × (radio ≤ maxRadio) × (at + listBytes ≤ length (now buffer)) ⌝ }
     ensures { λ _. ⌜ now (buffer .exit) ≡ put (now (buffer .entry)) at (bytesOf (rowAt (now (easts .entry)) (now (norths .entry)) radio ∷ [])) ⌝ }
 {
     let r = radio as usize;
@@ -83,12 +84,12 @@ fn write_row(
 // "6 × n bytes .. at the buffer's start"
 fn write_rows<'a>(
     buffer: &'a mut [u8],
-    easts: &'a [u16; RADIO_SLOTS],
-    norths: &'a [u16; RADIO_SLOTS],
+    easts: &'a [u16; RADIOS],
+    norths: &'a [u16; RADIOS],
     found: &'a [u16; Desk::MAX_ON],
     n: u16,
 )
-    requires { ⌜ (length (now easts) ≡ radioSlots) × (length (now norths) ≡ radioSlots) × (length (now found) ≡ maxOn) × (n ≤ maxOn)
+    requires { ⌜ (length (now easts) ≡ tableSize) × (length (now norths) ≡ tableSize) × (length (now found) ≡ maxOn) × (n ≤ maxOn)
         × UpTo maxRadio (radiosOf (onWith n (now found))) × (listBytes * n ≤ length (now buffer)) ⌝ }
     ensures { λ _. ⌜ now (buffer .exit) ≡ put (now (buffer .entry)) 0 (bytesOf (rowsAt (now (easts .entry)) (now (norths .entry))
         (radiosOf (onWith n (now (found .entry)))))) ⌝ }
@@ -120,9 +121,9 @@ pub fn list(
         (waitingWith (parts .waiting) (now (waiting .entry))) (memoIn (parts .lines) (now (memo .entry))) (onWith (parts .on) (now (on .entry))))
         (now (buffer .entry)) ⌝ }
 {
-    let mut easts = [0u16; RADIO_SLOTS];
-    let mut norths = [0u16; RADIO_SLOTS];
-    let mut marks = [false; RADIO_SLOTS];
+    let mut easts = [0u16; RADIOS];
+    let mut norths = [0u16; RADIOS];
+    let mut marks = [false; RADIOS];
     range_places::hold_all(
         pages,
         area,

@@ -1,6 +1,6 @@
 -- The table by radio: tests of edges, what a store in it does, and what the loops that lay rows over it keep.
-use mathlib.Core.Path.{_≡_, refl, sym, ap, _∙_, fun-ext, subst}
-use mathlib.Core.Bool.{Bool, true, false, not, cond, _&&_}
+use mathlib.Core.Path.{_≡_, refl, sym, ap, ap₂, _∙_, fun-ext, subst}
+use mathlib.Core.Bool.{Bool, true, false, not, cond}
 use mathlib.Core.List.{List, [], _∷_, _++_}
 use mathlib.Core.Logic.{_≢_}
 use mathlib.Core.Option.{Option, none, some}
@@ -26,19 +26,18 @@ use Rattle.page.specs.Buffer.{pageAt, there, chainFrom, entriesOn, entriesFrom}
 use Rattle.page.proofs.ChainLaws.{chain-ended, chain-not-there, chain-there, chain-out, was-there}
 use Rattle.rules.specs.Limits.{maxCells, fullMemory}
 use Rattle.rules.specs.Grid.{Rect, covers}
+use Rattle.rules.specs.Sweep.{stale}
 use Rattle.rules.specs.Plain.{putAt}
 use Rattle.desk.specs.declared.Slot.{Slot}
 use Rattle.desk.specs.Held.{Directory, Memo, Waiting}
-use Rattle.desk.specs.declared.Line.{Line}
 use Rattle.desk.specs.declared.Report.{Report}
-use Rattle.desk.specs.Layout.{slotFields, reportFields, lineSlots, lineFields, noSlot, noLine, noReport}
+use Rattle.desk.specs.Layout.{slotFields, reportFields, noSlot, noReport}
 use Rattle.desk.proofs.SlotsLaws.{length-slots}
 use Rattle.desk.proofs.ReportsLaws.{length-every}
-use Rattle.desk.specs.Views.{everyReport, everySlot, slotsIn, edgesOf, linesIn}
-use Rattle.desk.proofs.LinesLaws.{length-lines-in}
-use Rattle.memo.specs.Memo.{linesOf, rowOf as lineRow}
+use Rattle.desk.specs.Views.{everyReport, everySlot, slotsIn, edgesOf}
+use Rattle.memo.specs.Memo.{linesOf}
 use Rattle.waiting.specs.Waiting.{reportsOf, rowOf as reportRow}
-use Rattle.range_places.specs.Places.{Places, noPlaces, placesIn, Columns, Holds, over, seen, rowOver, entriesOver, linesOver, reportsOver, touches, slotOver, placesOf}
+use Rattle.range_places.specs.Places.{Places, noPlaces, placesIn, Columns, Holds, over, seen, entryOver, entriesOver, reportsOver, touches, slotOver, placesOf}
 
 -- ---- a store in the table
 
@@ -90,19 +89,30 @@ module _ {A : Type 0} (step : A → Places → Places) where
 seen-told : (rect : Rect) (p : Place) {q : Bool} → q ≡ covers rect p → cond q (some p) none ≡ seen rect (some p)
 seen-told rect p e = ap (λ (q : Bool). cond q (some p) none) e
 
+-- ---- an entry
+
+module _ (old : Row Fix → Bool) (rect : Rect) (e : Entry) {r : Bool} (told : r ≡ old (rowOf e)) {easts norths : List ℕ} {marks : List Bool} where
+  pub entry-stale : r ≡ true → Columns easts norths marks → Holds easts norths marks (entryOver old rect (rowOf e) (placesIn easts norths marks))
+  entry-stale t c = record { columns = c; places = rw (← told, t) }
+
+  pub entry-held : {q : Bool} (f : Places) → r ≡ false → q ≡ covers rect (record { east = e .east; north = e .north })
+      → Holds easts norths marks (putAt (e .radio) (cond q (some (record { east = e .east; north = e .north })) none) f) → Holds easts norths marks (entryOver old rect (rowOf e) f)
+  entry-held f t seen h =
+      rw (← told, t) (subst (λ (o : Option Place). Holds easts norths marks (putAt (e .radio) o f)) (seen-told rect _ seen) h)
+
 -- ---- the entries of a page
 
-pub page-start : (rect : Rect) (v : List ℕ) {easts norths : List ℕ} {marks : List Bool} → Columns easts norths marks → Holds easts norths marks (entriesOver rect (tab 0 (entryAt v)) (placesIn easts norths marks))
+pub page-start : (old : Row Fix → Bool) (rect : Rect) (v : List ℕ) {easts norths : List ℕ} {marks : List Bool} → Columns easts norths marks → Holds easts norths marks (entriesOver old rect (tab 0 (entryAt v)) (placesIn easts norths marks))
 unfolding entriesOver tab
-page-start rect v c = over-start (rowOver rect some) c
+page-start old rect v c = over-start (entryOver old rect) c
 
 module _ (v b : List ℕ) (p : ℕ) {n i : ℕ} (here : v ≡ pageAt b p) (many : n ≡ count v) where
-  pub page-end : (rect : Rect) (f : Places) {easts norths : List ℕ} {marks : List Bool} → i ≤ n → n ≤ i → Holds easts norths marks (entriesOver rect (tab i (entryAt v)) f)
-      → Holds easts norths marks (entriesOver rect (entries (pageAt b p)) f)
+  pub page-end : (old : Row Fix → Bool) (rect : Rect) (f : Places) {easts norths : List ℕ} {marks : List Bool} → i ≤ n → n ≤ i → Holds easts norths marks (entriesOver old rect (tab i (entryAt v)) f)
+      → Holds easts norths marks (entriesOver old rect (entries (pageAt b p)) f)
   unfolding entries
-  page-end rect f {easts} {norths} {marks} h k d =
+  page-end old rect f {easts} {norths} {marks} h k d =
       let z : i ≡ count v = omega arith in
-      subst (λ (w : List ℕ). Holds easts norths marks (entriesOver rect (entries w) f)) here (subst (λ (j : ℕ). Holds easts norths marks (entriesOver rect (tab j (entryAt v)) f)) z d)
+      subst (λ (w : List ℕ). Holds easts norths marks (entriesOver old rect (entries w) f)) here (subst (λ (j : ℕ). Holds easts norths marks (entriesOver old rect (tab j (entryAt v)) f)) z d)
 
   module _ (more : i < n) {e : Entry} (read : rowOf e ≡ entryAt v i) where
     pub page-radio : UpTo maxRadio (entries (pageAt b p)) → e .radio ≤ maxRadio
@@ -112,14 +122,12 @@ module _ (v b : List ℕ) (p : ℕ) {n i : ℕ} (here : v ≡ pageAt b p) (many 
         let k : entryAt v i .key ≤ maxRadio = each-tab (λ x. x .key ≤ maxRadio) (count v) (entryAt v) i w (omega arith) in
         omega (arith, ap (λ (x : Row Fix). x .key) read)
 
-pub page-turn : (rect : Rect) (v : List ℕ) (f : Places) (i : ℕ) (e : Entry) {easts norths easts′ norths′ : List ℕ} {marks marks′ : List Bool} {q : Bool} → rowOf e ≡ entryAt v i
-    → Holds easts norths marks (entriesOver rect (tab i (entryAt v)) f) → q ≡ covers rect (record { east = e .east; north = e .north })
-    → Holds easts′ norths′ marks′ (putAt (e .radio) (cond q (some (record { east = e .east; north = e .north })) none) (placesIn easts norths marks))
-    → Holds easts′ norths′ marks′ (entriesOver rect (tab (i + 1) (entryAt v)) f)
+pub page-turn : (old : Row Fix → Bool) (rect : Rect) (v : List ℕ) (f : Places) (i : ℕ) (e : Entry) {easts norths easts′ norths′ : List ℕ} {marks marks′ : List Bool} → rowOf e ≡ entryAt v i
+    → Holds easts norths marks (entriesOver old rect (tab i (entryAt v)) f) → Holds easts′ norths′ marks′ (entryOver old rect (rowOf e) (placesIn easts norths marks))
+    → Holds easts′ norths′ marks′ (entriesOver old rect (tab (i + 1) (entryAt v)) f)
 unfolding entriesOver
-page-turn rect v f i e {easts} {norths} {easts′} {norths′} {marks} {marks′} read d told t =
-    over-turn (rowOver rect some) f (tab i (entryAt v)) (tab (i + 1) (entryAt v)) (rowOf e) (tab-suc i (entryAt v) ∙ ap (λ (x : Row Fix). tab i (entryAt v) ++ (x ∷ [])) (sym read)) d
-    (subst (λ (o : Option Place). Holds easts′ norths′ marks′ (putAt (e .radio) o (placesIn easts norths marks))) (seen-told rect _ told) t)
+page-turn old rect v f i e read d t =
+    over-turn (entryOver old rect) f (tab i (entryAt v)) (tab (i + 1) (entryAt v)) (rowOf e) (tab-suc i (entryAt v) ∙ ap (λ (x : Row Fix). tab i (entryAt v) ++ (x ∷ [])) (sym read)) d t
 
 -- ---- the pages of a chain: what is laid over the table, with what the rest of the chain still has, is the whole
 
@@ -131,34 +139,34 @@ entries-none : (b : List ℕ) → entriesOn b [] ≡ []
 unfolding entriesOn concat
 entries-none b = refl
 
-entriesOver-none : (rect : Rect) (f : Places) → f ≡ entriesOver rect [] f
+entriesOver-none : (old : Row Fix → Bool) (rect : Rect) (f : Places) → f ≡ entriesOver old rect [] f
 unfolding entriesOver
-entriesOver-none rect = over-none (rowOver rect some)
+entriesOver-none old rect = over-none (entryOver old rect)
 
-entriesOver-append : (rect : Rect) (l m : Rows Fix) (f : Places) → entriesOver rect (l ++ m) f ≡ entriesOver rect m (entriesOver rect l f)
+entriesOver-append : (old : Row Fix → Bool) (rect : Rect) (l m : Rows Fix) (f : Places) → entriesOver old rect (l ++ m) f ≡ entriesOver old rect m (entriesOver old rect l f)
 unfolding entriesOver
-entriesOver-append rect = over-append (rowOver rect some)
+entriesOver-append old rect = over-append (entryOver old rect)
 
-pub record Walking (b : List ℕ) (rect : Rect) (first : ℕ) (f : Places) (p fuel : ℕ) (easts norths : List ℕ) (marks : List Bool) : Type 0 where
+pub record Walking (old : Row Fix → Bool) (b : List ℕ) (rect : Rect) (first : ℕ) (f : Places) (p fuel : ℕ) (easts norths : List ℕ) (marks : List Bool) : Type 0 where
   pub columns : Columns easts norths marks
   pub radios : UpTo maxRadio (entriesOn b (chainFrom fuel b p))
-  pub places : entriesOver rect (entriesOn b (chainFrom fuel b p)) (placesIn easts norths marks) ≡ entriesOver rect (entriesFrom b first) f
+  pub places : entriesOver old rect (entriesOn b (chainFrom fuel b p)) (placesIn easts norths marks) ≡ entriesOver old rect (entriesFrom b first) f
 
-pub walking-start : (b : List ℕ) (rect : Rect) (first : ℕ) {easts norths : List ℕ} {marks : List Bool} → Columns easts norths marks → UpTo maxRadio (entriesFrom b first)
-    → Walking b rect first (placesIn easts norths marks) first pages easts norths marks
+pub walking-start : (old : Row Fix → Bool) (b : List ℕ) (rect : Rect) (first : ℕ) {easts norths : List ℕ} {marks : List Bool} → Columns easts norths marks → UpTo maxRadio (entriesFrom b first)
+    → Walking old b rect first (placesIn easts norths marks) first pages easts norths marks
 unfolding entriesFrom
-walking-start b rect first c u = record { columns = c; radios = u; places = refl }
+walking-start old b rect first c u = record { columns = c; radios = u; places = refl }
 
-module _ {b : List ℕ} {rect : Rect} {first p fuel : ℕ} {f : Places} {easts norths : List ℕ} {marks : List Bool} (w : Walking b rect first f p fuel easts norths marks) where
-  walking-stop : chainFrom fuel b p ≡ [] → Holds easts norths marks (entriesOver rect (entriesFrom b first) f)
+module _ {old : Row Fix → Bool} {b : List ℕ} {rect : Rect} {first p fuel : ℕ} {f : Places} {easts norths : List ℕ} {marks : List Bool} (w : Walking old b rect first f p fuel easts norths marks) where
+  walking-stop : chainFrom fuel b p ≡ [] → Holds easts norths marks (entriesOver old rect (entriesFrom b first) f)
   walking-stop e =
       let n : entriesOn b (chainFrom fuel b p) ≡ [] = ap (entriesOn b) e ∙ entries-none b in
-      record { columns = w .columns; places = entriesOver-none rect (placesIn easts norths marks) ∙ ap (λ (l : Rows Fix). entriesOver rect l (placesIn easts norths marks)) (sym n) ∙ w .places }
+      record { columns = w .columns; places = entriesOver-none old rect (placesIn easts norths marks) ∙ ap (λ (l : Rows Fix). entriesOver old rect l (placesIn easts norths marks)) (sym n) ∙ w .places }
 
-  pub walking-ended : p ≡ noPage → Holds easts norths marks (entriesOver rect (entriesFrom b first) f)
+  pub walking-ended : p ≡ noPage → Holds easts norths marks (entriesOver old rect (entriesFrom b first) f)
   walking-ended e = walking-stop (chain-ended b p fuel e .0)
 
-  pub walking-out : fuel ≤ 0 → Holds easts norths marks (entriesOver rect (entriesFrom b first) f)
+  pub walking-out : fuel ≤ 0 → Holds easts norths marks (entriesOver old rect (entriesFrom b first) f)
   walking-out h = let z : fuel ≡ 0 = omega arith in walking-stop (rw z (chain-out b p .0))
 
   module _ (more : 0 < fuel) {r : Bool} (told : r ≡ there b p) where
@@ -168,7 +176,7 @@ module _ {b : List ℕ} {rect : Rect} {first p fuel : ℕ} {f : Places} {easts n
     one-more : fuel ≡ suc rest
     one-more = omega arith
 
-    pub walking-lost : p ≢ noPage → not r ≡ true → Holds easts norths marks (entriesOver rect (entriesFrom b first) f)
+    pub walking-lost : p ≢ noPage → not r ≡ true → Holds easts norths marks (entriesOver old rect (entriesFrom b first) f)
     walking-lost n t = walking-stop (rw one-more (chain-not-there b p rest n (sym told ∙ not-true r t) .0))
 
     module _ (found : not r ≡ false) where
@@ -181,83 +189,52 @@ module _ {b : List ℕ} {rect : Rect} {first p fuel : ℕ} {f : Places} {easts n
       pub walking-radios : UpTo maxRadio (entries (pageAt b p))
       walking-radios = radios-split .0
 
-      pub walking-turn : {easts′ norths′ : List ℕ} {marks′ : List Bool} {q : ℕ} → Holds easts′ norths′ marks′ (entriesOver rect (entries (pageAt b p)) (placesIn easts norths marks)) → q ≡ next (pageAt b p)
-          → Walking b rect first f q rest easts′ norths′ marks′
+      pub walking-turn : {easts′ norths′ : List ℕ} {marks′ : List Bool} {q : ℕ} → Holds easts′ norths′ marks′ (entriesOver old rect (entries (pageAt b p)) (placesIn easts norths marks)) → q ≡ next (pageAt b p)
+          → Walking old b rect first f q rest easts′ norths′ marks′
       walking-turn h e =
           let l : Rows Fix = entries (pageAt b p) in
           let m : Rows Fix = entriesOn b (chainFrom rest b (next (pageAt b p))) in
           rw e (record {
             columns = h .columns;
             radios = radios-split .1;
-            places = ap (entriesOver rect m) (h .places) ∙ sym (entriesOver-append rect l m (placesIn easts norths marks)) ∙ ap (λ (x : Rows Fix). entriesOver rect x (placesIn easts norths marks)) (sym step) ∙ w .places;
+            places = ap (entriesOver old rect m) (h .places) ∙ sym (entriesOver-append old rect l m (placesIn easts norths marks)) ∙ ap (λ (x : Rows Fix). entriesOver old rect x (placesIn easts norths marks)) (sym step) ∙ w .places;
           })
 
 -- ---- the cells of the directory
 
-module _ (b : List ℕ) (rect : Rect) (s : Slot) {r : Bool} (told : r ≡ touches rect (edgesOf s)) {easts norths : List ℕ} {marks : List Bool} where
-  pub slot-touched : (f : Places) → r ≡ true → Holds easts norths marks (entriesOver rect (entriesFrom b (s .first)) f) → Holds easts norths marks (slotOver b rect s f)
+module _ (old : Row Fix → Bool) (b : List ℕ) (rect : Rect) (s : Slot) {r : Bool} (told : r ≡ touches rect (edgesOf s)) {easts norths : List ℕ} {marks : List Bool} where
+  pub slot-touched : (f : Places) → r ≡ true → Holds easts norths marks (entriesOver old rect (entriesFrom b (s .first)) f) → Holds easts norths marks (slotOver old b rect s f)
   unfolding slotOver
   slot-touched f t h = rw (← told, t) h
 
-  pub slot-skipped : r ≡ false → Columns easts norths marks → Holds easts norths marks (slotOver b rect s (placesIn easts norths marks))
+  pub slot-skipped : r ≡ false → Columns easts norths marks → Holds easts norths marks (slotOver old b rect s (placesIn easts norths marks))
   unfolding slotOver
   slot-skipped t c = record { columns = c; places = rw (← told, t) }
 
-module _ (b : List ℕ) (rect : Rect) (d : Directory) where
-  pub cells-start : {easts norths : List ℕ} {marks : List Bool} → Columns easts norths marks → Holds easts norths marks (over (slotOver b rect) (take 0 (slotsIn d)) (placesIn easts norths marks))
-  cells-start c = over-start (slotOver b rect) c
+module _ (d : Directory) (size : length (d .words) ≡ slotFields * maxCells) (few : d .n ≤ maxCells) (i : ℕ) (more : i < d .n) {cell : Slot} (read : cell ≡ getD (everySlot (d .words)) i noSlot) where
+  within : d .n ≤ length (everySlot (d .words))
+  within = let l = length-slots (d .words) size in omega arith
 
-  module _ (size : length (d .words) ≡ slotFields * maxCells) (few : d .n ≤ maxCells) (i : ℕ) (more : i < d .n) {cell : Slot} (read : cell ≡ getD (everySlot (d .words)) i noSlot) where
-    within : d .n ≤ length (everySlot (d .words))
-    within = let l = length-slots (d .words) size in omega arith
-
-    pub cells-radios : Each (λ s. UpTo maxRadio (entriesFrom b (s .first))) (slotsIn d) → UpTo maxRadio (entriesFrom b (cell .first))
-    unfolding slotsIn
-    cells-radios e =
-        subst (λ (s : Slot). UpTo maxRadio (entriesFrom b (s .first))) (getD-take (d .n) (everySlot (d .words)) i noSlot more ∙ sym read)
-        (each-getD (λ s. UpTo maxRadio (entriesFrom b (s .first))) (take (d .n) (everySlot (d .words))) i noSlot e (let w = within in rw length-take (omega arith)))
-
-    pub cells-turn : (f : Places) {easts norths easts′ norths′ : List ℕ} {marks marks′ : List Bool} → Holds easts norths marks (over (slotOver b rect) (take i (slotsIn d)) f)
-        → Holds easts′ norths′ marks′ (slotOver b rect cell (placesIn easts norths marks)) → Holds easts′ norths′ marks′ (over (slotOver b rect) (take (i + 1) (slotsIn d)) f)
-    unfolding slotsIn
-    cells-turn f h k = over-turn (slotOver b rect) f _ _ cell (rw read (taken-turn (everySlot (d .words)) (d .n) i noSlot within more)) h k
-
-  pub cells-end : (i : ℕ) (f : Places) {easts norths : List ℕ} {marks : List Bool} → d .n ≤ i → Holds easts norths marks (over (slotOver b rect) (take i (slotsIn d)) f)
-      → Holds easts norths marks (over (slotOver b rect) (slotsIn d) f)
+  pub cells-radios : (b : List ℕ) → Each (λ s. UpTo maxRadio (entriesFrom b (s .first))) (slotsIn d) → UpTo maxRadio (entriesFrom b (cell .first))
   unfolding slotsIn
-  cells-end i f k h = over-end (slotOver b rect) f _ _ (taken-end (everySlot (d .words)) (d .n) i k) h
+  cells-radios b e =
+      subst (λ (s : Slot). UpTo maxRadio (entriesFrom b (s .first))) (getD-take (d .n) (everySlot (d .words)) i noSlot more ∙ sym read)
+      (each-getD (λ s. UpTo maxRadio (entriesFrom b (s .first))) (take (d .n) (everySlot (d .words))) i noSlot e (let w = within in rw length-take (omega arith)))
 
--- ---- the memo's lines
+  pub cells-turn : (old : Row Fix → Bool) (b : List ℕ) (rect : Rect) (f : Places) {easts norths easts′ norths′ : List ℕ} {marks marks′ : List Bool}
+      → Holds easts norths marks (over (slotOver old b rect) (take i (slotsIn d)) f) → Holds easts′ norths′ marks′ (slotOver old b rect cell (placesIn easts norths marks))
+      → Holds easts′ norths′ marks′ (over (slotOver old b rect) (take (i + 1) (slotsIn d)) f)
+  unfolding slotsIn
+  cells-turn old b rect f h k = over-turn (slotOver old b rect) f _ _ cell (rw read (taken-turn (everySlot (d .words)) (d .n) i noSlot within more)) h k
 
--- a line's place is seen if it has one, and that lies in the rectangle
-line-told : (rect : Rect) (bare : Bool) (p : Place) {q : Bool} → q ≡ covers rect p → cond (not bare && q) (some p) none ≡ seen rect (cond bare none (some p))
-line-told rect true p e = refl
-line-told rect false p e = seen-told rect p e
+module _ (old : Row Fix → Bool) (b : List ℕ) (rect : Rect) (d : Directory) where
+  pub cells-start : {easts norths : List ℕ} {marks : List Bool} → Columns easts norths marks → Holds easts norths marks (over (slotOver old b rect) (take 0 (slotsIn d)) (placesIn easts norths marks))
+  cells-start c = over-start (slotOver old b rect) c
 
-module _ (rect : Rect) (m : Memo) where
-  pub lines-start : {easts norths : List ℕ} {marks : List Bool} → Columns easts norths marks → Holds easts norths marks (linesOver rect (take 0 (linesOf m)) (placesIn easts norths marks))
-  unfolding linesOver
-  lines-start c = over-start _ c
-
-  module _ (size : length (m .words) ≡ lineFields * lineSlots) (few : m .n ≤ lineSlots) (i : ℕ) (more : i < m .n) {line : Line} (read : line ≡ getD (linesIn (m .words)) i noLine) where
-    inside : m .n ≤ length (linesIn (m .words))
-    inside = let l = length-lines-in lineSlots (m .words) size in omega arith
-
-    pub lines-radios : UpTo maxRadio (linesOf m) → line .radio ≤ maxRadio
-    unfolding linesOf
-    lines-radios e = rw read (each-mapped (linesIn (m .words)) (m .n) i noLine inside more (λ x. x .key ≤ maxRadio) lineRow e)
-
-    pub lines-turn : (f : Places) {easts norths easts′ norths′ : List ℕ} {marks marks′ : List Bool} {q : Bool} → q ≡ covers rect (record { east = line .east; north = line .north }) → Holds easts norths marks (linesOver rect (take i (linesOf m)) f)
-        → Holds easts′ norths′ marks′ (putAt (line .radio) (cond (not (eqb (line .placed) 0) && q) (some (record { east = line .east; north = line .north })) none) (placesIn easts norths marks))
-        → Holds easts′ norths′ marks′ (linesOver rect (take (i + 1) (linesOf m)) f)
-    unfolding linesOf linesOver
-    lines-turn f {easts} {norths} {easts′} {norths′} {marks} {marks′} told h k =
-        over-turn _ f _ _ (lineRow line) (rw read (mapped-turn (linesIn (m .words)) (m .n) i noLine inside more lineRow)) h
-        (subst (λ (o : Option Place). Holds easts′ norths′ marks′ (putAt (line .radio) o (placesIn easts norths marks))) (line-told rect (eqb (line .placed) 0) _ told) k)
-
-  pub lines-end : (i : ℕ) (f : Places) {easts norths : List ℕ} {marks : List Bool} → m .n ≤ i → Holds easts norths marks (linesOver rect (take i (linesOf m)) f) → Holds easts norths marks (linesOver rect (linesOf m) f)
-  unfolding linesOf linesOver
-  lines-end i f k h = over-end _ f _ _ (mapped-end (linesIn (m .words)) (m .n) i k lineRow) h
+  pub cells-end : (i : ℕ) (f : Places) {easts norths : List ℕ} {marks : List Bool} → d .n ≤ i → Holds easts norths marks (over (slotOver old b rect) (take i (slotsIn d)) f)
+      → Holds easts norths marks (over (slotOver old b rect) (slotsIn d) f)
+  unfolding slotsIn
+  cells-end i f k h = over-end (slotOver old b rect) f _ _ (taken-end (everySlot (d .words)) (d .n) i k) h
 
 -- ---- the waiting reports
 
@@ -288,11 +265,11 @@ module _ (rect : Rect) (w : Waiting) where
 
 -- ---- all of them
 
-pub all-held : (b : List ℕ) (rect : Rect) (d : Directory) (m : Memo) (w : Waiting) {e₀ n₀ e₁ n₁ e₂ n₂ e₃ n₃ : List ℕ} {k₀ k₁ k₂ k₃ : List Bool} → Holds e₀ n₀ k₀ noPlaces
-    → Holds e₁ n₁ k₁ (over (slotOver b rect) (slotsIn d) (placesIn e₀ n₀ k₀)) → Holds e₂ n₂ k₂ (linesOver rect (linesOf m) (placesIn e₁ n₁ k₁)) → Holds e₃ n₃ k₃ (reportsOver rect (reportsOf w) (placesIn e₂ n₂ k₂))
-    → Holds e₃ n₃ k₃ (placesOf b rect (slotsIn d) (linesOf m) (reportsOf w))
+pub all-held : (b : List ℕ) (rect : Rect) (d : Directory) (m : Memo) (w : Waiting) {old : Row Fix → Bool} {e₀ n₀ e₁ n₁ e₂ n₂ : List ℕ} {k₀ k₁ k₂ : List Bool} → old ≡ stale (linesOf m)
+    → Holds e₀ n₀ k₀ noPlaces → Holds e₁ n₁ k₁ (over (slotOver old b rect) (slotsIn d) (placesIn e₀ n₀ k₀)) → Holds e₂ n₂ k₂ (reportsOver rect (reportsOf w) (placesIn e₁ n₁ k₁))
+    → Holds e₂ n₂ k₂ (placesOf b rect (slotsIn d) (linesOf m) (reportsOf w))
 unfolding placesOf
-all-held b rect d m w h₀ h₁ h₂ h₃ = record {
-  columns = h₃ .columns;
-  places = h₃ .places ∙ ap (reportsOver rect (reportsOf w)) (h₂ .places ∙ ap (linesOver rect (linesOf m)) (h₁ .places ∙ ap (over (slotOver b rect) (slotsIn d)) (h₀ .places)));
+all-held b rect d m w told h₀ h₁ h₂ = record {
+  columns = h₂ .columns;
+  places = h₂ .places ∙ ap (reportsOver rect (reportsOf w)) (h₁ .places ∙ ap₂ (λ (x : Row Fix → Bool) (f : Places). over (slotOver x b rect) (slotsIn d) f) told (h₀ .places));
 }

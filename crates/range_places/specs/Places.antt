@@ -1,18 +1,19 @@
--- A place for each radio (01, "How a record is carried out"): an entry's, over it a memo line's, over both a waiting report's, each as far as it lies in the
+-- A place for each radio (01, "How a record is carried out"): that of its entry that isn't stale, over it a waiting report's, each as far as it lies in the
 -- rectangle, and the table by radio that holds them.
 use mathlib.Core.Bool.{Bool, false, cond}
 use mathlib.Core.List.{List, [], _∷_}
 use mathlib.Core.Option.{Option, none, some}
 use mathlib.Core.Path.{_≡_}
-use Prim.Native.Nat.{ℕ, _+_, _*_, _≤_}
+use Prim.Native.Nat.{ℕ, _*_, _≤_}
 use lib.ListN.{length, getD}
-use Rattle.terms.specs.Terms.{Place, Fix, maxRadio, pages}
-use Rattle.lists.specs.Rows.{Row, Rows, UpTo}
+use Rattle.terms.specs.Terms.{Place, Fix, maxRadio}
+use Rattle.lists.specs.Rows.{Row, Rows, Rising, UpTo}
 use Rattle.lists.specs.Tests.{both, Each, either}
 use Rattle.page.specs.Buffer.{entriesFrom}
 use Rattle.rules.specs.Limits.{maxCells, fullMemory}
 use Rattle.rules.specs.Grid.{Span, within, takesIn, Rect}
 use Rattle.rules.specs.Store.{Report, Line}
+use Rattle.rules.specs.Sweep.{stale}
 use Rattle.rules.specs.Carry.{inRange}
 use Rattle.rules.specs.Plain.{putAt}
 use Rattle.desk.specs.declared.Slot.{Slot}
@@ -20,6 +21,7 @@ use Rattle.desk.specs.Held.{Directory, Memo, Waiting}
 use Rattle.desk.specs.Layout.{slotFields, reportFields, lineFields, lineSlots}
 use Rattle.desk.specs.Views.{slotsIn, edgesOf}
 use Rattle.memo.specs.Memo.{linesOf}
+use Rattle.memo_index.specs.Index.{tableSize}
 use Rattle.waiting.specs.Waiting.{reportsOf}
 
 -- ---- a place for each radio
@@ -35,14 +37,10 @@ noPlaces r = none
 unfoldable pub placesIn : List ℕ → List ℕ → List Bool → Places
 placesIn easts norths marks r = cond (getD marks r false) (some (record { east = getD easts r 0; north = getD norths r 0 })) none
 
--- a slot for every radio, and one for 0
-abbrev pub radioSlots : ℕ
-radioSlots = maxRadio + 1
-
 pub record Columns (easts norths : List ℕ) (marks : List Bool) : Type 0 where
-  pub east : length easts ≡ radioSlots
-  pub north : length norths ≡ radioSlots
-  pub mark : length marks ≡ radioSlots
+  pub east : length easts ≡ tableSize
+  pub north : length norths ≡ tableSize
+  pub mark : length marks ≡ tableSize
 
 -- the table holds these places
 pub record Holds (easts norths : List ℕ) (marks : List Bool) (f : Places) : Type 0 where
@@ -64,11 +62,12 @@ seen rect o = cond (inRange rect o) o none
 abbrev pub rowOver : {Val : Type 0} → Rect → (Val → Option Place) → Row Val → Places → Places
 rowOver rect place x f = putAt (x .key) (seen rect (place (x .val))) f
 
-unfoldable pub entriesOver : Rect → Rows Fix → Places → Places
-entriesOver rect = over (rowOver rect some)
+-- an entry's place; a stale entry is passed over
+abbrev pub entryOver : (Row Fix → Bool) → Rect → Row Fix → Places → Places
+entryOver old rect e f = cond (old e) f (rowOver rect some e f)
 
-unfoldable pub linesOver : Rect → Rows Line → Places → Places
-linesOver rect = over (rowOver rect (λ l. l .last))
+unfoldable pub entriesOver : (Row Fix → Bool) → Rect → Rows Fix → Places → Places
+entriesOver old rect = over (entryOver old rect)
 
 unfoldable pub reportsOver : Rect → Rows Report → Places → Places
 reportsOver rect = over (rowOver rect (λ w. some (w .place)))
@@ -82,12 +81,12 @@ unfoldable pub touches : Rect → Rect → Bool
 touches a b = both (meets (a .easts) (b .easts)) (meets (a .norths) (b .norths))
 
 -- only the pages of cells that the rectangle touches
-unfoldable pub slotOver : List ℕ → Rect → Slot → Places → Places
-slotOver b rect s f = cond (touches rect (edgesOf s)) (entriesOver rect (entriesFrom b (s .first)) f) f
+unfoldable pub slotOver : (Row Fix → Bool) → List ℕ → Rect → Slot → Places → Places
+slotOver old b rect s f = cond (touches rect (edgesOf s)) (entriesOver old rect (entriesFrom b (s .first)) f) f
 
--- an entry's place; over it a memo line's, which is that of the entry of its radio that isn't stale; over both a waiting report's
+-- the place of the entry of a radio that isn't stale; over it a waiting report's: "a waiting report's before a stored one's"
 unfoldable pub placesOf : List ℕ → Rect → List Slot → Rows Line → Rows Report → Places
-placesOf b rect slots memo waiting = reportsOver rect waiting (linesOver rect memo (over (slotOver b rect) slots noPlaces))
+placesOf b rect slots memo waiting = reportsOver rect waiting (over (slotOver (stale memo) b rect) slots noPlaces)
 
 -- ---- what is asked of desk and pages
 
@@ -97,7 +96,7 @@ pub record Arrays (cells waiting memo : List ℕ) : Type 0 where
   pub report-words : length waiting ≡ reportFields * fullMemory
   pub line-words : length memo ≡ lineFields * lineSlots
 
--- counts within their slots, and no radio above the greatest
+-- counts within their slots, no radio above the greatest, and the memo's lines by rising radio
 pub record Readable (b : List ℕ) (cells : Directory) (waiting : Waiting) (memo : Memo) : Type 0 where
   pub few-cells : cells .n ≤ maxCells
   pub few-waiting : waiting .n ≤ fullMemory
@@ -105,3 +104,4 @@ pub record Readable (b : List ℕ) (cells : Directory) (waiting : Waiting) (memo
   pub entry-radios : Each (λ s. UpTo maxRadio (entriesFrom b (s .first))) (slotsIn cells)
   pub report-radios : UpTo maxRadio (reportsOf waiting)
   pub line-radios : UpTo maxRadio (linesOf memo)
+  pub lines-rise : Rising 0 (linesOf memo)

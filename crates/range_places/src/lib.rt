@@ -1,4 +1,4 @@
-// A place for each radio in a table by radio: the entries of the cells that a rectangle touches, over them the memo's lines, over these the waiting reports,
+// A place for each radio in a table by radio: that of its entry that isn't stale, as far as cells that a rectangle touches have it, over it a waiting report's,
 // each marked if it lies in the rectangle. Neither desk nor pages are altered.
 ghost use mathlib.Core.Bool.{true, cond};
 ghost use mathlib.Core.Option.{none, some};
@@ -8,27 +8,28 @@ ghost use lib.ListN.{length};
 ghost use Rattle.terms.specs.Terms.{maxRadio};
 ghost use Rattle.lists.specs.Rows.{UpTo};
 ghost use Rattle.lists.specs.Tests.{Each};
+ghost use Rattle.entries.specs.Entries.{rowOf};
 ghost use Rattle.page.specs.Page.{entries};
 ghost use Rattle.page.specs.Buffer.{pageAt, there, entriesFrom};
 ghost use Rattle.rules.specs.Limits.{maxCells, fullMemory};
 ghost use Rattle.rules.specs.Grid.{takesIn, covers};
 ghost use Rattle.rules.specs.Plain.{putAt};
-ghost use Rattle.desk.specs.Layout.{slotFields, reportFields, lineSlots, lineFields};
+ghost use Rattle.desk.specs.Layout.{slotFields, reportFields};
 ghost use Rattle.desk.specs.Views.{slotsIn, edgesOf, rectOf};
 ghost use Rattle.desk.specs.Held.{directoryIn, waitingWith, memoIn};
 ghost use Rattle.memo.specs.Memo.{linesOf};
+ghost use Rattle.memo_index.specs.Index.{Named, judged};
 ghost use Rattle.waiting.specs.Waiting.{reportsOf};
-ghost use Rattle.range_places.specs.Places.{noPlaces, placesIn, Columns, Holds, over, entriesOver, linesOver, reportsOver, meets, touches, slotOver, placesOf, Arrays, Readable};
+ghost use Rattle.range_places.specs.Places.{noPlaces, placesIn, Columns, Holds, over, entryOver, entriesOver, reportsOver, meets, touches, slotOver, placesOf, Arrays, Readable};
 use desk::Desk;
 use desk::Parts;
 use desk::Rectangle;
 use desk::Slot;
-use terms::MAX_RADIO;
+use entries::Entry;
+use memo_index::NO_LINE;
+use memo_index::RADIOS;
 use terms::NO_PAGE;
 use terms::PAGES;
-
-// A slot for every radio, and one for 0.
-pub const RADIO_SLOTS: usize = MAX_RADIO as usize + 1;
 
 // ---- rectangles
 
@@ -67,9 +68,9 @@ fn is_touched(area: Rectangle, cell: Slot) -> bool
 
 // The radio has this place, or none if that is not seen (it lies outside the rectangle), whatever it had; every other keeps what it has.
 fn hold(
-    easts: &mut [u16; RADIO_SLOTS],
-    norths: &mut [u16; RADIO_SLOTS],
-    marks: &mut [bool; RADIO_SLOTS],
+    easts: &mut [u16; RADIOS],
+    norths: &mut [u16; RADIOS],
+    marks: &mut [bool; RADIOS],
     radio: u16,
     east: u16,
     north: u16,
@@ -86,26 +87,52 @@ fn hold(
     marks[at] = seen;
 }
 
+// An entry's place. A stale entry is passed over: then every radio keeps what it has.
+fn hold_entry(
+    area: Rectangle,
+    e: Entry,
+    words: &[u16; Desk::MEMO_WORDS],
+    lines: &[u16; RADIOS],
+    easts: &mut [u16; RADIOS],
+    norths: &mut [u16; RADIOS],
+    marks: &mut [bool; RADIOS],
+)
+    requires { ⌜ Columns (now easts) (now norths) (now marks) × (e .radio ≤ maxRadio) × Named (now words) (now lines) ⌝ }
+    ensures { λ _. ⌜ Holds (now (easts .exit)) (now (norths .exit)) (now (marks .exit))
+        (entryOver (judged (now (words .entry)) (now (lines .entry))) (rectOf area) (rowOf e)
+        (placesIn (now (easts .entry)) (now (norths .entry)) (now (marks .entry)))) ⌝ }
+{
+    let stale = memo_index::is_stale(e, words, lines);
+    if stale {
+        return;
+    }
+    let seen = is_covered(area, e.east, e.north);
+    hold(easts, norths, marks, e.radio, e.east, e.north, seen);
+}
+
 // The entries of page p.
 fn hold_page(
     pages: &[u8],
     area: Rectangle,
     p: u16,
-    easts: &mut [u16; RADIO_SLOTS],
-    norths: &mut [u16; RADIO_SLOTS],
-    marks: &mut [bool; RADIO_SLOTS],
+    words: &[u16; Desk::MEMO_WORDS],
+    lines: &[u16; RADIOS],
+    easts: &mut [u16; RADIOS],
+    norths: &mut [u16; RADIOS],
+    marks: &mut [bool; RADIOS],
 )
-    requires { ⌜ Columns (now easts) (now norths) (now marks) × (there (now pages) p ≡ true) × UpTo maxRadio (entries (pageAt (now pages) p)) ⌝ }
+    requires { ⌜ Columns (now easts) (now norths) (now marks) × Named (now words) (now lines) × (there (now pages) p ≡ true)
+        × UpTo maxRadio (entries (pageAt (now pages) p)) ⌝ }
     ensures { λ _. ⌜ Holds (now (easts .exit)) (now (norths .exit)) (now (marks .exit))
-        (entriesOver (rectOf area) (entries (pageAt (now (pages .entry)) p)) (placesIn (now (easts .entry)) (now (norths .entry)) (now (marks .entry)))) ⌝ }
+        (entriesOver (judged (now (words .entry)) (now (lines .entry))) (rectOf area) (entries (pageAt (now (pages .entry)) p))
+        (placesIn (now (easts .entry)) (now (norths .entry)) (now (marks .entry)))) ⌝ }
 {
     let page = page::page_at(pages, p as usize);
     let n = page::entry_count(page);
     let mut i: usize = 0;
     while i < n {
         let e = page::read_entry(page, i);
-        let seen = is_covered(area, e.east, e.north);
-        hold(easts, norths, marks, e.radio, e.east, e.north, seen);
+        hold_entry(area, e, words, lines, easts, norths, marks);
         i += 1;
     }
 }
@@ -115,13 +142,16 @@ fn hold_cell(
     pages: &[u8],
     area: Rectangle,
     first: u16,
-    easts: &mut [u16; RADIO_SLOTS],
-    norths: &mut [u16; RADIO_SLOTS],
-    marks: &mut [bool; RADIO_SLOTS],
+    words: &[u16; Desk::MEMO_WORDS],
+    lines: &[u16; RADIOS],
+    easts: &mut [u16; RADIOS],
+    norths: &mut [u16; RADIOS],
+    marks: &mut [bool; RADIOS],
 )
-    requires { ⌜ Columns (now easts) (now norths) (now marks) × UpTo maxRadio (entriesFrom (now pages) first) ⌝ }
+    requires { ⌜ Columns (now easts) (now norths) (now marks) × Named (now words) (now lines) × UpTo maxRadio (entriesFrom (now pages) first) ⌝ }
     ensures { λ _. ⌜ Holds (now (easts .exit)) (now (norths .exit)) (now (marks .exit))
-        (entriesOver (rectOf area) (entriesFrom (now (pages .entry)) first) (placesIn (now (easts .entry)) (now (norths .entry)) (now (marks .entry)))) ⌝ }
+        (entriesOver (judged (now (words .entry)) (now (lines .entry))) (rectOf area) (entriesFrom (now (pages .entry)) first)
+        (placesIn (now (easts .entry)) (now (norths .entry)) (now (marks .entry)))) ⌝ }
 {
     let mut p = first;
     let mut fuel: usize = PAGES;
@@ -132,7 +162,7 @@ fn hold_cell(
         if !page::is_there(pages, p) {
             return;
         }
-        hold_page(pages, area, p, easts, norths, marks);
+        hold_page(pages, area, p, words, lines, easts, norths, marks);
         p = page::next_page(pages, p);
         fuel -= 1;
     }
@@ -143,16 +173,19 @@ fn hold_touched(
     pages: &[u8],
     area: Rectangle,
     cell: Slot,
-    easts: &mut [u16; RADIO_SLOTS],
-    norths: &mut [u16; RADIO_SLOTS],
-    marks: &mut [bool; RADIO_SLOTS],
+    words: &[u16; Desk::MEMO_WORDS],
+    lines: &[u16; RADIOS],
+    easts: &mut [u16; RADIOS],
+    norths: &mut [u16; RADIOS],
+    marks: &mut [bool; RADIOS],
 )
-    requires { ⌜ Columns (now easts) (now norths) (now marks) × UpTo maxRadio (entriesFrom (now pages) (cell .first)) ⌝ }
+    requires { ⌜ Columns (now easts) (now norths) (now marks) × Named (now words) (now lines) × UpTo maxRadio (entriesFrom (now pages) (cell .first)) ⌝ }
     ensures { λ _. ⌜ Holds (now (easts .exit)) (now (norths .exit)) (now (marks .exit))
-        (slotOver (now (pages .entry)) (rectOf area) cell (placesIn (now (easts .entry)) (now (norths .entry)) (now (marks .entry)))) ⌝ }
+        (slotOver (judged (now (words .entry)) (now (lines .entry))) (now (pages .entry)) (rectOf area) cell
+        (placesIn (now (easts .entry)) (now (norths .entry)) (now (marks .entry)))) ⌝ }
 {
     if is_touched(area, cell) {
-        hold_cell(pages, area, cell.first, easts, norths, marks);
+        hold_cell(pages, area, cell.first, words, lines, easts, norths, marks);
     }
 }
 
@@ -162,43 +195,22 @@ fn hold_cells(
     area: Rectangle,
     cells: &[u16; Desk::CELL_WORDS],
     n: u16,
-    easts: &mut [u16; RADIO_SLOTS],
-    norths: &mut [u16; RADIO_SLOTS],
-    marks: &mut [bool; RADIO_SLOTS],
+    words: &[u16; Desk::MEMO_WORDS],
+    lines: &[u16; RADIOS],
+    easts: &mut [u16; RADIOS],
+    norths: &mut [u16; RADIOS],
+    marks: &mut [bool; RADIOS],
 )
-    requires { ⌜ Columns (now easts) (now norths) (now marks) × (length (now cells) ≡ slotFields * maxCells) × (n ≤ maxCells)
+    requires { ⌜ Columns (now easts) (now norths) (now marks) × Named (now words) (now lines) × (length (now cells) ≡ slotFields * maxCells) × (n ≤ maxCells)
         × Each (λ s. UpTo maxRadio (entriesFrom (now pages) (s .first))) (slotsIn (directoryIn n (now cells))) ⌝ }
     ensures { λ _. ⌜ Holds (now (easts .exit)) (now (norths .exit)) (now (marks .exit))
-        (over (slotOver (now (pages .entry)) (rectOf area)) (slotsIn (directoryIn n (now (cells .entry))))
+        (over (slotOver (judged (now (words .entry)) (now (lines .entry))) (now (pages .entry)) (rectOf area)) (slotsIn (directoryIn n (now (cells .entry))))
         (placesIn (now (easts .entry)) (now (norths .entry)) (now (marks .entry)))) ⌝ }
 {
     let mut i: usize = 0;
     while i < n as usize {
         let cell = desk::slot_at(cells, i);
-        hold_touched(pages, area, cell, easts, norths, marks);
-        i += 1;
-    }
-}
-
-// A line's place is that of the one entry of its radio that isn't stale. A line outside, or without a place, takes away what the entries told.
-fn hold_lines(
-    area: Rectangle,
-    words: &[u16; Desk::MEMO_WORDS],
-    lines: u16,
-    easts: &mut [u16; RADIO_SLOTS],
-    norths: &mut [u16; RADIO_SLOTS],
-    marks: &mut [bool; RADIO_SLOTS],
-)
-    requires { ⌜ Columns (now easts) (now norths) (now marks) × (length (now words) ≡ lineFields * lineSlots) × (lines ≤ lineSlots)
-        × UpTo maxRadio (linesOf (memoIn lines (now words))) ⌝ }
-    ensures { λ _. ⌜ Holds (now (easts .exit)) (now (norths .exit)) (now (marks .exit))
-        (linesOver (rectOf area) (linesOf (memoIn lines (now (words .entry)))) (placesIn (now (easts .entry)) (now (norths .entry)) (now (marks .entry)))) ⌝ }
-{
-    let mut i: usize = 0;
-    while i < lines as usize {
-        let x = desk::line_at(words, i);
-        let seen = (x.placed != 0) & is_covered(area, x.east, x.north);
-        hold(easts, norths, marks, x.radio, x.east, x.north, seen);
+        hold_touched(pages, area, cell, words, lines, easts, norths, marks);
         i += 1;
     }
 }
@@ -208,9 +220,9 @@ fn hold_reports(
     area: Rectangle,
     waiting: &[u16; Desk::WAITING_WORDS],
     n: u16,
-    easts: &mut [u16; RADIO_SLOTS],
-    norths: &mut [u16; RADIO_SLOTS],
-    marks: &mut [bool; RADIO_SLOTS],
+    easts: &mut [u16; RADIOS],
+    norths: &mut [u16; RADIOS],
+    marks: &mut [bool; RADIOS],
 )
     requires { ⌜ Columns (now easts) (now norths) (now marks) × (length (now waiting) ≡ reportFields * fullMemory) × (n ≤ fullMemory)
         × UpTo maxRadio (reportsOf (waitingWith n (now waiting))) ⌝ }
@@ -227,7 +239,7 @@ fn hold_reports(
     }
 }
 
-// Entries, over them the memo's lines, over these the waiting reports.
+// Where the memo's lines stand is written first, for each entry is judged by its radio's line where it is met. Over the entries lie the waiting reports.
 pub fn hold_all(
     pages: &[u8],
     area: Rectangle,
@@ -235,9 +247,9 @@ pub fn hold_all(
     cells: &[u16; Desk::CELL_WORDS],
     waiting: &[u16; Desk::WAITING_WORDS],
     memo: &[u16; Desk::MEMO_WORDS],
-    easts: &mut [u16; RADIO_SLOTS],
-    norths: &mut [u16; RADIO_SLOTS],
-    marks: &mut [bool; RADIO_SLOTS],
+    easts: &mut [u16; RADIOS],
+    norths: &mut [u16; RADIOS],
+    marks: &mut [bool; RADIOS],
 )
     requires { ⌜ Holds (now easts) (now norths) (now marks) noPlaces × Arrays (now cells) (now waiting) (now memo)
         × Readable (now pages) (directoryIn (parts .frame .cells) (now cells)) (waitingWith (parts .waiting) (now waiting))
@@ -246,7 +258,18 @@ pub fn hold_all(
         (placesOf (now (pages .entry)) (rectOf area) (slotsIn (directoryIn (parts .frame .cells) (now (cells .entry))))
         (linesOf (memoIn (parts .lines) (now (memo .entry)))) (reportsOf (waitingWith (parts .waiting) (now (waiting .entry))))) ⌝ }
 {
-    hold_cells(pages, area, cells, parts.frame.cells, easts, norths, marks);
-    hold_lines(area, memo, parts.lines, easts, norths, marks);
+    let mut lines = [NO_LINE; RADIOS];
+    memo_index::index_lines(memo, parts.lines, &mut lines);
+    hold_cells(
+        pages,
+        area,
+        cells,
+        parts.frame.cells,
+        memo,
+        &lines,
+        easts,
+        norths,
+        marks,
+    );
     hold_reports(area, waiting, parts.waiting, easts, norths, marks);
 }

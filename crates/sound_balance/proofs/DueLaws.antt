@@ -2,35 +2,30 @@
 use mathlib.Core.Path.{_≡_, refl, sym, ap, ap₂, _∙_, subst}
 use mathlib.Core.Bool.{Bool, true, false, not, _&&_}
 use mathlib.Core.List.{List, [], _∷_}
-use mathlib.Core.Option.{Option, none, some}
-use Prim.Native.Nat.{ℕ, zero, suc, _+_, _-_, _*_, _%_, _≤_, _<_, min}
+use Prim.Native.Nat.{ℕ, _+_, _-_, _*_, _%_, _≤_, _<_, min}
 use native.Mathlib.Omega.{arith}
-use native.Mathlib.Numerals.{add-one}
 use lib.Dec.{eqb}
-use lib.ListN.{length, getD, set, drop, length-set}
-use lib.Seq.{getD-set-same, getD-set-other}
-use borrow.Author.Tests.{eqb-true, eqb-false}
+use lib.ListN.{length, getD, set, drop}
+use lib.Seq.{getD-set-other}
 use Rattle.terms.specs.Terms.{maxRadio, maxOn}
-use Rattle.lists.specs.Rows.{Rows, Rising, UpTo, find}
-use Rattle.lists.specs.Tests.{one-if, both, either, all, orElse}
-use Rattle.lists.proofs.Cases.{by-cases}
-use Rattle.lists.proofs.RowsLaws.{rising-less, find-below}
+use Rattle.lists.specs.Rows.{Rows, Rising, UpTo}
+use Rattle.lists.specs.Tests.{one-if, both, either, all}
+use Rattle.lists.proofs.RowsLaws.{rising-less}
 use Rattle.lists.proofs.TestsLaws.{both-true, all-cons}
 use Rattle.rules.specs.Limits.{fullMemory}
-use Rattle.rules.specs.Store.{Report as StoreReport, Line as StoreLine}
-use Rattle.rules.specs.Sweep.{staleBy, stale}
+use Rattle.rules.specs.Store.{Report as StoreReport}
 use Rattle.desk.specs.Held.{Memo, On, Waiting}
 use Rattle.desk.specs.declared.Report.{Report}
 use Rattle.desk.specs.declared.Line.{Line}
 use Rattle.desk.specs.Layout.{reportFields, noReport, lineSlots, lineFields, noLine}
 use Rattle.desk.specs.Views.{everyReport, linesIn, radioRow, radiosOf}
-use Rattle.desk.proofs.LinesLaws.{length-lines-in}
-use Rattle.memo.specs.Memo.{rowOf, linesOf}
+use Rattle.memo.specs.Memo.{linesOf}
+use Rattle.memo_index.proofs.IndexLaws.{lines-none, line-next}
 use Rattle.lists.proofs.SlotsLaws.{all-nil}
 use Rattle.waiting.specs.Waiting.{rowOf as reportRow, reportsOf}
 use Rattle.waiting.proofs.WaitingLaws.{every-size}
-use Rattle.sound_balance.specs.Tables.{tableSize, fieldEnd, half, Blank, added, written, Named, lineNamed, judged, markNew, belongsBy, missedOff, oneOff}
-use Rattle.sound_balance.proofs.TableLaws.{row-next, row-none, Adding, adding-start, adding-end, adding-key, adding-turn}
+use Rattle.sound_balance.specs.Tables.{fieldEnd, half, added, written, markNew, belongsBy, missedOff, oneOff}
+use Rattle.sound_balance.proofs.TableLaws.{row-next, row-none, Adding, adding-end, adding-key, adding-turn}
 
 -- ---- radios on
 
@@ -128,75 +123,10 @@ module _ (w : Waiting) {t₀ : List ℕ} {i : ℕ} {t : List ℕ} (a : Adding ma
 
 -- ---- memo lines
 
--- the lines before i are added and named: with the rest it is the whole
-pub record LinesDue (m : Memo) (t₀ : List ℕ) (i : ℕ) (t lines : List ℕ) : Type 0 where
-  pub rise : Rising 0 (drop i (linesOf m))
-  pub missed : Adding missedOff t₀ (linesOf m) i t
-  pub size : length lines ≡ tableSize
-  pub named : Named (m .words) lines
-  pub found : (q : ℕ) → orElse (find (drop i (linesOf m)) q) (lineNamed (m .words) (getD lines q 0)) ≡ find (linesOf m) q
+module _ (m : Memo) {t₀ : List ℕ} {i : ℕ} {t : List ℕ} (a : Adding missedOff t₀ (linesOf m) i t) where
+  pub missed-end : m .n ≤ i → t ≡ added missedOff t₀ (linesOf m)
+  missed-end h = adding-end a (lines-none m h)
 
-getD-set-le : (t : List ℕ) (k v q b : ℕ) → getD t q 0 ≤ b → v ≤ b → getD (set t k v) q 0 ≤ b
-getD-set-le [] k v q b h g = h
-getD-set-le (x ∷ t) zero v zero b h g = g
-getD-set-le (x ∷ t) zero v (suc q) b h g = h
-getD-set-le (x ∷ t) (suc k) v zero b h g = h
-getD-set-le (x ∷ t) (suc k) v (suc q) b h g = getD-set-le t k v q b h g
-
-or-none : {A : Type 0} (o : Option A) → orElse o none ≡ o
-or-none none = refl
-or-none (some a) = refl
-
-pub lines-start : (m : Memo) {t lines : List ℕ} → length (m .words) ≡ lineFields * lineSlots → Rising 0 (linesOf m) → UpTo maxRadio (linesOf m) → Blank lines → LinesDue m t 0 t lines
-lines-start m l r u z = record {
-  rise = r;
-  missed = adding-start missedOff u;
-  size = z .size;
-  named = record { size = l; place = λ q. omega (arith, z .zeros q) };
-  found = λ q. ap (λ (k : ℕ). orElse (find (linesOf m) q) (lineNamed (m .words) k)) (z .zeros q) ∙ or-none (find (linesOf m) q);
-}
-
-module _ (m : Memo) {t₀ : List ℕ} {i : ℕ} {t lines : List ℕ} (l : LinesDue m t₀ i t lines) where
-  pub lines-end : m .n ≤ i → (t ≡ added missedOff t₀ (linesOf m)) × Named (m .words) lines × (judged (m .words) lines ≡ stale (linesOf m))
-  unfolding linesOf find judged
-  lines-end h =
-      let z = row-none rowOf (linesIn (m .words)) (m .n) i h in
-      let named : (q : ℕ) → lineNamed (m .words) (getD lines q 0) ≡ find (linesOf m) q = λ q.
-      ap (λ (y : Rows StoreLine). orElse (find y q) (lineNamed (m .words) (getD lines q 0))) (sym z) ∙ l .found q in
-      (adding-end (l .missed) z, l .named, λ j e. staleBy (named (e .key) j) (e .val))
-
-module _ (m : Memo) {i : ℕ} (size : length (m .words) ≡ lineFields * lineSlots) (few : m .n ≤ lineSlots) (more : i < m .n) {line : Line} (read : line ≡ getD (linesIn (m .words)) i noLine) where
-  line-next : drop i (linesOf m) ≡ rowOf line ∷ drop (i + 1) (linesOf m)
-  unfolding linesOf
-  line-next = rw read (row-next rowOf (linesIn (m .words)) (m .n) i noLine (let l = length-lines-in lineSlots (m .words) size in omega arith) more)
-
-  pub line-radio : {t₀ t lines : List ℕ} → LinesDue m t₀ i t lines → line .radio ≤ maxRadio
-  line-radio l = adding-key (l .missed) line-next
-
-  module _ {t₀ t lines : List ℕ} (l : LinesDue m t₀ i t lines) {k : ℕ} (at : k ≡ line .radio) (inside : k < tableSize) where
-    rise-next : Rising (line .radio) (drop (i + 1) (linesOf m))
-    rise-next = subst (λ (y : Rows StoreLine). Rising 0 y) line-next (l .rise) .1
-
-    named-next : (q : ℕ) → orElse (find (drop (i + 1) (linesOf m)) q) (lineNamed (m .words) (getD (set lines k (i + 1)) q 0)) ≡ find (linesOf m) q
-    unfolding find
-    named-next q =
-        let rest = drop (i + 1) (linesOf m) in
-        let before : orElse (find (rowOf line ∷ rest) q) (lineNamed (m .words) (getD lines q 0)) ≡ find (linesOf m) q =
-        ap (λ (y : Rows StoreLine). orElse (find y q) (lineNamed (m .words) (getD lines q 0))) (sym line-next) ∙ l .found q in
-        by-cases (eqb q (line .radio))
-        (λ e.
-        let z : q ≡ k = eqb-true q (line .radio) e ∙ sym at in
-        let n : getD (set lines k (i + 1)) q 0 ≡ suc i = ap (λ (j : ℕ). getD (set lines k (i + 1)) j 0) z ∙ getD-set-same lines k (i + 1) 0 (omega (arith, l .size)) ∙ add-one i in
-        rw (find-below q (line .radio) rest (omega arith) rise-next, n, ← read) (rw e at before))
-        (λ e. rw (getD-set-other lines k q (i + 1) 0 (λ z. eqb-false q (line .radio) e (z ∙ at))) (rw e at before))
-
-    pub lines-turn : {a v p : ℕ} → a ≡ (fieldEnd - half * min (line .missed) (half - 1)) % fieldEnd → v ≡ (getD t k 0 + a) % fieldEnd → p ≡ i + 1 → LinesDue m t₀ (i + 1) (set t k v) (set lines k p)
-    lines-turn q w e =
-        rw e
-        (record {
-          rise = rising-less 0 (line .radio) (drop (i + 1) (linesOf m)) (omega arith) rise-next;
-          missed = adding-turn (l .missed) line-next at (w ∙ ap (λ (n : ℕ). (getD t k 0 + n) % fieldEnd) q);
-          size = length-set lines k (i + 1) ∙ l .size;
-          named = record { size = size; place = λ j. getD-set-le lines k (i + 1) j lineSlots (l .named .place j) (omega arith) };
-          found = named-next;
-        })
+  pub missed-turn : length (m .words) ≡ lineFields * lineSlots → m .n ≤ lineSlots → i < m .n → {line : Line} → line ≡ getD (linesIn (m .words)) i noLine → {k p v : ℕ} → k ≡ line .radio
+      → p ≡ (fieldEnd - half * min (line .missed) (half - 1)) % fieldEnd → v ≡ (getD t k 0 + p) % fieldEnd → Adding missedOff t₀ (linesOf m) (i + 1) (set t k v)
+  missed-turn size few more read {k} at q w = adding-turn a (line-next m size few more read) at (w ∙ ap (λ (n : ℕ). (getD t k 0 + n) % fieldEnd) q)

@@ -15,7 +15,8 @@ use Rattle.lists.proofs.Cases.{by-cases}
 use Rattle.lists.proofs.TestsLaws.{both-true, both-right-false}
 use Rattle.sound_clauses.specs.Loops.{allTo}
 use Rattle.sound_clauses.proofs.LoopsLaws.{allTo-zero, allTo-suc}
-use Rattle.sound_balance.specs.Tables.{tableSize, allSettled}
+use Rattle.memo_index.specs.Index.{tableSize}
+use Rattle.sound_balance.specs.Tables.{allSettled}
 
 -- ---- differences
 

@@ -14,14 +14,14 @@ ghost use Rattle.desk.specs.Layout.{reportFields, lineSlots, lineFields};
 ghost use Rattle.desk.specs.Views.{radiosOf};
 ghost use Rattle.desk.specs.Held.{waitingWith, memoIn, onWith};
 ghost use Rattle.memo.specs.Memo.{linesOf};
+ghost use Rattle.memo_index.specs.Index.{Blank, Named, judged};
 ghost use Rattle.waiting.specs.Waiting.{reportsOf};
-ghost use Rattle.sound_balance.specs.Tables.{tableSize, fieldEnd, half, Blank, added, written, allSettled, Named, judged, markNew, belongsBy, missedOff, oneOff};
+ghost use Rattle.sound_balance.specs.Tables.{fieldEnd, half, added, written, allSettled, markNew, belongsBy, missedOff, oneOff};
 use desk::Desk;
 use desk::Line;
-use terms::MAX_RADIO;
-
-// A number for each radio, and one for 0.
-pub const RADIOS: usize = MAX_RADIO as usize + 1;
+use memo_index::RADIOS;
+use memo_index::place_from_one;
+use memo_index::radio_index;
 
 // What counts in the high half of a number by radio.
 pub const HALF: u16 = 256;
@@ -36,13 +36,6 @@ const ONE_OFF: u16 = 65535;
 
 // ---- numbers
 
-pub fn radio_index(radio: u16) -> usize
-    requires { ⌜ radio ≤ maxRadio ⌝ }
-    ensures { λ r. ⌜ (r ≡ radio) × (r < tableSize) ⌝ }
-{
-    radio as usize
-}
-
 // In 16 bits, round either end: what is due is taken off before what is found is added.
 pub fn plus(a: u16, b: u16) -> u16
     ensures { λ r. ⌜ r ≡ (a + b) % fieldEnd ⌝ }
@@ -56,7 +49,7 @@ fn minus(a: u16, b: u16) -> u16
     std::num::wrapping_sub_u16(a, b)
 }
 
-pub fn apart(a: u16, b: u16) -> u16
+fn apart(a: u16, b: u16) -> u16
     ensures { λ r. ⌜ (r ≡ one-if (not (eqb a b))) × (r ≤ 1) ⌝ }
 {
     if a == b { 0 } else { 1 }
@@ -91,14 +84,7 @@ fn missed_off(x: Line) -> u16
     minus(SETTLED, HALF * clipped(x.missed))
 }
 
-fn place_from_one(i: usize) -> u16
-    requires { ⌜ i < lineSlots ⌝ }
-    ensures { λ r. ⌜ r ≡ i + 1 ⌝ }
-{
-    (i + 1) as u16
-}
-
-// Each line takes its missed count off, and writes where it stands.
+// Each line takes its missed count off, and writes where it stands, as `memo_index::index_lines` does: one pass for both.
 pub fn lines_due<'a>(
     words: &'a [u16; Desk::MEMO_WORDS],
     n: u16,

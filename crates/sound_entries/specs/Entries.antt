@@ -2,7 +2,7 @@
 use mathlib.Core.Bool.{Bool, true, false}
 use mathlib.Core.List.{List, map}
 use Prim.Native.Nat.{ℕ}
-use Rattle.terms.specs.Terms.{Fix, pages}
+use Rattle.terms.specs.Terms.{Fix}
 use Rattle.lists.specs.Rows.{Row, Rows}
 use Rattle.lists.specs.Sums.{sumBy}
 use Rattle.lists.specs.Tests.{one-if}

@@ -1,5 +1,4 @@
 // The walk over the entries of all cells: each is judged by its radio's memo line, and added to its radio's number.
-ghost use mathlib.Core.Bool.{not};
 ghost use mathlib.Core.List.{map};
 ghost use mathlib.Core.Path.{_≡_};
 ghost use Prim.Native.Nat.{_+_, _-_, _*_, _<_, _≤_};
@@ -7,64 +6,28 @@ ghost use lib.ListN.{length, take};
 ghost use Rattle.terms.specs.Terms.{maxRadio, pageEntries};
 ghost use Rattle.lists.specs.Rows.{UpTo};
 ghost use Rattle.lists.specs.Sums.{concat};
-ghost use Rattle.lists.specs.Tests.{one-if};
-ghost use Rattle.entries.specs.Entries.{rowOf, placeOf};
 ghost use Rattle.page.specs.Page.{pageBytes, entries};
 ghost use Rattle.rules.specs.Limits.{maxCells};
-ghost use Rattle.rules.specs.Sweep.{isAt};
 ghost use Rattle.desk.specs.Layout.{slotFields};
 ghost use Rattle.desk.specs.Held.{directoryIn};
-ghost use Rattle.memo.specs.Memo.{lastOf};
-ghost use Rattle.sound_balance.specs.Tables.{fieldEnd, half, added, Named, judged};
+ghost use Rattle.memo_index.specs.Index.{Named, judged};
+ghost use Rattle.sound_balance.specs.Tables.{fieldEnd, half, added};
 ghost use Rattle.page.specs.Buffer.{entriesFrom};
 ghost use Rattle.sound_entries.specs.Entries.{rowsRead, weigh, staleSum};
 use desk::Desk;
-use desk::Line;
-use entries::Entry;
+use memo_index::RADIOS;
+use memo_index::judge_entry;
+use memo_index::radio_index;
 use sound_balance::HALF;
-use sound_balance::RADIOS;
-use sound_balance::apart;
 use sound_balance::plus;
-use sound_balance::radio_index;
 use terms::PAGES;
 
 pub const CELLS: usize = Desk::MAX_CELLS;
-
-// Where a radio's line stands in the memo counts from 1.
-pub const NO_LINE: u16 = 0;
 
 pub fn long(x: u16) -> usize
     ensures { λ r. ⌜ (r ≡ x) × (r < fieldEnd) ⌝ }
 {
     x as usize
-}
-
-// ---- an entry, judged
-
-// 1 if a line has another place than the entry or none, else 0.
-fn judge(x: Line, e: Entry) -> u16
-    ensures { λ r. ⌜ (r ≡ one-if (not (isAt (lastOf x) (placeOf e)))) × (r ≤ 1) ⌝ }
-{
-    if x.placed == 0 {
-        return 1;
-    }
-    if x.east != e.east {
-        return 1;
-    }
-    apart(x.north, e.north)
-}
-
-// 1 if an entry is stale by the line that the table names, else 0.
-fn judge_entry<'a>(e: Entry, words: &'a [u16; Desk::MEMO_WORDS], lines: &'a [u16; RADIOS]) -> u16
-    requires { ⌜ (e .radio ≤ maxRadio) × Named (now words) (now lines) ⌝ }
-    ensures { λ r. ⌜ (r ≡ one-if (judged (now (words .entry)) (now (lines .entry)) (rowOf e))) × (r ≤ 1) ⌝ }
-{
-    let k = radio_index(e.radio);
-    let place = lines[k];
-    if place == NO_LINE {
-        return 0;
-    }
-    judge(desk::line_at(words, long(place) - 1), e)
 }
 
 // ---- what is found

@@ -18,11 +18,12 @@ use Rattle.desk.specs.Held.{deskGrid, deskWaiting, deskMemo, deskOn}
 use Rattle.desk.specs.Layout.{slotFields, reportFields, lineSlots}
 use Rattle.desk.specs.Views.{radiosOf}
 use Rattle.memo.specs.Memo.{linesOf}
+use Rattle.memo_index.specs.Index.{Blank, Named}
 use Rattle.sound_clauses.specs.Radios.{onAt, presentTest, unmarkedTest, linesTest}
 use Rattle.sound_clauses.specs.Round.{staleCount, staleCounts, boundTest}
 use Rattle.lists.proofs.SlotsLaws.{stops, goes}
 use Rattle.waiting.specs.Waiting.{reportsOf}
-use Rattle.sound_balance.specs.Tables.{Blank, added, written, Named, markNew, belongsBy, missedOff, oneOff, allSettled}
+use Rattle.sound_balance.specs.Tables.{added, written, markNew, belongsBy, missedOff, oneOff, allSettled}
 use Rattle.sound_entries.specs.Entries.{rowsRead, weigh, staleSum}
 use Rattle.sound_radios.specs.Entries.{entriesTest}
 use Rattle.sound_radios.proofs.KnownLaws.{Known}

@@ -4,10 +4,10 @@ use mathlib.Core.Bool.{Bool, true, not, cond}
 use mathlib.Core.List.{List}
 use mathlib.Core.Logic.{_≢_}
 use mathlib.Core.Option.{Option, none, some}
-use Prim.Native.Nat.{ℕ, zero, suc, _+_, _-_, _*_, _%_, _≤_, _<_, min}
+use Prim.Native.Nat.{ℕ, _+_, _-_, _*_, _%_, _≤_, _<_, min}
 use native.Mathlib.Omega.{arith}
 use lib.Dec.{eqb, ltb}
-use lib.ListN.{length, getD, replicate, length-replicate}
+use lib.ListN.{length, getD}
 use borrow.Author.Tests.{ltb-true, ltb-false, eqb-true, lt-ltb, eq-eqb, ne-eqb}
 use Rattle.terms.specs.Terms.{Fix, maxRadio}
 use Rattle.lists.specs.Rows.{Row, Rows, Rising, UpTo, find, countFound}
@@ -20,24 +20,17 @@ use Rattle.lists.proofs.TestsLaws.{both-left, both-right, both-intro, one-if-le
 use Rattle.rules.specs.Limits.{maxCells, fullMemory}
 use Rattle.rules.specs.Store.{Report, Line}
 use Rattle.rules.specs.Sweep.{stale}
+use Rattle.memo_index.specs.Index.{tableSize, Blank}
 use Rattle.sound_clauses.specs.Loops.{passing}
 use Rattle.sound_clauses.specs.Radios.{liveAt, staleAt, newAt, onAt, entriesAt, presentTest, unmarkedTest, lineTest, linesTest, missedAt}
 use Rattle.sound_clauses.proofs.LoopsLaws.{bool-same, allTo-true, true-allTo, passing-found}
 use Rattle.sound_clauses.proofs.RadiosLaws.{stale-live, stale-missed}
-use Rattle.sound_balance.specs.Tables.{tableSize, fieldEnd, half, Blank, added, written, markNew, belongsBy, missedOff, oneOff, allSettled}
+use Rattle.sound_balance.specs.Tables.{fieldEnd, half, added, written, markNew, belongsBy, missedOff, oneOff, allSettled}
 use Rattle.sound_entries.specs.Entries.{weigh}
 use Rattle.sound_radios.specs.Entries.{keyed}
 use Rattle.sound_radios.proofs.HeldLaws.{Comes, share, added-comes, foundOr, written-found, length-added, length-written}
 
--- ---- a table of zeros
-
-zero-at : (n q : ℕ) → getD (replicate {A = ℕ} n 0) q 0 ≡ 0
-zero-at zero q = refl
-zero-at (suc n) zero = refl
-zero-at (suc n) (suc q) = zero-at n q
-
-pub blank-zeros : Blank (replicate {A = ℕ} tableSize 0)
-blank-zeros = record { size = length-replicate {A = ℕ} tableSize 0; zeros = zero-at tableSize }
+-- ---- a table by radio
 
 in-table : {Val : Type 0} (t : List ℕ) (l : Rows Val) → length t ≡ tableSize → UpTo maxRadio l → Each (λ x. x .key < length t) l
 in-table t l e u = each-map (λ x. x .key ≤ maxRadio) (λ x. x .key < length t) l (λ x h. omega (arith, e, h)) u

@@ -18,14 +18,14 @@ ghost use Rattle.sound_entries.specs.Entries.{rowsRead};
 ghost use Rattle.sound_radios.specs.Entries.{entriesTest};
 use desk::Desk;
 use desk::Parts;
-use sound_balance::RADIOS;
+use memo_index::NO_LINE;
+use memo_index::RADIOS;
 use sound_balance::SETTLED;
 use sound_balance::all_settled;
 use sound_balance::lines_due;
 use sound_balance::on_due;
 use sound_balance::tally_new;
 use sound_entries::CELLS;
-use sound_entries::NO_LINE;
 use sound_entries::long;
 use sound_entries::tally_cells;
 

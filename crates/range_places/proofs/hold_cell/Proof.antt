@@ -1,6 +1,7 @@
 -- What the chain still has from p on, over the table, is what the whole chain has over the table at the start.
 use Rattle.page.proofs.ChainLaws.{was-there}
 use Rattle.desk.specs.Views.{rectOf}
+use Rattle.memo_index.specs.Index.{judged}
 use Rattle.range_places.specs.Places.{placesIn}
 use Rattle.range_places.proofs.TableLaws.{Walking, walking-start, walking-ended, walking-out, walking-lost, walking-radios, walking-turn}
 use borrow.Author.Needs.{needs}
@@ -8,10 +9,11 @@ use Rattle.range_places.proofs.hold_cell.Statement.{statement}
 use Rattle.range_places.proofs.hold_cell.Tie as tie
 
 abbrev Inv-loop : tie.InvT-loop
-Inv-loop pages area first easts₀ norths₀ marks₀ p₀ fuel₀ easts norths marks p fuel = Walking pages (rectOf area) first (placesIn easts₀ norths₀ marks₀) p fuel easts norths marks
+Inv-loop pages area first words lines easts₀ norths₀ marks₀ p₀ fuel₀ easts norths marks p fuel =
+    Walking (judged words lines) pages (rectOf area) first (placesIn easts₀ norths₀ marks₀) p fuel easts norths marks
 
 abbrev μ-loop : tie.MeasureT-loop
-μ-loop pages area first easts₀ norths₀ marks₀ p₀ fuel₀ easts norths marks p fuel = fuel
+μ-loop pages area first words lines easts₀ norths₀ marks₀ p₀ fuel₀ easts norths marks p fuel = fuel
 
 loop-holds : tie.Need-loop-holds Inv-loop μ-loop
 loop-holds c = search walking-start
@@ -26,7 +28,11 @@ returns-2 : tie.Need-returns-2 Inv-loop μ-loop
 returns-2 c = search walking-lost
 
 hold-page-requires : tie.Need-hold-page-requires Inv-loop μ-loop
-hold-page-requires c κs = (search needs, search was-there, search walking-radios)
+hold-page-requires c κs =
+    let t = c .before .before .before in
+    let l = t .before .before .before in
+    let there = t .before .is-there .ensures in
+    (search needs, search needs, was-there _ _ there (t .if2 .left), walking-radios (l .before .loop .inv) (l .loop-test .taken) there (t .if2 .left))
 
 next-page-requires : tie.Need-next-page-requires Inv-loop μ-loop
 next-page-requires c κs = was-there _ _ (c .before .before .before .before .before .is-there .ensures) (c .before .before .before .before .if2 .left)

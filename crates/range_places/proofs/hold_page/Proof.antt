@@ -1,9 +1,10 @@
--- The entries read so far lie over the table.
+-- Those of the entries read so far that are not stale lie over the table.
 use Prim.Native.Nat.{_-_, _≤_}
 use Rattle.lists.specs.Parts.{tab}
 use Rattle.page.specs.Page.{entryAt}
 use Rattle.page.proofs.ChainLaws.{there-bounds}
 use Rattle.desk.specs.Views.{rectOf}
+use Rattle.memo_index.specs.Index.{judged}
 use Rattle.range_places.specs.Places.{placesIn, Holds, entriesOver}
 use Rattle.range_places.proofs.TableLaws.{page-start, page-end, page-radio, page-turn}
 use borrow.Author.Needs.{needs}
@@ -11,10 +12,11 @@ use Rattle.range_places.proofs.hold_page.Statement.{statement}
 use Rattle.range_places.proofs.hold_page.Tie as tie
 
 abbrev Inv-loop : tie.InvT-loop
-Inv-loop pages area p easts₀ norths₀ marks₀ page n i₀ easts norths marks i = (i ≤ n) × Holds easts norths marks (entriesOver (rectOf area) (tab i (entryAt page)) (placesIn easts₀ norths₀ marks₀))
+Inv-loop pages area p words lines easts₀ norths₀ marks₀ page n i₀ easts norths marks i =
+    (i ≤ n) × Holds easts norths marks (entriesOver (judged words lines) (rectOf area) (tab i (entryAt page)) (placesIn easts₀ norths₀ marks₀))
 
 abbrev μ-loop : tie.MeasureT-loop
-μ-loop pages area p easts₀ norths₀ marks₀ page n i₀ easts norths marks i = n - i
+μ-loop pages area p words lines easts₀ norths₀ marks₀ page n i₀ easts norths marks i = n - i
 
 page-at-requires : tie.Need-page-at-requires Inv-loop μ-loop
 page-at-requires c κs = search there-bounds
@@ -28,11 +30,8 @@ loop-holds c = (search needs, search page-start)
 read-entry-requires : tie.Need-read-entry-requires Inv-loop μ-loop
 read-entry-requires c κs = search needs
 
-is-covered-requires : tie.Need-is-covered-requires Inv-loop μ-loop
-is-covered-requires c κs = search needs
-
-hold-requires : tie.Need-hold-requires Inv-loop μ-loop
-hold-requires c κs = (search needs, search page-radio)
+hold-entry-requires : tie.Need-hold-entry-requires Inv-loop μ-loop
+hold-entry-requires c κs = (search needs, search page-radio, search needs)
 
 add-i : tie.Need-add-i Inv-loop μ-loop
 add-i c = search needs
@@ -41,7 +40,9 @@ loop-less : tie.Need-loop-less Inv-loop μ-loop
 loop-less c = search needs
 
 loop-again : tie.Need-loop-again Inv-loop μ-loop
-loop-again c = (search needs, page-turn _ _ _ _ _ (c .before .before .before .before .before .read-entry .ensures) (c .before .before .before .before .before .before .before .loop .inv .1) (c .before .before .before .before .is-covered .ensures) (c .hold .ensures))
+loop-again c =
+    let l = c .before .before .before .before in
+    (search needs, page-turn _ _ _ _ _ _ (l .read-entry .ensures) (l .before .before .loop .inv .1) (c .hold-entry .ensures))
 
 returns : tie.Need-returns Inv-loop μ-loop
 returns c = search page-end
@@ -56,8 +57,7 @@ hold-page-spec =
     entry-count-requires
     loop-holds
     read-entry-requires
-    is-covered-requires
-    hold-requires
+    hold-entry-requires
     add-i
     loop-less
     loop-again

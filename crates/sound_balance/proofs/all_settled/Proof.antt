@@ -1,7 +1,7 @@
 -- The numbers so far that are not settled are counted.
 use mathlib.Core.Path.{_≡_}
 use Prim.Native.Nat.{_-_, _≤_}
-use Rattle.sound_balance.specs.Tables.{tableSize}
+use Rattle.memo_index.specs.Index.{tableSize}
 use Rattle.sound_balance.proofs.SettledLaws.{unsettled, settled-start, settled-turn, settled-end}
 use borrow.Author.Needs.{needs}
 use Rattle.sound_balance.proofs.all_settled.Statement.{statement}

@@ -1,24 +1,29 @@
--- The lines so far are added and named (`LinesDue`).
+-- The missed counts of the lines so far are added (`Adding`), and the lines are named (`Indexing`).
 use Prim.Native.Nat.{_-_, _≤_}
-use Rattle.sound_balance.proofs.DueLaws.{LinesDue, lines-start, line-radio, lines-turn, lines-end}
+use Rattle.desk.specs.Held.{memoIn}
+use Rattle.memo.specs.Memo.{linesOf}
+use Rattle.memo_index.proofs.IndexLaws.{Indexing, index-start, index-radio, index-turn, index-end}
+use Rattle.sound_balance.specs.Tables.{missedOff}
+use Rattle.sound_balance.proofs.TableLaws.{Adding, adding-start}
+use Rattle.sound_balance.proofs.DueLaws.{missed-turn, missed-end}
 use borrow.Author.Needs.{needs}
 use Rattle.sound_balance.proofs.lines_due.Statement.{statement}
 use Rattle.sound_balance.proofs.lines_due.Tie as tie
 
 abbrev Inv-loop : tie.InvT-loop
-Inv-loop words n balance₀ lines₀ i₀ balance lines i = (i ≤ n) × LinesDue (record { n = n; words = words }) balance₀ i balance lines
+Inv-loop words n balance₀ lines₀ i₀ balance lines i = (i ≤ n) × Adding missedOff balance₀ (linesOf (memoIn n words)) i balance × Indexing (memoIn n words) i lines
 
 abbrev μ-loop : tie.MeasureT-loop
 μ-loop words n balance₀ lines₀ i₀ balance lines i = n - i
 
 loop-holds : tie.Need-loop-holds Inv-loop μ-loop
-loop-holds c = (search needs, search lines-start)
+loop-holds c = (search needs, search adding-start, search index-start)
 
 line-at-requires : tie.Need-line-at-requires Inv-loop μ-loop
 line-at-requires c κs = search needs
 
 radio-index-requires : tie.Need-radio-index-requires Inv-loop μ-loop
-radio-index-requires c κs = search line-radio
+radio-index-requires c κs = search index-radio
 
 mul-before : tie.Need-mul-before Inv-loop μ-loop
 mul-before c = search needs
@@ -54,10 +59,10 @@ loop-less : tie.Need-loop-less Inv-loop μ-loop
 loop-less c = search needs
 
 loop-again : tie.Need-loop-again Inv-loop μ-loop
-loop-again c = (search needs, search lines-turn)
+loop-again c = (search needs, search missed-turn, search index-turn)
 
 returns : tie.Need-returns Inv-loop μ-loop
-returns c = lines-end _ (c .before .loop .inv .1) (c .loop-test .left)
+returns c = let l = index-end _ (c .before .loop .inv .2) (c .loop-test .left) in (search missed-end, l .0, l .1)
 
 pub lines-due-spec : {M : Type 1} → statement M
 lines-due-spec =

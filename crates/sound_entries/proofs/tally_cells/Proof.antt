@@ -1,7 +1,7 @@
 -- The cells walked, with the rest of the round, are the whole (`Cells`).
 use Prim.Native.Nat.{_-_, _≤_}
 use Rattle.desk.specs.Held.{directoryIn}
-use Rattle.sound_balance.specs.Tables.{judged}
+use Rattle.memo_index.specs.Index.{judged}
 use Rattle.sound_entries.proofs.WalkLaws.{Cells, cells-start, cells-radios, cells-turn, cells-end}
 use borrow.Author.Needs.{needs}
 use Rattle.sound_entries.proofs.tally_cells.Statement.{statement}

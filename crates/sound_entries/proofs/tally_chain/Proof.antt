@@ -2,7 +2,7 @@
 use Prim.Native.Nat.{_+_, _*_, _≤_}
 use Rattle.terms.specs.Terms.{pages as sheets, pageEntries}
 use Rattle.page.proofs.ChainLaws.{was-there}
-use Rattle.sound_balance.specs.Tables.{judged}
+use Rattle.memo_index.specs.Index.{judged}
 use Rattle.sound_entries.proofs.WalkLaws.{Chaining, chaining-start, page-asks, chaining-gone, chaining-radios, chaining-turn, chaining-out}
 use borrow.Author.Needs.{needs}
 use Rattle.sound_entries.proofs.tally_chain.Statement.{statement}

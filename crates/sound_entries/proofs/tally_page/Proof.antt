@@ -1,7 +1,7 @@
 -- The entries so far are added, and counted where they are stale (`Tallying`).
 use Prim.Native.Nat.{_-_, _≤_}
 use Rattle.page.specs.Page.{entries}
-use Rattle.sound_balance.specs.Tables.{judged}
+use Rattle.memo_index.specs.Index.{judged}
 use Rattle.sound_entries.proofs.WalkLaws.{Tallying, tally-start, page-radio, page-turn, page-end}
 use borrow.Author.Needs.{needs}
 use Rattle.sound_entries.proofs.tally_page.Statement.{statement}

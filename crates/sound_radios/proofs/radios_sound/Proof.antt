@@ -1,7 +1,7 @@
 -- What desk and pages have shown lets the tables be filled (`Known`); then the low halves show who is on, and the table is settled, and the inequality holds, exactly if the entries pass.
 use Rattle.desk.specs.Held.{deskWith}
+use Rattle.memo_index.proofs.IndexLaws.{blank-zeros}
 use Rattle.sound_radios.proofs.KnownLaws.{Known, known}
-use Rattle.sound_radios.proofs.TestLaws.{blank-zeros}
 use Rattle.sound_radios.proofs.SoundLaws.{on-asks, lines-asks, new-asks, cells-asks, bound-asks, radios-off, radios-fail, radios-bound}
 use borrow.Author.Needs.{needs}
 use Rattle.sound_radios.proofs.radios_sound.Statement.{statement}

@@ -1,7 +1,7 @@
-use Rattle.sound_entries.proofs.JudgeLaws.{judge-no-line, judge-slot, judge-in}
+use Rattle.memo_index.proofs.JudgeLaws.{judge-no-line, judge-slot, judge-in}
 use borrow.Author.Needs.{needs}
-use Rattle.sound_entries.proofs.judge_entry.Statement.{statement}
-use Rattle.sound_entries.proofs.judge_entry.Tie as tie
+use Rattle.memo_index.proofs.judge_entry.Statement.{statement}
+use Rattle.memo_index.proofs.judge_entry.Tie as tie
 
 radio-index-requires : tie.Need-radio-index-requires
 radio-index-requires c κs = search needs
@@ -15,11 +15,8 @@ element-copy-out-place c = search needs
 returns : tie.Need-returns
 returns c = (search judge-no-line, search needs)
 
-long-requires : tie.Need-long-requires
-long-requires c κs = search needs
-
-sub-line-at : tie.Need-sub-line-at
-sub-line-at c = search needs
+index-from-one-requires : tie.Need-index-from-one-requires
+index-from-one-requires c κs = search needs
 
 line-at-requires : tie.Need-line-at-requires
 line-at-requires c κs = (search judge-slot, search needs)
@@ -38,8 +35,7 @@ judge-entry-spec =
     mul-place
     element-copy-out-place
     returns
-    long-requires
-    sub-line-at
+    index-from-one-requires
     line-at-requires
     judge-requires
     returns-2)
