@@ -129,10 +129,10 @@ module _ (cuts : CutList) (size : length (cuts .at) ≡ maxCuts) (fits : cuts .n
 abbrev area : Reach → Reach → Rect
 area east-reach north-reach = record { easts = spanIn east-reach; norths = spanIn north-reach }
 
-within-box : (cuts : Cuts) (p : Place) {east-reach north-reach : Reach} (x : Row StoreReport) → Reaches (cuts .easts) (p .east) (spanIn east-reach) → Reaches (cuts .norths) (p .north) (spanIn north-reach) → InSquare (x .val .place)
-    → inside (area east-reach north-reach) (x .val .place) ≡ inBox cuts (boxOf cuts p) x
+within-box : (cuts : Cuts) (p : Place) {east-reach north-reach : Reach} (x : Row StoreReport) → Reaches (cuts .easts) (p .east) (spanIn east-reach) → Reaches (cuts .norths) (p .north) (spanIn north-reach) → InSquare (x .val .fix .place)
+    → inside (area east-reach north-reach) (x .val .fix .place) ≡ inBox cuts (boxOf cuts p) x
 unfolding inBox boxOf
-within-box cuts p x e n h = ap₂ both (e .same (x .val .place .east) (h .0)) (n .same (x .val .place .north) (h .1))
+within-box cuts p x e n h = ap₂ both (e .same (x .val .fix .place .east) (h .0)) (n .same (x .val .fix .place .north) (h .1))
 
 -- how many of the first i reports wait in the memory cell that reaches so far, whatever the cuts
 pub record Near (east-reach north-reach : Reach) (w : Waiting) (i s : ℕ) : Type 0 where

@@ -36,7 +36,7 @@ stripe-few c x h e = omega (arith, stripe-most (cutsIn c) x, few-cuts c h)
 -- a memory cell is a report's exactly if its stripes are
 module _ (cuts : Cuts) (m : Box) (x : Row StoreReport) where
   abbrev home : Box
-  home = boxOf cuts (x .val .place)
+  home = boxOf cuts (x .val .fix .place)
 
   pub box-in : inBox cuts m x ≡ true → (home .east ≡ m .east) × (home .north ≡ m .north)
   unfolding inBox
@@ -72,17 +72,17 @@ crowd-start cuts = record {
 }
 
 module _ {cuts : Cuts} {ws : Rows StoreReport} {crowd : List ℕ} (c : Crowd cuts ws crowd) (east-cuts : length (cuts .easts) ≤ maxCuts) (north-cuts : length (cuts .norths) ≤ maxCuts) (x : Row StoreReport) {k : ℕ}
-    (said : k ≡ boxAt (boxOf cuts (x .val .place))) where
+    (said : k ≡ boxAt (boxOf cuts (x .val .fix .place))) where
   abbrev its : Box
-  its = boxOf cuts (x .val .place)
+  its = boxOf cuts (x .val .fix .place)
 
   its-east : its .east < maxStripes
   unfolding boxOf
-  its-east = omega (arith, stripe-most (cuts .easts) (x .val .place .east))
+  its-east = omega (arith, stripe-most (cuts .easts) (x .val .fix .place .east))
 
   its-north : its .north < maxStripes
   unfolding boxOf
-  its-north = omega (arith, stripe-most (cuts .norths) (x .val .place .north))
+  its-north = omega (arith, stripe-most (cuts .norths) (x .val .fix .place .north))
 
   -- the number at the report's memory cell
   pub crowd-here : getD crowd k 0 ≡ waitingIn cuts ws its

@@ -5,7 +5,7 @@ use mathlib.Core.Path.{_≡_, refl, sym, ap, ap₂, _∙_, subst}
 use Prim.Native.Nat.{ℕ, _≤_}
 use lib.ListN.{length}
 use borrow.Author.Tests.{not-true}
-use Rattle.terms.specs.Terms.{Place, maxOn}
+use Rattle.terms.specs.Terms.{Fix, maxOn}
 use Rattle.lists.specs.Rows.{Rising}
 use Rattle.lists.specs.Words.{Bytes}
 use Rattle.lists.proofs.Cases.{false-true}
@@ -81,20 +81,20 @@ module _ (parts : Parts) (cs ws ms os : List ℕ) {b : List ℕ} (x : Sound (des
         let c : carry s bytes buffer ≡ y = taken-carry s (deskOn desk) bytes on-laid told q e buffer ∙ g in
         laid-out y (subst (λ (z : Outcome). WellFormed (z .store)) c (step-well s bytes buffer small (x .well))) h ∙ ap laidOut (sym c)
 
-    module _ (r : ℕ) (p : Place) where
-      pub on-asked : k ≡ asks (signOn r p) → BeforeSignOn desk r p b
-      on-asked e = record { sound = x; signs = asks-on s (deskOn desk) bytes on-laid told small r p e }
+    module _ (r : ℕ) (f : Fix) where
+      pub on-asked : k ≡ asks (signOn r f) → BeforeSignOn desk r f b
+      on-asked e = record { sound = x; signs = asks-on s (deskOn desk) bytes on-laid told small r f e }
 
-      pub report-asked : k ≡ asks (report r p) → BeforeReport desk r p b
-      report-asked e = record { sound = x; reports = asks-report s (deskOn desk) bytes on-laid told small r p e }
+      pub report-asked : k ≡ asks (report r f) → BeforeReport desk r f b
+      report-asked e = record { sound = x; reports = asks-report s (deskOn desk) bytes on-laid told small r f e }
 
-      pub on-answers : {d : Desk} {b′ : List ℕ} → k ≡ asks (signOn r p) → AfterRequest s (signOn r p) d b′ → CarriedOut before x (record { number = 0; count = 0; desk = d; pages = b′; buffer = buffer })
+      pub on-answers : {d : Desk} {b′ : List ℕ} → k ≡ asks (signOn r f) → AfterRequest s (signOn r f) d b′ → CarriedOut before x (record { number = 0; count = 0; desk = d; pages = b′; buffer = buffer })
       unfolding carriedOut
-      on-answers e c = taken (signOn r p) e _ refl c
+      on-answers e c = taken (signOn r f) e _ refl c
 
-      pub report-answers : {d : Desk} {b′ : List ℕ} → k ≡ asks (report r p) → AfterRequest s (report r p) d b′ → CarriedOut before x (record { number = 0; count = 0; desk = d; pages = b′; buffer = buffer })
+      pub report-answers : {d : Desk} {b′ : List ℕ} → k ≡ asks (report r f) → AfterRequest s (report r f) d b′ → CarriedOut before x (record { number = 0; count = 0; desk = d; pages = b′; buffer = buffer })
       unfolding carriedOut
-      report-answers e c = taken (report r p) e _ refl c
+      report-answers e c = taken (report r f) e _ refl c
 
     pub off-asked : (r : ℕ) → k ≡ asks (signOff r) → BeforeSignOff desk r b
     off-asked r e = record { sound = x; signs = asks-off s (deskOn desk) bytes on-laid told small r e }
@@ -120,15 +120,15 @@ module _ (parts : Parts) (cs ws ms os : List ℕ) {b : List ℕ} (x : Sound (des
     pub refused-returns : (n : ℕ) {r : Told} → k ≡ fails n → r ≡ record { parts = parts; answer = record { number = n; count = 0 } } → CarriedOut before x (leaves r cs ws ms os b buffer)
     refused-returns n e g = by-result g (refused-answers n e)
 
-    pub on-returns : (r : ℕ) (p : Place) {d : Parts} {cs′ ws′ ms′ os′ b′ : List ℕ} {c : Told} → k ≡ asks (signOn r p) → ((y : BeforeSignOn desk r p b) → AfterRequest (y .sound .store) (signOn r p) (deskWith d cs′ ws′ ms′ os′) b′)
+    pub on-returns : (r : ℕ) (f : Fix) {d : Parts} {cs′ ws′ ms′ os′ b′ : List ℕ} {c : Told} → k ≡ asks (signOn r f) → ((y : BeforeSignOn desk r f b) → AfterRequest (y .sound .store) (signOn r f) (deskWith d cs′ ws′ ms′ os′) b′)
         → c ≡ record { parts = d; answer = record { number = 0; count = 0 } } → CarriedOut before x (leaves c cs′ ws′ ms′ os′ b′ buffer)
     unfolding on-asked
-    on-returns r p e l g = by-result g (on-answers r p e (l (on-asked r p e)))
+    on-returns r f e l g = by-result g (on-answers r f e (l (on-asked r f e)))
 
-    pub report-returns : (r : ℕ) (p : Place) {d : Parts} {cs′ ws′ ms′ os′ b′ : List ℕ} {c : Told} → k ≡ asks (report r p) → ((y : BeforeReport desk r p b) → AfterRequest (y .sound .store) (report r p) (deskWith d cs′ ws′ ms′ os′) b′)
+    pub report-returns : (r : ℕ) (f : Fix) {d : Parts} {cs′ ws′ ms′ os′ b′ : List ℕ} {c : Told} → k ≡ asks (report r f) → ((y : BeforeReport desk r f b) → AfterRequest (y .sound .store) (report r f) (deskWith d cs′ ws′ ms′ os′) b′)
         → c ≡ record { parts = d; answer = record { number = 0; count = 0 } } → CarriedOut before x (leaves c cs′ ws′ ms′ os′ b′ buffer)
     unfolding report-asked
-    report-returns r p e l g = by-result g (report-answers r p e (l (report-asked r p e)))
+    report-returns r f e l g = by-result g (report-answers r f e (l (report-asked r f e)))
 
     pub off-returns : (r : ℕ) {d : Parts} {cs′ ws′ ms′ os′ b′ : List ℕ} {c : Told} → k ≡ asks (signOff r) → ((y : BeforeSignOff desk r b) → AfterRequest (y .sound .store) (signOff r) (deskWith d cs′ ws′ ms′ os′) b′)
         → c ≡ record { parts = d; answer = record { number = 0; count = 0 } } → CarriedOut before x (leaves c cs′ ws′ ms′ os′ b′ buffer)

@@ -33,7 +33,7 @@ choiceOf NoCut = none
 
 -- the rows' coordinates in a direction
 unfoldable pub coordinates : Axis → Rows Fix → List ℕ
-coordinates axis rows = map (λ e. along axis (e .val)) rows
+coordinates axis rows = map (λ e. along axis (e .val .place)) rows
 
 -- a direction's column, with the coordinates of n entries first
 abbrev pub HasFirst : ℕ → List ℕ → Type 0

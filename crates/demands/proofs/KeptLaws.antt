@@ -24,8 +24,8 @@ use Rattle.page.specs.Buffer.{pageAt}
 use Rattle.page.proofs.ChainLaws.{following}
 use Rattle.rules.specs.Store.{Store, Cell, Report as StoreReport, Line as StoreLine, missedOf}
 use Rattle.rules.specs.Sweep.{isAt}
-use Rattle.rules.specs.Carry.{isOn, placeOf, liveIn, storedIn}
-use Rattle.rules.specs.Plain.{Plain}
+use Rattle.rules.specs.Carry.{isOn, fixOf, liveIn, storedIn}
+use Rattle.rules.specs.Plain.{Plain, placeOf}
 use Rattle.rules.specs.WellFormed.{countIf, liveOf, staleOf, chains, WellFormed, PagesOnce}
 use Rattle.rules.proofs.LinkLaws.{Link, length-waiting}
 use Rattle.rules.proofs.BooksLaws.{missed-total}
@@ -36,7 +36,7 @@ use Rattle.desk.specs.Layout.{slotOf, gridOf, reportOf, waitingOf, lineWith, li
 use Rattle.desk.proofs.ReadLaws.{ChainRead, CellRead, FreePage, cells-read, free-read, Paged, pages-enough}
 use Rattle.desk.proofs.UniqueLaws.{take-cuts, take-slots, take-waiting, take-memo}
 use Rattle.demands.specs.Trace.{deskCuts}
-use Rattle.demands.specs.Demands.{chainAt, allChains, staleEntry, staleEntries, missedIn, missedCount, memoLines, isRadio, waitingPlace, staleBound, Kept}
+use Rattle.demands.specs.Demands.{chainAt, allChains, staleEntry, staleEntries, missedIn, missedCount, memoLines, isRadio, waitingFix, staleBound, Kept}
 
 -- ---- the desk's lists
 
@@ -87,14 +87,14 @@ one-line s w r =
     rw (memo-lines s w r, t, lt-ltb 0 r (k .0), lt-ltb r (suc maxRadio) (omega (arith, k .1))) (omega arith))
     (λ t. rw (memo-lines s w r, t) (omega arith))
 
-waiting-found : (l : Rows StoreReport) (r : ℕ) → waitingPlace (map reportOf l) r ≡ placeOf (find l r)
-unfolding waitingPlace find
+waiting-found : (l : Rows StoreReport) (r : ℕ) → waitingFix (map reportOf l) r ≡ fixOf (find l r)
+unfolding waitingFix find
 waiting-found [] r = refl
 waiting-found (x ∷ xs) r = by-cases (eqb r (x .key)) (λ t. rw t) (λ t. rw t (waiting-found xs r))
 
-pub waiting-place : (s : Store) (r : ℕ) → waitingPlace (take (deskOf s .parts .waiting) (everyReport (deskOf s .waiting))) r ≡ placeOf (find (s .waiting) r)
+pub waiting-place : (s : Store) (r : ℕ) → waitingFix (take (deskOf s .parts .waiting) (everyReport (deskOf s .waiting))) r ≡ fixOf (find (s .waiting) r)
 unfolding deskOf
-waiting-place s r = ap (λ l. waitingPlace l r) (take-waiting (s .waiting)) ∙ waiting-found (s .waiting) r
+waiting-place s r = ap (λ l. waitingFix l r) (take-waiting (s .waiting)) ∙ waiting-found (s .waiting) r
 
 pub waiting-number : (s : Store) → deskOf s .parts .waiting ≡ length (s .waiting)
 unfolding deskOf waitingOf
@@ -147,12 +147,12 @@ module _ (s : Store) (w : WellFormed s) (b : List ℕ) (l : Laid s b) (f : Row F
 
 -- ---- stale entries of a radio
 
-count-stale : (x : Plain) (r : ℕ) (o : Option Place) → countFound (λ k v. one-if (staleEntry x r (record { key = k; val = v }))) r o ≡ countIf (λ p. not (isAt (x .flushed r) p)) o
+count-stale : (x : Plain) (r : ℕ) (o : Option Fix) → countFound (λ k v. one-if (staleEntry x r (record { key = k; val = v }))) r o ≡ countIf (λ f. not (isAt (x .flushed r) (f .place))) o
 unfolding staleEntry both
 count-stale x r none = refl
 count-stale x r (some v) = rw (eq-eqb r r refl)
 
-stale-rows : (x : Plain) (r : ℕ) (l : Rows Fix) → Rising 0 l → sumBy (λ e. one-if (staleEntry x r e)) l ≡ countIf (λ p. not (isAt (x .flushed r) p)) (find l r)
+stale-rows : (x : Plain) (r : ℕ) (l : Rows Fix) → Rising 0 l → sumBy (λ e. one-if (staleEntry x r e)) l ≡ countIf (λ f. not (isAt (x .flushed r) (f .place))) (find l r)
 unfolding staleEntry both
 stale-rows x r l a =
     sum-at-key (λ e. one-if (staleEntry x r e)) 0 r l (λ e d. rw (ne-eqb r (e .key) (λ q. d (sym q)))) a ∙ count-stale x r (find l r)
@@ -170,13 +170,13 @@ stale-cells s x b w l r =
 abbrev heldOf : ℕ → List Cell → ℕ
 heldOf r cells = sumBy (λ c. countIf (λ _. true) (find (c .entries) r)) cells
 
-count-le : (t : Place → Bool) (o : Option Place) → countIf t o ≤ countIf (λ _. true) o
+count-le : (t : Fix → Bool) (o : Option Fix) → countIf t o ≤ countIf (λ _. true) o
 count-le t none = omega arith
-count-le t (some p) = one-if-le (t p)
+count-le t (some f) = one-if-le (t f)
 
 stale-le : (last : Option Place) (r : ℕ) (cells : List Cell) → staleOf last r cells ≤ heldOf r cells
 unfolding staleOf
-stale-le last r cells = sum-le _ _ cells (λ c. count-le (λ p. not (isAt last p)) (find (c .entries) r))
+stale-le last r cells = sum-le _ _ cells (λ c. count-le (λ f. not (isAt last (f .place))) (find (c .entries) r))
 
 -- without a line, the one entry of a radio is the live one
 module _ (memo : Rows StoreLine) (r : ℕ) (n : find memo r ≡ none) where
@@ -184,13 +184,13 @@ module _ (memo : Rows StoreLine) (r : ℕ) (n : find memo r ≡ none) where
   unfolding liveOf
   held-live cells = rw n
 
-  only-stored : (cells : List Cell) → heldOf r cells ≤ 1 → staleOf (storedIn memo r cells) r cells ≡ 0
+  only-stored : (cells : List Cell) → heldOf r cells ≤ 1 → staleOf (placeOf (storedIn memo r cells)) r cells ≡ 0
   unfolding sumBy staleOf storedIn liveIn
   only-stored [] h = refl
   only-stored (c ∷ cs) h =
       option-cases (find (c .entries) r)
       (λ e. rw e (omega (arith, only-stored cs (omega (arith, rw e at h)))))
-      (λ v e. rw (e, n, samePlace-refl v) (omega (arith, stale-le (some v) r cs, rw e at h)))
+      (λ v e. rw (e, n, samePlace-refl (v .place)) (omega (arith, stale-le (some (v .place)) r cs, rw e at h)))
 
 pub stale-flushed : (s : Store) (x : Plain) → WellFormed s → Link s x → (r : ℕ) → staleOf (x .flushed r) r (s .cells) ≡ missedOf (find (s .memo) r)
 stale-flushed s x w k r =

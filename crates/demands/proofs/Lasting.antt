@@ -3,13 +3,13 @@
 use mathlib.Core.Bool.{Bool, true, false, not, cond}
 use mathlib.Core.List.{List, [], _∷_}
 use mathlib.Core.Option.{Option, none, some}
-use mathlib.Core.Path.{_≡_, refl, sym, ap, _∙_}
+use mathlib.Core.Path.{_≡_, refl, sym, ap, _∙_, subst}
 use Prim.Native.Nat.{ℕ, _+_, _*_, _≤_, _<_}
 use native.Mathlib.Omega.{arith}
 use lib.Dec.{eqb}
 use lib.ListN.{length}
 use borrow.Author.Tests.{eqb-true, eq-eqb, ne-eqb}
-use Rattle.terms.specs.Terms.{Place}
+use Rattle.terms.specs.Terms.{Place, Fix}
 use Rattle.lists.specs.Among.{Among}
 use Rattle.lists.specs.Rows.{Rising, find, countFound}
 use Rattle.lists.specs.Sums.{sumBy}
@@ -73,20 +73,20 @@ live-none (called {d} {b} {x} t bytes buffer y small a) r p e =
 
 -- ---- a stale entry is one by the memo
 
-module _ (s : Store) (x : Plain) (w : WellFormed s) (k : Link s x) {c : Cell} (a : Among (s .cells) c) (r : ℕ) (p : Place)
-    (held : find (c .entries) r ≡ some p) (stale : isAt (x .flushed r) p ≡ false) where
+module _ (s : Store) (x : Plain) (w : WellFormed s) (k : Link s x) {c : Cell} (a : Among (s .cells) c) (r : ℕ) (f : Fix)
+    (held : find (c .entries) r ≡ some f) (stale : isAt (x .flushed r) (f .place) ≡ false) where
   -- it is one of those that the missed count counts, so its radio has a memo line; and a line's place is the last place flushed
   counted : 1 ≤ missedOf (find (s .memo) r)
   unfolding staleOf
   counted = omega (
     arith,
     stale-flushed s x w k r,
-    sum-among (λ c. countIf (λ q. not (isAt (x .flushed r) q)) (find (c .entries) r)) a,
-    ap (countIf (λ q. not (isAt (x .flushed r) q))) held,
+    sum-among (λ c. countIf (λ g. not (isAt (x .flushed r) (g .place))) (find (c .entries) r)) a,
+    ap (countIf (λ g. not (isAt (x .flushed r) (g .place)))) held,
     ap (λ z. one-if (not z)) stale,
   )
 
-  judged : staleBy (find (s .memo) r) p ≡ true
+  judged : staleBy (find (s .memo) r) f ≡ true
   judged =
       option-cases (find (s .memo) r)
       (λ e. absurd (omega (arith, counted, ap missedOf e)))
@@ -94,13 +94,17 @@ module _ (s : Store) (x : Plain) (w : WellFormed s) (k : Link s x) {c : Cell} (a
 
   not-clean : Clean (s .memo) c → ⊥
   not-clean clean =
-      false-true (sym (find-clean (s .memo) c (each-among Rowed (well-core s w .books .cells-rowed) a) clean r p held) ∙ judged)
+      false-true (sym (find-clean (s .memo) c (each-among Rowed (well-core s w .books .cells-rowed) a) clean r f held) ∙ judged)
 
 -- ---- the cell that holds it
 
+-- a cell's entry of radio r is at p
+abbrev HeldAt : Cell → ℕ → Place → Type 0
+HeldAt c r p = (f : Fix) × (find (c .entries) r ≡ some f) × (f .place ≡ p)
+
 -- it became stale n records ago, and at place k of the round it is swept with the (16 × (k + 1) − c)-th from here: less than 1,024 together
 abbrev Soon : Store → Plain → ℕ → Place → ℕ → Type 0
-Soon s x r p n = (c : Cell) (a : Among (s .cells) c) → find (c .entries) r ≡ some p → isAt (x .flushed r) p ≡ false
+Soon s x r p n = (c : Cell) (a : Among (s .cells) c) → HeldAt c r p → isAt (x .flushed r) p ≡ false
     → sweepEvery * length (a .before) + sweepEvery + n < lastingRecords + s .tally
 
 -- a call: what counts as a record brings the cell nearer, and anything else leaves store and plain rule as they were
@@ -122,7 +126,7 @@ module _ {d : Desk} {b : List ℕ} {x : Plain} (k : Beside d b x) (bytes buffer 
       let told = sym record-told ∙ t in
       let s = k .store in
       let zero = eqb-true (carry s bytes buffer .number) 0 (both-left _ _ told) in
-      let old = not-clean (then .store) (plainStep (deskCuts d) bytes x) (then .well) (then .link) now r p held stale in
+      let old = not-clean (then .store) (plainStep (deskCuts d) bytes x) (then .well) (then .link) now r (held .0) (held .1) (rw (held .2) stale) in
       let j = step-nearer s bytes buffer small (k .well) zero (both-right _ _ told) c now old in
       by-cases live
       (λ u. rw u (omega (arith, j .sooner, within-round (j .was) (k .well .few-cells))))
@@ -172,24 +176,27 @@ module _ (r : ℕ) (p : Place) where
   abbrev entriesIn : Cell → ℕ
   entriesIn c = sumBy (λ e. one-if (isEntry r p e)) (c .entries)
 
-  count-entry : (o : Option Place) → countFound (λ k v. one-if (isEntry r p (record { key = k; val = v }))) r o ≡ countIf (samePlace p) o
+  count-entry : (o : Option Fix) → countFound (λ k v. one-if (isEntry r p (record { key = k; val = v }))) r o ≡ countIf (λ f. samePlace p (f .place)) o
   unfolding isEntry both
   count-entry none = refl
-  count-entry (some q) = rw (eq-eqb r r refl)
+  count-entry (some f) = rw (eq-eqb r r refl)
 
-  entries-in : (c : Cell) → Rising 0 (c .entries) → entriesIn c ≡ countIf (samePlace p) (find (c .entries) r)
+  entries-in : (c : Cell) → Rising 0 (c .entries) → entriesIn c ≡ countIf (λ f. samePlace p (f .place)) (find (c .entries) r)
   unfolding isEntry both
   entries-in c a =
       sum-at-key (λ e. one-if (isEntry r p e)) 0 r (c .entries) (λ e n. rw (ne-eqb r (e .key) (λ q. n (sym q)))) a ∙ count-entry (find (c .entries) r)
 
   -- a cell has one, which is its entry of the radio, or none
-  held-or-none {ℓ} : {P : Type ℓ} (c : Cell) → Rising 0 (c .entries) → (entriesIn c ≡ 0 → P) → (entriesIn c ≡ 1 → find (c .entries) r ≡ some p → P) → P
+  held-or-none {ℓ} : {P : Type ℓ} (c : Cell) → Rising 0 (c .entries) → (entriesIn c ≡ 0 → P) → (entriesIn c ≡ 1 → HeldAt c r p → P) → P
   held-or-none c a f g =
       option-cases (find (c .entries) r)
-      (λ e. f (entries-in c a ∙ ap (countIf (samePlace p)) e))
-      (λ q e. by-cases (samePlace p q)
-      (λ t. g (entries-in c a ∙ ap (countIf (samePlace p)) e ∙ ap one-if t) (e ∙ ap some (sym (samePlace-true p q t))))
-      (λ t. f (entries-in c a ∙ ap (countIf (samePlace p)) e ∙ ap one-if t)))
+      (λ e. f (entries-in c a ∙ ap (countIf at-p) e))
+      (λ v e. by-cases (at-p v)
+      (λ t. g (entries-in c a ∙ ap (countIf at-p) e ∙ ap one-if t) (v, e, sym (samePlace-true p (v .place) t)))
+      (λ t. f (entries-in c a ∙ ap (countIf at-p) e ∙ ap one-if t)))
+    where
+      at-p : Fix → Bool
+      at-p f = samePlace p (f .place)
 
   module _ {d : Desk} {b : List ℕ} {x : Plain} (k : Beside d b x) where
     abbrev cells : List Cell
@@ -202,7 +209,7 @@ module _ (r : ℕ) (p : Place) where
     rows : {c : Cell} → Among cells c → Rowed c
     rows a = each-among Rowed (well-core (k .store) (k .well) .books .cells-rowed) a
 
-    none-held : ((c : Cell) → Among cells c → find (c .entries) r ≡ some p → ⊥) → entriesAt b r p ≡ 0
+    none-held : ((c : Cell) → Among cells c → HeldAt c r p → ⊥) → entriesAt b r p ≡ 0
     none-held h =
         omega (
           arith,
@@ -219,7 +226,12 @@ module _ (r : ℕ) (p : Place) where
           on-pages,
           well-core (k .store) (k .well) .books .apart p,
           sum-le-among entriesIn (λ c. one-if (inside (c .edges) p)) cells (λ c a. held-or-none c (rows a .rising) (λ z. omega arith)
-              (λ o e. omega (arith, o, ap one-if (each-find (λ _ q. inside (c .edges) q ≡ true) r p (c .entries) (rows a .placed) e)))),
+              (λ o h. omega (
+                arith,
+                o,
+                ap one-if (subst (λ (q : Place). inside (c .edges) q ≡ true) (h .2)
+                    (each-find (λ _ (f : Fix). inside (c .edges) (f .place) ≡ true) r (h .0) (c .entries) (rows a .placed) (h .1))),
+              ))),
         )
 
 -- ---- the theorems

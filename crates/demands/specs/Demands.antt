@@ -6,7 +6,7 @@ use mathlib.Core.Path.{_≡_}
 use Prim.Native.Nat.{ℕ, suc, _+_, _≤_}
 use lib.Dec.{eqb, ltb}
 use lib.ListN.{take}
-use Rattle.terms.specs.Terms.{Place, Fix, maxRadio, pages, noPage}
+use Rattle.terms.specs.Terms.{Fix, fixAt, maxRadio, pages, noPage}
 use Rattle.lists.specs.Chains.{walk}
 use Rattle.lists.specs.Rows.{Row}
 use Rattle.lists.specs.Sums.{sumBy, sumTo, concat, count}
@@ -50,7 +50,7 @@ allChains d b =
 
 -- "a stored entry is stale unless its place is the last place flushed for its radio, by the plain rule .., and the radio has not signed off since"
 unfoldable pub staleEntry : Plain → ℕ → Row Fix → Bool
-staleEntry x r e = both (eqb r (e .key)) (not (isAt (x .flushed r) (e .val)))
+staleEntry x r e = both (eqb r (e .key)) (not (isAt (x .flushed r) (e .val .place)))
 
 -- "Stale entries of each radio .. are counted over all 128 pages"
 unfoldable pub staleEntries : Plain → List ℕ → ℕ → ℕ
@@ -72,13 +72,13 @@ memoLines d r = sumBy (λ l. one-if (eqb r (l .radio))) (take (d .parts .lines) 
 unfoldable pub isRadio : ℕ → Bool
 isRadio r = both (ltb 0 r) (ltb r (suc maxRadio))
 
--- the place of the report of a radio that waits in the desk
-unfoldable pub waitingPlace : List Report → ℕ → Option Place
-waitingPlace [] r = none
-waitingPlace (w ∷ ws) r = cond (eqb r (w .radio)) (some (record { east = w .east; north = w .north })) (waitingPlace ws r)
+-- what the report of a radio that waits in the desk told
+unfoldable pub waitingFix : List Report → ℕ → Option Fix
+waitingFix [] r = none
+waitingFix (w ∷ ws) r = cond (eqb r (w .radio)) (some (fixAt (w .east) (w .north))) (waitingFix ws r)
 
-abbrev pub placeIf : Bool → Option Place → Option Place
-placeIf b o = cond b o none
+abbrev pub fixIf : Bool → Option Fix → Option Fix
+fixIf b o = cond b o none
 
 -- "16 × 63 + 15 + 127 = 1,150 bounds stale and waiting together"
 abbrev pub staleBound : ℕ
@@ -95,7 +95,7 @@ pub record Kept (d : Desk) (b : List ℕ) (x : Plain) : Type 0 where
   -- "each of the 128 pages stands once in one chain"
   pub once : (p : ℕ) → count p (allChains d b) ≡ one-if (ltb p pages)
   -- "the reports waiting in the desk are exactly its waiting radios with their latest places"
-  pub waiting : (r : ℕ) → waitingPlace (take (d .parts .waiting) (everyReport (d .waiting))) r ≡ placeIf (x .waits r) (x .latest r)
+  pub waiting : (r : ℕ) → waitingFix (take (d .parts .waiting) (everyReport (d .waiting))) r ≡ fixIf (x .waits r) (x .latest r)
   -- "exactly": as many reports as there are radios that wait, so none of a radio twice
   pub exactly : d .parts .waiting ≡ sumTo (suc maxRadio) (λ r. one-if (x .waits r))
 

@@ -23,7 +23,7 @@ use Rattle.demands.specs.Trace.{Trace, begun, called, deskCuts}
 
 -- an entry of radio r at place p
 unfoldable pub isEntry : ℕ → Place → Row Fix → Bool
-isEntry r p e = both (eqb r (e .key)) (samePlace p (e .val))
+isEntry r p e = both (eqb r (e .key)) (samePlace p (e .val .place))
 
 -- how many of these stand on the 128 pages
 unfoldable pub entriesAt : List ℕ → ℕ → Place → ℕ

@@ -65,7 +65,7 @@ report-injective x y e =
     let a = ap (λ w. w .east) e in
     let o = ap (λ w. w .north) e in
     let n = one-if-injective (x .val .new) (y .val .new) (ap (λ w. w .new) e) in
-    λ i. record { key = r i; val = record { place = record { east = a i; north = o i }; new = n i } }
+    λ i. record { key = r i; val = record { fix = record { place = record { east = a i; north = o i } }; new = n i } }
 
 lineWith-injective : (r q m k : ℕ) (o u : Option Place) → lineWith r m o ≡ lineWith q k u → (r ≡ q) × (m ≡ k) × (o ≡ u)
 lineWith-injective r q m k none none e = (ap (λ l. l .radio) e, ap (λ l. l .missed) e, refl)

@@ -72,7 +72,7 @@ gridOf s = record {
 }
 
 abbrev pub reportOf : Row StoreReport → Report
-reportOf w = record { radio = w .key; east = w .val .place .east; north = w .val .place .north; new = one-if (w .val .new) }
+reportOf w = record { radio = w .key; east = w .val .fix .place .east; north = w .val .fix .place .north; new = one-if (w .val .new) }
 
 abbrev pub noReport : Report
 noReport = record { radio = 0; east = 0; north = 0; new = 0 }

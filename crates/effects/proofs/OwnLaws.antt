@@ -5,7 +5,7 @@ use mathlib.Core.Option.{Option, none, some}
 use mathlib.Core.Path.{_≡_, refl}
 use Prim.Native.Nat.{ℕ, _+_, _≤_, _<_}
 use lib.ListN.{length}
-use Rattle.terms.specs.Terms.{Place}
+use Rattle.terms.specs.Terms.{Place, Fix}
 use Rattle.lists.specs.Rows.{find, alter, insert}
 use Rattle.rules.specs.Limits.{fullMemory, fullBox, sweepEvery}
 use Rattle.rules.specs.Grid.{Box, sameBox, boxOf}
@@ -38,27 +38,27 @@ pub record Put (s : Store) (p : Place) : Type 0 where
   pub few : length (s .waiting) ≤ fullMemory
   pub others-few : (n : Box) → sameBox n (boxOf (s .cuts) p) ≡ false → waitingIn (s .cuts) (s .waiting) n < fullBox
 
-on-put : (s : Store) (w : WellFormed s) (r : ℕ) (p : Place) → SignsOn s r p → Put (signedOn r p s) p
+on-put : (s : Store) (w : WellFormed s) (r : ℕ) (f : Fix) → SignsOn s r f → Put (signedOn r f s) (f .place)
 unfolding signedOn
-on-put s w r p x =
-    let f : Option Report → Option Report = λ _. some (record { place = p; new = true }) in
+on-put s w r f x =
+    let g : Option Report → Option Report = λ _. some (record { fix = f; new = true }) in
     record {
       early = w .tallied;
-      mid = record { core = on-core s w r p (x .first) (x .last) (x .placed) (x .off) (x .room); bounded = put-bounded s w r (x .first) f p true refl };
-      few = put-few s w r (x .first) f p true refl;
-      others-few = put-boxes s w r (x .first) f p true refl;
+      mid = record { core = on-core s w r f (x .first) (x .last) (x .placed) (x .off) (x .room); bounded = put-bounded s w r (x .first) g f true refl };
+      few = put-few s w r (x .first) g f true refl;
+      others-few = put-boxes s w r (x .first) g f true refl;
     }
 
-report-put : (s : Store) (w : WellFormed s) (r : ℕ) (p : Place) → Reports s r p → Put (reported r p s) p
+report-put : (s : Store) (w : WellFormed s) (r : ℕ) (f : Fix) → Reports s r f → Put (reported r f s) (f .place)
 unfolding reported
-report-put s w r p x =
-    let f : Option Report → Option Report = λ o. some (record { place = p; new = wasNew o }) in
+report-put s w r f x =
+    let g : Option Report → Option Report = λ o. some (record { fix = f; new = wasNew o }) in
     let b = wasNew (find (s .waiting) r) in
     record {
       early = w .tallied;
-      mid = record { core = report-core s w r p (x .first) (x .last) (x .placed) (x .on); bounded = put-bounded s w r (x .first) f p b refl };
-      few = put-few s w r (x .first) f p b refl;
-      others-few = put-boxes s w r (x .first) f p b refl;
+      mid = record { core = report-core s w r f (x .first) (x .last) (x .placed) (x .on); bounded = put-bounded s w r (x .first) g f b refl };
+      few = put-few s w r (x .first) g f b refl;
+      others-few = put-boxes s w r (x .first) g f b refl;
     }
 
 put-effect : {desk : Desk} {p : Place} {b : List ℕ} (s : Store) → Put s p → LaidDesk s desk b → BeforeFlushDesk desk p b
@@ -71,39 +71,39 @@ put-effect s x h = record {
 
 -- ---- sign-on
 
-module _ {desk : Desk} {r : ℕ} {p : Place} {b : List ℕ} (x : BeforeSignOn desk r p b) where
+module _ {desk : Desk} {r : ℕ} {f : Fix} {b : List ℕ} (x : BeforeSignOn desk r f b) where
   abbrev s : Store
   s = x .sound .store
 
   module _ {waiting : Waiting} {on : On}
-      (own : (waiting ≡ waitingOf (insert r (record { place = p; new = true }) (reportsOf (deskWaiting desk)))) × (on ≡ onOf (insert r tt (radiosOf (deskOn desk))))) where
+      (own : (waiting ≡ waitingOf (insert r (record { fix = f; new = true }) (reportsOf (deskWaiting desk)))) × (on ≡ onOf (insert r tt (radiosOf (deskOn desk))))) where
     abbrev signed : Desk
     signed = deskHolding (deskGrid desk) waiting (deskMemo desk) on (desk .parts .tally)
 
-    pub on-effect : BeforeFlushDesk signed p b
+    pub on-effect : BeforeFlushDesk signed (f .place) b
     unfolding put-effect
     on-effect =
-        put-effect (signedOn r p s) (on-put s (x .sound .well) r p (x .signs))
-        (desk-laid (signedOn r p s) (on-gives s desk (x .sound .held) r p own) (on-laid s b (x .sound .laid) r p))
+        put-effect (signedOn r f s) (on-put s (x .sound .well) r f (x .signs))
+        (desk-laid (signedOn r f s) (on-gives s desk (x .sound .held) r f own) (on-laid s b (x .sound .laid) r f))
 
-    pub on-carries : {d : Desk} {b′ : List ℕ} → ((y : BeforeFlushDesk signed p b) → LaidDesk (tick (afterReport p (y .before .store))) d b′) → AfterRequest s (signOn r p) d b′
+    pub on-carries : {d : Desk} {b′ : List ℕ} → ((y : BeforeFlushDesk signed (f .place) b) → LaidDesk (tick (afterReport (f .place) (y .before .store))) d b′) → AfterRequest s (signOn r f) d b′
     unfolding on-effect put-effect carriedOut
     on-carries l = l on-effect
 
 -- ---- report
 
-module _ {desk : Desk} {r : ℕ} {p : Place} {b : List ℕ} (x : BeforeReport desk r p b) where
-  module _ {waiting : Waiting} (own : waiting ≡ waitingOf (alter (λ w. some (record { place = p; new = wasNew w })) r (reportsOf (deskWaiting desk)))) where
+module _ {desk : Desk} {r : ℕ} {f : Fix} {b : List ℕ} (x : BeforeReport desk r f b) where
+  module _ {waiting : Waiting} (own : waiting ≡ waitingOf (alter (λ w. some (record { fix = f; new = wasNew w })) r (reportsOf (deskWaiting desk)))) where
     abbrev told : Desk
     told = deskHolding (deskGrid desk) waiting (deskMemo desk) (deskOn desk) (desk .parts .tally)
 
-    pub report-effect : BeforeFlushDesk told p b
+    pub report-effect : BeforeFlushDesk told (f .place) b
     unfolding put-effect
     report-effect =
-        put-effect (reported r p (x .sound .store)) (report-put (x .sound .store) (x .sound .well) r p (x .reports))
-        (desk-laid (reported r p (x .sound .store)) (report-gives (x .sound .store) desk (x .sound .held) r p own) (report-laid (x .sound .store) b (x .sound .laid) r p))
+        put-effect (reported r f (x .sound .store)) (report-put (x .sound .store) (x .sound .well) r f (x .reports))
+        (desk-laid (reported r f (x .sound .store)) (report-gives (x .sound .store) desk (x .sound .held) r f own) (report-laid (x .sound .store) b (x .sound .laid) r f))
 
-    pub report-carries : {d : Desk} {b′ : List ℕ} → ((y : BeforeFlushDesk told p b) → LaidDesk (tick (afterReport p (y .before .store))) d b′) → AfterRequest (x .sound .store) (report r p) d b′
+    pub report-carries : {d : Desk} {b′ : List ℕ} → ((y : BeforeFlushDesk told (f .place) b) → LaidDesk (tick (afterReport (f .place) (y .before .store))) d b′) → AfterRequest (x .sound .store) (report r f) d b′
     unfolding report-effect put-effect carriedOut
     report-carries l = l report-effect
 

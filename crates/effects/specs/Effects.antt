@@ -3,7 +3,7 @@ use mathlib.Core.Bool.{false}
 use mathlib.Core.List.{List, []}
 use mathlib.Core.Path.{_≡_}
 use Prim.Native.Nat.{ℕ, _<_}
-use Rattle.terms.specs.Terms.{Place}
+use Rattle.terms.specs.Terms.{Place, Fix}
 use Rattle.rules.specs.Limits.{fullBox}
 use Rattle.rules.specs.Grid.{Box, sameBox, boxOf}
 use Rattle.rules.specs.Store.{Store}
@@ -33,13 +33,13 @@ pub record BeforeTallyDesk (desk : Desk) (bytes : List ℕ) : Type 0 where
 
 -- ---- a record on a sound store, once the checks have passed it
 
-pub record BeforeSignOn (desk : Desk) (r : ℕ) (p : Place) (bytes : List ℕ) : Type 0 where
+pub record BeforeSignOn (desk : Desk) (r : ℕ) (f : Fix) (bytes : List ℕ) : Type 0 where
   pub sound : Sound desk bytes
-  pub signs : SignsOn (sound .store) r p
+  pub signs : SignsOn (sound .store) r f
 
-pub record BeforeReport (desk : Desk) (r : ℕ) (p : Place) (bytes : List ℕ) : Type 0 where
+pub record BeforeReport (desk : Desk) (r : ℕ) (f : Fix) (bytes : List ℕ) : Type 0 where
   pub sound : Sound desk bytes
-  pub reports : Reports (sound .store) r p
+  pub reports : Reports (sound .store) r f
 
 pub record BeforeSignOff (desk : Desk) (r : ℕ) (bytes : List ℕ) : Type 0 where
   pub sound : Sound desk bytes

@@ -1,4 +1,5 @@
 // A sign-on, a report and a sign-off on a sound store: its own effect, and what follows. The desk comes in its parts, with its arrays and the pages lent.
+ghost use Rattle.terms.specs.Terms.{fixAt};
 ghost use Rattle.rules.specs.Sweep.{tick};
 ghost use Rattle.rules.specs.Records.{signOn, report, signOff};
 ghost use Rattle.rules.specs.Carry.{afterReport};
@@ -84,10 +85,10 @@ pub fn sign_on<'a>(
     east: u16,
     north: u16,
 ) -> Parts
-    requires { ⌜ BeforeSignOn (deskWith parts (now cells) (now waiting) (now memo) (now on)) radio (record { east = east; north = north }) (now pages) ⌝ }
+    requires { ⌜ BeforeSignOn (deskWith parts (now cells) (now waiting) (now memo) (now on)) radio (fixAt east north) (now pages) ⌝ }
     ensures { λ r. ⌜ ((x : BeforeSignOn (deskWith parts (now (cells .entry)) (now (waiting .entry)) (now (memo .entry)) (now (on .entry))) radio
-        (record { east = east; north = north }) (now (pages .entry)))
-        → AfterRequest (x .sound .store) (signOn radio (record { east = east; north = north }))
+        (fixAt east north) (now (pages .entry)))
+        → AfterRequest (x .sound .store) (signOn radio (fixAt east north))
         (deskWith r (now (cells .exit)) (now (waiting .exit)) (now (memo .exit)) (now (on .exit))) (now (pages .exit))) ⌝ }
 {
     let own = own_effect::signed_on(waiting, parts.waiting, on, parts.on, radio, east, north);
@@ -109,10 +110,10 @@ pub fn reported<'a>(
     east: u16,
     north: u16,
 ) -> Parts
-    requires { ⌜ BeforeReport (deskWith parts (now cells) (now waiting) (now memo) (now on)) radio (record { east = east; north = north }) (now pages) ⌝ }
+    requires { ⌜ BeforeReport (deskWith parts (now cells) (now waiting) (now memo) (now on)) radio (fixAt east north) (now pages) ⌝ }
     ensures { λ r. ⌜ ((x : BeforeReport (deskWith parts (now (cells .entry)) (now (waiting .entry)) (now (memo .entry)) (now (on .entry))) radio
-        (record { east = east; north = north }) (now (pages .entry)))
-        → AfterRequest (x .sound .store) (report radio (record { east = east; north = north }))
+        (fixAt east north) (now (pages .entry)))
+        → AfterRequest (x .sound .store) (report radio (fixAt east north))
         (deskWith r (now (cells .exit)) (now (waiting .exit)) (now (memo .exit)) (now (on .entry))) (now (pages .exit))) ⌝ }
 {
     let mut told = parts;

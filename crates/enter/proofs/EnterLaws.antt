@@ -10,7 +10,7 @@ use lib.Dec.{eqb}
 use lib.ListN.{length, getD, set, drop, length-set, drop-of-length-le}
 use lib.Seq.{drop-cons}
 use borrow.Author.Tests.{eq-eqb, ne-eqb}
-use Rattle.terms.specs.Terms.{Place, Fix, maxOn}
+use Rattle.terms.specs.Terms.{Fix, fixAt, maxOn}
 use Rattle.lists.specs.Rows.{Row, Rows, Rising, find, alter, insert}
 use Rattle.lists.specs.Tests.{one-if, isSome, firstAt}
 use Rattle.lists.proofs.Cases.{by-cases, option-cases}
@@ -18,7 +18,7 @@ use Rattle.lists.proofs.RowsLaws.{rising-less, rising-alter, rising-above, leng
 use Rattle.lists.proofs.TestsLaws.{each-zip, firstAt-some, one-if-le}
 use Rattle.entries.specs.declared.Entry.{Entry}
 use Rattle.entries.specs.declared.Lookup.the-variants.{Found}
-use Rattle.entries.specs.Entries.{placeOf, tableWith, tableWords, rowsOf, standsAt, noRow, rowOf as entryRow}
+use Rattle.entries.specs.Entries.{fixOf, tableWith, tableWords, rowsOf, standsAt, noRow, rowOf as entryRow}
 use Rattle.entries.proofs.TableLaws.{insert-found}
 use Rattle.rules.specs.Limits.{fullMemory}
 use Rattle.rules.specs.Store.{Line, Report as StoreReport}
@@ -63,8 +63,8 @@ length-entered b (w ∷ ws) k a r =
     let h : 0 < w .key = omega arith in
     omega (
       arith,
-      length-entered (w .key) ws (enter w k) (a .1) (rising-alter (λ _. some (w .val .place)) 0 (w .key) (k .entries) h r),
-      length-alter (λ _. some (w .val .place)) 0 (w .key) (k .entries) h r,
+      length-entered (w .key) ws (enter w k) (a .1) (rising-alter (λ _. some (w .val .fix)) 0 (w .key) (k .entries) h r),
+      length-alter (λ _. some (w .val .fix)) 0 (w .key) (k .entries) h r,
       countFound-one (w .key) (find (k .entries) (w .key)),
       one-if-le (isSome (find (k .entries) (w .key))),
     )
@@ -74,11 +74,11 @@ module _ (w : Row StoreReport) (ws : Rows StoreReport) (k : Work) (r : Room k (w
   named = r .reports-rise .0
 
   abbrev line : Option Line → Option Line
-  line = entered (isSome (find (k .entries) (w .key))) (w .val .new) (w .val .place)
+  line = entered (isSome (find (k .entries) (w .key))) (w .val .new) (w .val .fix .place)
 
   rows-then : Rising 0 (enter w k .entries)
   unfolding enter
-  rows-then = rising-alter (λ _. some (w .val .place)) 0 (w .key) (k .entries) named (r .rows-rise)
+  rows-then = rising-alter (λ _. some (w .val .fix)) 0 (w .key) (k .entries) named (r .rows-rise)
 
   entries-then : length (enter w k .entries) ≤ maxOn
   unfolding enterEach
@@ -146,15 +146,15 @@ module _ (n : ℕ) (table : List ℕ) (lines : ℕ) (words : List ℕ) (e : Repo
   abbrev entry : Entry
   entry = record { radio = e .radio; east = e .east; north = e .north }
 
-  abbrev place : Place
-  place = record { east = e .east; north = e .north }
+  abbrev fix : Fix
+  fix = fixAt (e .east) (e .north)
 
   module _ (lacks : standsAt (e .radio) rows ≡ none) where
-    grows : length (insert (e .radio) place rows) ≡ length rows + 1
+    grows : length (insert (e .radio) fix rows) ≡ length rows + 1
     grows =
         omega (
           arith,
-          length-alter (λ _. some place) 0 (e .radio) rows (ready .room .reports-rise .0) (ready .room .rows-rise),
+          length-alter (λ _. some fix) 0 (e .radio) rows (ready .room .reports-rise .0) (ready .room .rows-rise),
           countFound-one (e .radio) (find rows (e .radio)),
           ap one-if (lookup-missing (e .radio) rows lacks),
         )
@@ -166,11 +166,11 @@ module _ (n : ℕ) (table : List ℕ) (lines : ℕ) (words : List ℕ) (e : Repo
     pub still-missing : {x : Entry} → x ≡ entry → standsAt (x .radio) rows ≡ none
     still-missing q = ap (λ (y : Entry). standsAt (y .radio) rows) q ∙ lacks
 
-    pub adds : {x : Entry} (after : List ℕ) {m : Memo} → x ≡ entry → rowsOf (tableWith (n + 1) after) ≡ insert (x .radio) (placeOf x) rows → length after ≡ tableWords
-        → m ≡ memoOf (alter (entered false (waits e .new) (waits e .place)) (e .radio) (linesOf (memoIn lines words))) → Entered from (rowOf e ∷ []) (record { table = tableWith (n + 1) after; memo = m })
+    pub adds : {x : Entry} (after : List ℕ) {m : Memo} → x ≡ entry → rowsOf (tableWith (n + 1) after) ≡ insert (x .radio) (fixOf x) rows → length after ≡ tableWords
+        → m ≡ memoOf (alter (entered false (waits e .new) (waits e .fix .place)) (e .radio) (linesOf (memoIn lines words))) → Entered from (rowOf e ∷ []) (record { table = tableWith (n + 1) after; memo = m })
     unfolding enterEach enter
     adds after q a l k = record {
-      table = a ∙ ap (λ (y : Entry). insert (y .radio) (placeOf y) rows) q;
+      table = a ∙ ap (λ (y : Entry). insert (y .radio) (fixOf y) rows) q;
       count = omega (arith, ready .counted, grows);
       size = l;
       memo = rw (lookup-missing (e .radio) rows lacks) k;
@@ -181,11 +181,11 @@ module _ (n : ℕ) (table : List ℕ) (lines : ℕ) (words : List ℕ) (e : Repo
     found-inside = omega (arith, ready .counted, lookup-found (e .radio) rows has .1)
 
     pub moves : {x : Entry} (after : List ℕ) {m : Memo} → x ≡ entry → rowsOf (tableWith n after) ≡ set rows at (entryRow x) → length after ≡ tableWords
-        → m ≡ memoOf (alter (placed (some place)) (e .radio) (linesOf (memoIn lines words))) → Entered from (rowOf e ∷ []) (record { table = tableWith n after; memo = m })
+        → m ≡ memoOf (alter (placed (some (fix .place))) (e .radio) (linesOf (memoIn lines words))) → Entered from (rowOf e ∷ []) (record { table = tableWith n after; memo = m })
     unfolding enterEach enter
     moves after q a l k =
         let b : rowsOf (tableWith n after) ≡ set rows at (entryRow entry) = a ∙ ap (λ (y : Entry). set rows at (entryRow y)) q in
-        let i : rowsOf (tableWith n after) ≡ insert (e .radio) place rows = insert-found n table entry (ready .room .rows-rise) {o = Found at} (sym has) refl b in
+        let i : rowsOf (tableWith n after) ≡ insert (e .radio) fix rows = insert-found n table entry (ready .room .rows-rise) {o = Found at} (sym has) refl b in
         record {
           table = i;
           count = omega (arith, ready .counted, ap length b, length-set rows at (entryRow entry), ap length i);
@@ -195,10 +195,10 @@ module _ (n : ℕ) (table : List ℕ) (lines : ℕ) (words : List ℕ) (e : Repo
 
 -- the line of a radio whose entry is added
 module _ (m : Memo) (e : Report) {x : Memo} where
-  pub raises : e .new ≡ 0 → x ≡ memoOf (alter (raised (some (waits e .place))) (e .radio) (linesOf m)) → x ≡ memoOf (alter (entered false (waits e .new) (waits e .place)) (e .radio) (linesOf m))
+  pub raises : e .new ≡ 0 → x ≡ memoOf (alter (raised (some (waits e .fix .place))) (e .radio) (linesOf m)) → x ≡ memoOf (alter (entered false (waits e .new) (waits e .fix .place)) (e .radio) (linesOf m))
   raises h = rw (eq-eqb (e .new) 0 h) (λ k. k)
 
-  pub places : (e .new ≡ 0 → ⊥) → x ≡ memoOf (alter (placed (some (waits e .place))) (e .radio) (linesOf m)) → x ≡ memoOf (alter (entered false (waits e .new) (waits e .place)) (e .radio) (linesOf m))
+  pub places : (e .new ≡ 0 → ⊥) → x ≡ memoOf (alter (placed (some (waits e .fix .place))) (e .radio) (linesOf m)) → x ≡ memoOf (alter (entered false (waits e .new) (waits e .fix .place)) (e .radio) (linesOf m))
   places h = rw (ne-eqb (e .new) 0 h) (λ k. k)
 
 -- ---- one report after the other

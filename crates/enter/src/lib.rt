@@ -38,7 +38,7 @@ fn entry_of(report: Report) -> Entry
 fn memo_added<'a>(words: &'a mut [u16; Desk::MEMO_WORDS], n: u16, report: Report) -> u16
     requires { ⌜ RoomyMemo (memoIn n (now words)) × MissFits (report .radio) (memoIn n (now words)) ⌝ }
     ensures { λ r. ⌜ memoIn r (now (words .exit))
-        ≡ memoOf (alter (entered false (waits report .new) (waits report .place)) (report .radio) (linesOf (memoIn n (now (words .entry))))) ⌝ }
+        ≡ memoOf (alter (entered false (waits report .new) (waits report .fix .place)) (report .radio) (linesOf (memoIn n (now (words .entry))))) ⌝ }
 {
     if report.new == 0 {
         return memo::raised(words, n, report.radio, report.east, report.north);

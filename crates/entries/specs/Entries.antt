@@ -4,7 +4,7 @@ use mathlib.Core.Option.{Option, none, some}
 use Prim.Native.Nat.{ℕ, _+_, _*_, _/_}
 use lib.Dec.{eqb}
 use lib.ListN.{length, getD, take}
-use Rattle.terms.specs.Terms.{Place, Fix, maxOn}
+use Rattle.terms.specs.Terms.{Place, Fix, fixAt, maxOn}
 use Rattle.lists.specs.Parts.{tab}
 use Rattle.lists.specs.Tests.{firstAt}
 use Rattle.lists.specs.Rows.{Row, Rows}
@@ -15,16 +15,19 @@ use Rattle.entries.specs.declared.Lookup.the-variants.{Found, Missing}
 abbrev pub placeOf : Entry → Place
 placeOf e = record { east = e .east; north = e .north }
 
+abbrev pub fixOf : Entry → Fix
+fixOf e = record { place = placeOf e }
+
 -- an entry as a row: its radio is the key
 abbrev pub rowOf : Entry → Row Fix
-rowOf e = record { key = e .radio; val = placeOf e }
+rowOf e = record { key = e .radio; val = fixOf e }
 
 -- what stands past the end of a list of entries, and of rows
 abbrev pub noEntry : Entry
 noEntry = record { radio = 0; east = 0; north = 0 }
 
 abbrev pub noRow : Row Fix
-noRow = record { key = 0; val = record { east = 0; north = 0 } }
+noRow = record { key = 0; val = fixAt 0 0 }
 
 -- ---- the table
 

@@ -13,7 +13,7 @@ use Rattle.lists.specs.Rows.{Row, Rows, Rising, insert, merge}
 use Rattle.lists.proofs.RowsLaws.{rising-above, rising-alter}
 use Rattle.lists.proofs.TestsLaws.{each-getD}
 use Rattle.entries.specs.declared.Entry.{Entry}
-use Rattle.entries.specs.Entries.{rowOf, placeOf, noEntry, noRow, tableWith, tableWords, everyEntry, rowsOf}
+use Rattle.entries.specs.Entries.{rowOf, fixOf, noEntry, noRow, tableWith, tableWords, everyEntry, rowsOf}
 use Rattle.entries.proofs.TableLaws.{length-rows, rows-get}
 use Rattle.rules.specs.Store.{Cell, settled}
 use Rattle.rules.specs.Flush.{Flushed, joined}
@@ -47,7 +47,7 @@ module _ (k : ℕ) (ws : List ℕ) {into all : Rows Fix} {i : ℕ} (m : Merging 
   many : length from ≡ k
   many = length-rows k ws fits size
 
-  pub merge-turn : {e : Entry} {r : Rows Fix} → i < k → e ≡ getD (everyEntry ws) i noEntry → r ≡ insert (e .radio) (placeOf e) all → Merging from into r (i + 1)
+  pub merge-turn : {e : Entry} {r : Rows Fix} → i < k → e ≡ getD (everyEntry ws) i noEntry → r ≡ insert (e .radio) (fixOf e) all → Merging from into r (i + 1)
   merge-turn {e} h read put =
       let x : Row Fix = rowOf e in
       let here : x ≡ getD from i noRow = ap rowOf read ∙ rows-get k ws i h in

@@ -8,7 +8,7 @@ use lib.Dec.{eqb, ltb}
 use lib.ListN.{length, take, drop, length-append, length-drop, take-append-drop, drop-of-length-le}
 use lib.Seq.{take-all, drop-length, drop-drop, getD-drop, take-append-le, take-take, drop-at, length-take-le}
 use borrow.Author.Tests.{ltb-false, eqb-true, eqb-false, eq-eqb, ne-eqb}
-use Rattle.terms.specs.Terms.{Fix, fieldBytes}
+use Rattle.terms.specs.Terms.{Place, fieldBytes}
 use Rattle.lists.specs.Parts.{put}
 use Rattle.lists.specs.Rows.{Rows}
 use Rattle.lists.specs.Tests.{either}
@@ -46,7 +46,7 @@ pub called-at-hand : {d : Desk} {b : List ℕ} {x : Plain} (calls : Trace d b x)
 called-at-hand {x = x} calls {bytes} {buffer} {y} small a n =
     told-at-hand x bytes buffer (λ e. n (demand2 _ _ _ (called calls bytes buffer y small a) .1 .number ∙ e))
 
-length-bytesOf : (l : Rows Fix) → length (bytesOf l) ≡ listBytes * length l
+length-bytesOf : (l : Rows Place) → length (bytesOf l) ≡ listBytes * length l
 unfolding bytesOf
 length-bytesOf [] = refl
 length-bytesOf (x ∷ l) = simp (length-append, length-le, length-bytesOf l) (omega arith)
@@ -59,7 +59,7 @@ Lists number count buffer after =
 drop-front : (xs vs : List ℕ) (n : ℕ) → length vs ≡ n → n ≤ length xs → drop n (put xs 0 vs) ≡ drop n xs
 drop-front xs vs n e h = let z : 0 + length vs ≡ n = omega arith in rw z at (drop-put xs 0 vs (omega arith))
 
-told-list : (l : Rows Fix) (buffer : List ℕ) → Lists (toldList l buffer .number) (toldList l buffer .count) buffer (toldList l buffer .buffer)
+told-list : (l : Rows Place) (buffer : List ℕ) → Lists (toldList l buffer .number) (toldList l buffer .count) buffer (toldList l buffer .buffer)
 unfolding toldList listedBytes
 told-list l buffer =
     let n = length-bytesOf l in
@@ -69,8 +69,8 @@ told-list l buffer =
 
 told-done : (q : Request) (x : Plain) (buffer : List ℕ) → Lists (toldDone q x buffer .number) (toldDone q x buffer .count) buffer (toldDone q x buffer .buffer)
 unfolding toldDone listedBytes
-told-done (signOn r p) x buffer = (omega arith, refl, refl)
-told-done (report r p) x buffer = (omega arith, refl, refl)
+told-done (signOn r f) x buffer = (omega arith, refl, refl)
+told-done (report r f) x buffer = (omega arith, refl, refl)
 told-done (signOff r) x buffer = (omega arith, refl, refl)
 told-done (range rect) x buffer = told-list (plainFound x rect) buffer
 

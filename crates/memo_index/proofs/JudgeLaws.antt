@@ -11,7 +11,7 @@ use borrow.Author.Tests.{eq-eqb, ne-eqb}
 use Rattle.lists.specs.Tests.{one-if, both}
 use Rattle.rules.specs.Sweep.{isAt, staleBy}
 use Rattle.entries.specs.declared.Entry.{Entry}
-use Rattle.entries.specs.Entries.{rowOf, placeOf}
+use Rattle.entries.specs.Entries.{rowOf, placeOf, fixOf}
 use Rattle.desk.specs.declared.Line.{Line}
 use Rattle.desk.specs.Layout.{lineSlots, noLine}
 use Rattle.desk.specs.Views.{linesIn}
@@ -41,7 +41,7 @@ module _ (x : Line) (e : Entry) where
 -- ---- judge_entry
 
 module _ (words lines : List ℕ) (e : Entry) {k : ℕ} (at : k ≡ e .radio) where
-  judged-at : judged words lines (rowOf e) ≡ staleBy (lineNamed words (getD lines k 0)) (placeOf e)
+  judged-at : judged words lines (rowOf e) ≡ staleBy (lineNamed words (getD lines k 0)) (fixOf e)
   unfolding judged
   judged-at = rw at
 

@@ -5,7 +5,7 @@ use mathlib.Core.Option.{none, some}
 use mathlib.Core.Path.{_≡_, sym, ap, _∙_, subst}
 use Prim.Native.Nat.{ℕ, _≤_, _<_}
 use native.Mathlib.Omega.{arith}
-use Rattle.terms.specs.Terms.{Place, maxOn}
+use Rattle.terms.specs.Terms.{Fix, maxOn}
 use Rattle.lists.specs.Rows.{Rows, Rising, find, alter, insert}
 use Rattle.rules.specs.Limits.{maxCells, fullMemory}
 use Rattle.rules.specs.Store.{Report as StoreReport, Line as StoreLine, Store, withWaiting, withMemo, withOn, missedOf}
@@ -93,21 +93,21 @@ module _ (s : Store) (d : Desk) (held : d ≡ deskOf s) where
   given l m o = ap (λ (x : Desk). deskHolding (deskGrid x) (waitingOf l) (memoOf m) (onOf o) (x .parts .tally)) held
 
   module _ (r : ℕ) where
-    module _ (p : Place) where
+    module _ (f : Fix) where
       pub on-gives : {waiting : Waiting} {on : On}
-          → (waiting ≡ waitingOf (insert r (record { place = p; new = true }) (reportsOf (deskWaiting d)))) × (on ≡ onOf (insert r tt (radiosOf (deskOn d))))
-          → deskHolding (deskGrid d) waiting (deskMemo d) on (d .parts .tally) ≡ deskOf (signedOn r p s)
+          → (waiting ≡ waitingOf (insert r (record { fix = f; new = true }) (reportsOf (deskWaiting d)))) × (on ≡ onOf (insert r tt (radiosOf (deskOn d))))
+          → deskHolding (deskGrid d) waiting (deskMemo d) on (d .parts .tally) ≡ deskOf (signedOn r f s)
       unfolding signedOn
       on-gives said =
           (λ i. withParts (said .0 i) (memo-held i) (said .1 i))
-          ∙ rw (reports-laid waiting-held, radios-laid on-held) (given (insert r (record { place = p; new = true }) (s .waiting)) (s .memo) (insert r tt (s .on)))
+          ∙ rw (reports-laid waiting-held, radios-laid on-held) (given (insert r (record { fix = f; new = true }) (s .waiting)) (s .memo) (insert r tt (s .on)))
 
-      pub report-gives : {waiting : Waiting} → waiting ≡ waitingOf (alter (λ x. some (record { place = p; new = wasNew x })) r (reportsOf (deskWaiting d)))
-          → deskHolding (deskGrid d) waiting (deskMemo d) (deskOn d) (d .parts .tally) ≡ deskOf (reported r p s)
+      pub report-gives : {waiting : Waiting} → waiting ≡ waitingOf (alter (λ x. some (record { fix = f; new = wasNew x })) r (reportsOf (deskWaiting d)))
+          → deskHolding (deskGrid d) waiting (deskMemo d) (deskOn d) (d .parts .tally) ≡ deskOf (reported r f s)
       unfolding reported
       report-gives said =
           (λ i. withParts (said i) (memo-held i) (on-held i))
-          ∙ rw (reports-laid waiting-held) (given (alter (λ x. some (record { place = p; new = wasNew x })) r (s .waiting)) (s .memo) (s .on))
+          ∙ rw (reports-laid waiting-held) (given (alter (λ x. some (record { fix = f; new = wasNew x })) r (s .waiting)) (s .memo) (s .on))
 
     pub off-gives : {waiting : Waiting} {memo : Memo} {on : On}
         → (waiting ≡ waitingOf (alter (λ _. none) r (reportsOf (deskWaiting d)))) × (memo ≡ memoOf (cond (wasNew (find (reportsOf (deskWaiting d)) r)) (linesOf (deskMemo d)) (alter (raised none) r (linesOf (deskMemo d))))) × (on ≡ onOf (alter (λ _. none) r (radiosOf (deskOn d))))
@@ -125,13 +125,13 @@ module _ (s : Store) (b : List ℕ) (laid : Laid s b) where
   unfolding storeLeaves
   rows-laid l m o = record { size = laid .size; leaf = laid .leaf }
 
-  pub on-laid : (r : ℕ) (p : Place) → Laid (signedOn r p s) b
+  pub on-laid : (r : ℕ) (f : Fix) → Laid (signedOn r f s) b
   unfolding signedOn
-  on-laid r p = rows-laid _ _ _
+  on-laid r f = rows-laid _ _ _
 
-  pub report-laid : (r : ℕ) (p : Place) → Laid (reported r p s) b
+  pub report-laid : (r : ℕ) (f : Fix) → Laid (reported r f s) b
   unfolding reported
-  report-laid r p = rows-laid _ _ _
+  report-laid r f = rows-laid _ _ _
 
   pub off-laid : (r : ℕ) → Laid (signedOff r s) b
   unfolding signedOff

@@ -3,6 +3,7 @@
 ghost use mathlib.Core.Bool.{true, cond};
 ghost use mathlib.Core.Option.{none, some};
 ghost use mathlib.Core.Path.{_≡_};
+ghost use Rattle.terms.specs.Terms.{fixAt};
 ghost use Rattle.lists.specs.Rows.{find, alter, insert};
 ghost use Rattle.rules.specs.Flush.{raised};
 ghost use Rattle.rules.specs.Carry.{wasNew};
@@ -40,7 +41,7 @@ pub fn signed_on<'a>(
 ) -> SignedOn
     requires { ⌜ RoomyWaiting (waitingWith reports (now waiting)) × RoomyOn (onWith radios (now on)) ⌝ }
     ensures { λ r. ⌜ (waitingWith (r .waiting) (now (waiting .exit))
-        ≡ waitingOf (insert radio (record { place = record { east = east; north = north }; new = true }) (reportsOf (waitingWith reports
+        ≡ waitingOf (insert radio (record { fix = fixAt east north; new = true }) (reportsOf (waitingWith reports
         (now (waiting .entry))))))
         × (onWith (r .on) (now (on .exit)) ≡ onOf (insert radio tt (radiosOf (onWith radios (now (on .entry)))))) ⌝ }
 {
@@ -60,7 +61,7 @@ pub fn reported<'a>(
 ) -> u16
     requires { ⌜ RoomyWaiting (waitingWith reports (now waiting)) ⌝ }
     ensures { λ r. ⌜ waitingWith r (now (waiting .exit))
-        ≡ waitingOf (alter (λ w. some (record { place = record { east = east; north = north }; new = wasNew w })) radio
+        ≡ waitingOf (alter (λ w. some (record { fix = fixAt east north; new = wasNew w })) radio
         (reportsOf (waitingWith reports (now (waiting .entry))))) ⌝ }
 {
     waiting::put_report(waiting, reports, radio, east, north)

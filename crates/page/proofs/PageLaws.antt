@@ -68,7 +68,7 @@ pub length-entries : (b : List ℕ) → length (entries b) ≡ count b
 unfolding entries
 length-entries b = length-tab (count b) (entryAt b)
 
-entry-fields : (e : Row Fix) → (word fieldBytes (entryOf e) 0 ≡ e .key) × (word fieldBytes (entryOf e) 2 ≡ e .val .east) × (word fieldBytes (entryOf e) 4 ≡ e .val .north)
+entry-fields : (e : Row Fix) → (word fieldBytes (entryOf e) 0 ≡ e .key) × (word fieldBytes (entryOf e) 2 ≡ e .val .place .east) × (word fieldBytes (entryOf e) 4 ≡ e .val .place .north)
 unfolding entryOf le word
 entry-fields e = (omega arith, omega arith, omega arith)
 
@@ -97,7 +97,7 @@ entryAt-pageOf k n c es i h =
     let r = rw add-zero at (page-field k n c es i 0 h (omega arith)) ∙ w .0 in
     let e = page-field k n c es i 2 h (omega arith) ∙ w .1 in
     let o = page-field k n c es i 4 h (omega arith) ∙ w .2 in
-    λ x. record { key = r x; val = record { east = e x; north = o x } }
+    λ x. record { key = r x; val = record { place = record { east = e x; north = o x } } }
 
 pub count-pageOf : (k n c : ℕ) (es : Rows Fix) → length es ≤ pageEntries → count (pageOf k n c es) ≡ length es
 unfolding count

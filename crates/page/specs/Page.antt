@@ -32,7 +32,7 @@ kindFurther = 3
 
 -- "entries of radio, east, north"
 unfoldable pub entryOf : Row Fix → List ℕ
-entryOf e = le fieldBytes (e .key) ++ (le fieldBytes (e .val .east) ++ le fieldBytes (e .val .north))
+entryOf e = le fieldBytes (e .key) ++ (le fieldBytes (e .val .place .east) ++ le fieldBytes (e .val .place .north))
 
 unfoldable pub entriesOf : Rows Fix → List ℕ
 entriesOf [] = []
@@ -76,7 +76,9 @@ count b = roomOf (used b)
 unfoldable pub entryAt : List ℕ → ℕ → Row Fix
 entryAt b i = record {
   key = word fieldBytes b (headBytes + entryBytes * i);
-  val = record { east = word fieldBytes b (headBytes + entryBytes * i + 2); north = word fieldBytes b (headBytes + entryBytes * i + 4) };
+  val = record {
+    place = record { east = word fieldBytes b (headBytes + entryBytes * i + 2); north = word fieldBytes b (headBytes + entryBytes * i + 4) };
+  };
 }
 
 unfoldable pub entries : List ℕ → Rows Fix

@@ -17,10 +17,10 @@ use Rattle.lists.proofs.Cases.{by-cases, option-cases, false-true, none-some}
 use Rattle.lists.proofs.RowsLaws.{find-below, each-find, find-each}
 use Rattle.lists.proofs.SumsLaws.{sum-nil, sum-cons, sum-ext}
 use Rattle.lists.proofs.TestsLaws.{both-left, both-right, both-intro, one-if-false, each-map}
-use Rattle.rules.specs.Grid.{within, Rect, inside, covers, samePlace}
+use Rattle.rules.specs.Grid.{Rect, inside, samePlace}
 use Rattle.rules.specs.Store.{Report, Line, Cell, Store}
 use Rattle.rules.specs.Sweep.{staleBy, stale}
-use Rattle.rules.specs.Carry.{isOn, wasNew, liveIn, storedIn, placeOf, latest, listIf, listOf, found}
+use Rattle.rules.specs.Carry.{isOn, wasNew, liveIn, storedIn, fixOf, latest, listed, listIf, listOf, found}
 use Rattle.rules.specs.Plain.{putAt}
 use Rattle.rules.specs.WellFormed.{WellFormed, GoodCell, countIf, liveOf}
 use Rattle.rules.proofs.PlaceLaws.{samePlace-refl, samePlace-true}
@@ -28,33 +28,39 @@ use Rattle.range_places.specs.Places.{Places, noPlaces, over, seen, entryOver, 
 use Rattle.range_places.proofs.TouchLaws.{covered-touches}
 use Rattle.range.specs.Range.{listHeld}
 
--- ---- rows laid over places, wherever they lie
+-- ---- rows laid one over the other, listed or not
 
--- the radio of a row has the row's place, whatever it had
-abbrev rowAny : {Val : Type 0} → (Val → Option Place) → Row Val → Places → Places
-rowAny place x f = putAt (x .key) (place (x .val)) f
+abbrev Fixes : Type 0
+Fixes = ℕ → Option Fix
 
-abbrev foundOr : {Val : Type 0} → (Val → Option Place) → Option Val → Option Place → Option Place
-foundOr place none o = o
-foundOr place (some v) o = place v
+abbrev noFixes : Fixes
+noFixes r = none
+
+-- the radio of a row has what the row tells, whatever it had
+abbrev rowAny : {Val : Type 0} → (Val → Fix) → Row Val → Fixes → Fixes
+rowAny fix x f = putAt (x .key) (some (fix (x .val))) f
+
+abbrev foundOr : {Val : Type 0} → (Val → Fix) → Option Val → Option Fix → Option Fix
+foundOr fix none o = o
+foundOr fix (some v) o = some (fix v)
 
 -- rows by rising radio: each radio has at most one
-over-find : {Val : Type 0} (place : Val → Option Place) (b : ℕ) (l : Rows Val) (f : Places) (r : ℕ) → Rising b l → over (rowAny place) l f r ≡ foundOr place (find l r) (f r)
+over-find : {Val : Type 0} (fix : Val → Fix) (b : ℕ) (l : Rows Val) (f : Fixes) (r : ℕ) → Rising b l → over (rowAny fix) l f r ≡ foundOr fix (find l r) (f r)
 unfolding over find
-over-find place b [] f r a = refl
-over-find place b (x ∷ xs) f r a =
-    over-find place (x .key) xs (putAt (x .key) (place (x .val)) f) r (a .1)
+over-find fix b [] f r a = refl
+over-find fix b (x ∷ xs) f r a =
+    over-find fix (x .key) xs (putAt (x .key) (some (fix (x .val))) f) r (a .1)
     ∙ by-cases (eqb r (x .key))
     (λ t. rw (t, find-below r (x .key) xs (omega (arith, eqb-true r (x .key) t)) (a .1)))
     (λ t. rw t)
 
--- ---- entries laid over places, unless they are stale
+-- ---- entries laid over them, unless they are stale
 
-abbrev entryAny : (Row Fix → Bool) → Row Fix → Places → Places
-entryAny old e f = cond (old e) f (rowAny some e f)
+abbrev entryAny : (Row Fix → Bool) → Row Fix → Fixes → Fixes
+entryAny old e f = cond (old e) f (rowAny (λ v. v) e f)
 
--- entries by rising radio: the radio's own has its place, if it isn't stale
-over-live : (old : Row Fix → Bool) (b : ℕ) (l : Rows Fix) (f : Places) (r : ℕ) → Rising b l → over (entryAny old) l f r ≡ orElse (passed (λ e. not (old e)) r (find l r)) (f r)
+-- entries by rising radio: the radio has its own, if that isn't stale
+over-live : (old : Row Fix → Bool) (b : ℕ) (l : Rows Fix) (f : Fixes) (r : ℕ) → Rising b l → over (entryAny old) l f r ≡ orElse (passed (λ e. not (old e)) r (find l r)) (f r)
 unfolding over find
 over-live old b [] f r a = refl
 over-live old b (x ∷ xs) f r a =
@@ -67,10 +73,10 @@ over-live old b (x ∷ xs) f r a =
 
 -- ---- the one entry of a radio that isn't stale
 
-abbrev anyPlace : Place → Bool
-anyPlace p = true
+abbrev anyFix : Fix → Bool
+anyFix f = true
 
-count-orElse : (t : Place → Bool) (a b : Option Place) → countIf anyPlace a + countIf anyPlace b ≤ 1 → countIf t (orElse a b) ≡ countIf t a + countIf t b
+count-orElse : (t : Fix → Bool) (a b : Option Fix) → countIf anyFix a + countIf anyFix b ≤ 1 → countIf t (orElse a b) ≡ countIf t a + countIf t b
 count-orElse t none b h = omega arith
 count-orElse t (some p) none h = omega arith
 count-orElse t (some p) (some q) h = absurd (omega arith)
@@ -80,125 +86,121 @@ passed-some p r none v e = e
 passed-some p r (some w) v e = by-cases (p (record { key = r; val = w })) (λ t. rw t at e) (λ t. none-some (rw t at e))
 
 module _ (memo : Rows Line) (r : ℕ) where
-  -- entries of the radio that are not stale and whose place passes
-  abbrev liveCount : (Place → Bool) → List Cell → ℕ
+  -- entries of the radio that are not stale and pass
+  abbrev liveCount : (Fix → Bool) → List Cell → ℕ
   liveCount t = sumBy (λ c. countIf t (liveIn memo r c))
 
-  live-one : (o : Option Place) → countIf (λ p. not (staleBy (find memo r) p)) o ≡ countIf anyPlace (passed (λ e. not (stale memo e)) r o)
+  live-one : (o : Option Fix) → countIf (λ f. not (staleBy (find memo r) f)) o ≡ countIf anyFix (passed (λ e. not (stale memo e)) r o)
   live-one none = refl
-  live-one (some p) = by-cases (not (staleBy (find memo r) p)) (λ s. rw s) (λ s. rw s)
+  live-one (some f) = by-cases (not (staleBy (find memo r) f)) (λ s. rw s) (λ s. rw s)
 
-  live-all : (cells : List Cell) → liveOf memo r cells ≡ liveCount anyPlace cells
+  live-all : (cells : List Cell) → liveOf memo r cells ≡ liveCount anyFix cells
   unfolding liveOf liveIn
   live-all cells = sum-ext _ _ cells (λ c. live-one (find (c .entries) r))
 
-  stored-count : (cells : List Cell) → liveCount anyPlace cells ≤ 1 → (t : Place → Bool) → countIf t (storedIn memo r cells) ≡ liveCount t cells
+  stored-count : (cells : List Cell) → liveCount anyFix cells ≤ 1 → (t : Fix → Bool) → countIf t (storedIn memo r cells) ≡ liveCount t cells
   unfolding storedIn
   stored-count [] h t = unfold sumBy in refl
   stored-count (c ∷ cs) h t =
-      let f : (Place → Bool) → Cell → ℕ = λ u x. countIf u (liveIn memo r x) in
-      let few : liveCount anyPlace cs ≤ 1 = omega (arith, sum-cons (f anyPlace) c cs) in
-      count-orElse t (liveIn memo r c) (storedIn memo r cs) (omega (arith, stored-count cs few anyPlace, sum-cons (f anyPlace) c cs))
+      let f : (Fix → Bool) → Cell → ℕ = λ u x. countIf u (liveIn memo r x) in
+      let few : liveCount anyFix cs ≤ 1 = omega (arith, sum-cons (f anyFix) c cs) in
+      count-orElse t (liveIn memo r c) (storedIn memo r cs) (omega (arith, stored-count cs few anyFix, sum-cons (f anyFix) c cs))
       ∙ omega (arith, stored-count cs few t, sum-cons (f t) c cs)
 
 -- ---- the cells that the rectangle touches
 
--- a cell's entries that are not stale, wherever they lie
-abbrev cellAny : Rows Line → Rect → Cell → Places → Places
+-- a cell's entries that are not stale, listed or not
+abbrev cellAny : Rows Line → Rect → Cell → Fixes → Fixes
 cellAny memo rect c f = cond (touches rect (c .edges)) (over (entryAny (stale memo)) (c .entries) f) f
 
 pub record Placed (c : Cell) : Type 0 where
   pub rising : Rising 0 (c .entries)
-  pub placed : Each (λ e. inside (c .edges) (e .val) ≡ true) (c .entries)
+  pub placed : Each (λ e. inside (c .edges) (e .val .place) ≡ true) (c .entries)
 
 module _ (memo : Rows Line) (rect : Rect) (r : ℕ) where
-  entries-live : (c : Cell) (f : Places) → Placed c → over (entryAny (stale memo)) (c .entries) f r ≡ orElse (liveIn memo r c) (f r)
+  entries-live : (c : Cell) (f : Fixes) → Placed c → over (entryAny (stale memo)) (c .entries) f r ≡ orElse (liveIn memo r c) (f r)
   unfolding liveIn
   entries-live c f k = over-live (stale memo) 0 (c .entries) f r (k .rising)
 
-  live-inside : (c : Cell) (p : Place) → Placed c → liveIn memo r c ≡ some p → inside (c .edges) p ≡ true
+  live-inside : (c : Cell) (v : Fix) → Placed c → liveIn memo r c ≡ some v → inside (c .edges) (v .place) ≡ true
   unfolding liveIn
-  live-inside c p k e = each-find (λ _ q. inside (c .edges) q ≡ true) r p (c .entries) (k .placed) (passed-some (λ e. not (stale memo e)) r (find (c .entries) r) p e)
+  live-inside c v k e = each-find (λ _ (q : Fix). inside (c .edges) (q .place) ≡ true) r v (c .entries) (k .placed) (passed-some (λ e. not (stale memo e)) r (find (c .entries) r) v e)
 
-  module _ (c : Cell) (f : Places) (k : Placed c) (few : countIf anyPlace (f r) + countIf anyPlace (liveIn memo r c) ≤ 1) where
-    count-touched : (t : Place → Bool) → touches rect (c .edges) ≡ true → countIf t (cellAny memo rect c f r) ≡ countIf t (f r) + countIf t (liveIn memo r c)
+  module _ (c : Cell) (f : Fixes) (k : Placed c) (few : countIf anyFix (f r) + countIf anyFix (liveIn memo r c) ≤ 1) where
+    count-touched : (t : Fix → Bool) → touches rect (c .edges) ≡ true → countIf t (cellAny memo rect c f r) ≡ countIf t (f r) + countIf t (liveIn memo r c)
     count-touched t u = rw u (ap (countIf t) (entries-live c f k) ∙ count-orElse t (liveIn memo r c) (f r) (omega arith) ∙ omega arith)
 
-    count-few : countIf anyPlace (cellAny memo rect c f r) ≤ countIf anyPlace (f r) + countIf anyPlace (liveIn memo r c)
-    count-few = by-cases (touches rect (c .edges)) (λ u. omega (arith, count-touched anyPlace u)) (λ u. rw u (omega arith))
+    count-few : countIf anyFix (cellAny memo rect c f r) ≤ countIf anyFix (f r) + countIf anyFix (liveIn memo r c)
+    count-few = by-cases (touches rect (c .edges)) (λ u. omega (arith, count-touched anyFix u)) (λ u. rw u (omega arith))
 
-    count-skipped : (t : Place → Bool) → ((p : Place) → t p ≡ true → covers rect p ≡ true) → touches rect (c .edges) ≡ false → countIf t (liveIn memo r c) ≡ 0
+    count-skipped : (t : Fix → Bool) → ((v : Fix) → t v ≡ true → listed rect v ≡ true) → touches rect (c .edges) ≡ false → countIf t (liveIn memo r c) ≡ 0
     count-skipped t within u =
         option-cases (liveIn memo r c)
         (λ e. rw e)
-        (λ p e. rw e (by-cases (t p)
-        (λ v. let y = covered-touches rect (c .edges) p (within p v) (live-inside c p k e) in false-true (sym u ∙ y))
-        (λ v. rw v)))
+        (λ v e. rw e (by-cases (t v)
+        (λ i. let y = covered-touches rect (c .edges) (v .place) (within v i) (live-inside c v k e) in false-true (sym u ∙ y))
+        (λ i. rw i)))
 
-    count-cell : (t : Place → Bool) → ((p : Place) → t p ≡ true → covers rect p ≡ true) → countIf t (cellAny memo rect c f r) ≡ countIf t (f r) + countIf t (liveIn memo r c)
+    count-cell : (t : Fix → Bool) → ((v : Fix) → t v ≡ true → listed rect v ≡ true) → countIf t (cellAny memo rect c f r) ≡ countIf t (f r) + countIf t (liveIn memo r c)
     count-cell t within = by-cases (touches rect (c .edges)) (λ u. count-touched t u) (λ u. rw u (omega (arith, count-skipped t within u)))
 
   -- an entry in the rectangle is met, for its cell is touched
-  count-cells : (cells : List Cell) (f : Places) → Each Placed cells → countIf anyPlace (f r) + liveCount memo r anyPlace cells ≤ 1 → (t : Place → Bool)
-      → ((p : Place) → t p ≡ true → covers rect p ≡ true) → countIf t (over (cellAny memo rect) cells f r) ≡ countIf t (f r) + liveCount memo r t cells
+  count-cells : (cells : List Cell) (f : Fixes) → Each Placed cells → countIf anyFix (f r) + liveCount memo r anyFix cells ≤ 1 → (t : Fix → Bool)
+      → ((v : Fix) → t v ≡ true → listed rect v ≡ true) → countIf t (over (cellAny memo rect) cells f r) ≡ countIf t (f r) + liveCount memo r t cells
   unfolding over
   count-cells [] f k h t within = omega (arith, sum-nil (λ (c : Cell). countIf t (liveIn memo r c)))
   count-cells (c ∷ cs) f k h t within =
-      let g : (Place → Bool) → Cell → ℕ = λ u x. countIf u (liveIn memo r x) in
-      let one : countIf anyPlace (f r) + countIf anyPlace (liveIn memo r c) ≤ 1 = omega (arith, sum-cons (g anyPlace) c cs) in
+      let g : (Fix → Bool) → Cell → ℕ = λ u x. countIf u (liveIn memo r x) in
+      let one : countIf anyFix (f r) + countIf anyFix (liveIn memo r c) ≤ 1 = omega (arith, sum-cons (g anyFix) c cs) in
       omega (
         arith,
-        count-cells cs (cellAny memo rect c f) (k .1) (omega (arith, count-few c f (k .0) one, sum-cons (g anyPlace) c cs)) t within,
+        count-cells cs (cellAny memo rect c f) (k .1) (omega (arith, count-few c f (k .0) one, sum-cons (g anyFix) c cs)) t within,
         count-cell c f (k .0) one t within,
         sum-cons (g t) c cs,
       )
 
--- ---- places that count alike in the rectangle
+-- ---- fixes that count alike where they are listed
 
-abbrev Alike : Rect → Option Place → Option Place → Type 0
-Alike rect a b = (t : Place → Bool) → ((p : Place) → t p ≡ true → covers rect p ≡ true) → countIf t a ≡ countIf t b
+abbrev Alike : Rect → Option Fix → Option Fix → Type 0
+Alike rect a b = (t : Fix → Bool) → ((v : Fix) → t v ≡ true → listed rect v ≡ true) → countIf t a ≡ countIf t b
 
-seen-alike : (rect : Rect) (a b : Option Place) → Alike rect a b → seen rect a ≡ seen rect b
+seen-alike : (rect : Rect) (a b : Option Fix) → Alike rect a b → seen rect a ≡ seen rect b
 seen-alike rect none none h = refl
-seen-alike rect none (some q) h = rw (one-if-false (covers rect q) (sym (h (covers rect) (λ p e. e))))
-seen-alike rect (some p) none h = rw (one-if-false (covers rect p) (h (covers rect) (λ q e. e)))
+seen-alike rect none (some q) h = rw (one-if-false (listed rect q) (sym (h (listed rect) (λ p e. e))))
+seen-alike rect (some p) none h = rw (one-if-false (listed rect p) (h (listed rect) (λ q e. e)))
 seen-alike rect (some p) (some q) h =
-    by-cases (covers rect p)
-    (λ i. let t : Place → Bool = λ x. both (covers rect x) (samePlace p x) in
-    let w : (x : Place) → t x ≡ true → covers rect x ≡ true = λ x e. both-left _ _ e in
+    by-cases (listed rect p)
+    (λ i. let t : Fix → Bool = λ x. both (listed rect x) (samePlace (p .place) (x .place)) in
+    let w : (x : Fix) → t x ≡ true → listed rect x ≡ true = λ x e. both-left _ _ e in
     by-cases (t q)
-    (λ u. rw (← samePlace-true p q (both-right _ _ u)))
-    (λ u. absurd (omega (arith, h t w, ap one-if (both-intro i (samePlace-refl p)), ap one-if u))))
-    (λ i. by-cases (covers rect q)
-    (λ j. absurd (omega (arith, h (covers rect) (λ x e. e), ap one-if i, ap one-if j)))
+    (λ u. rw (i, both-left _ _ u, ← samePlace-true (p .place) (q .place) (both-right _ _ u)))
+    (λ u. absurd (omega (arith, h t w, ap one-if (both-intro i (samePlace-refl (p .place))), ap one-if u))))
+    (λ i. by-cases (listed rect q)
+    (λ j. absurd (omega (arith, h (listed rect) (λ x e. e), ap one-if i, ap one-if j)))
     (λ j. rw (i, j)))
 
 -- ---- the table of a well-formed store
 
-count-noPlaces : (t : Place → Bool) (r : ℕ) → countIf t (noPlaces r) ≡ 0
-unfolding noPlaces
-count-noPlaces t r = refl
-
--- what the range would hold if it tested no place
-abbrev tableAny : Rect → Store → Places
-tableAny rect s = over (rowAny (λ w. some (w .place))) (s .waiting) (over (cellAny (s .memo) rect) (s .cells) noPlaces)
+-- what the range would hold if it tested nothing
+abbrev tableAny : Rect → Store → Fixes
+tableAny rect s = over (rowAny (λ w. w .fix)) (s .waiting) (over (cellAny (s .memo) rect) (s .cells) noFixes)
 
 module _ (s : Store) (w : WellFormed s) (rect : Rect) (r : ℕ) (on : isOn s r ≡ true) where
-  abbrev stored : Places
-  stored = over (cellAny (s .memo) rect) (s .cells) noPlaces
+  abbrev stored : Fixes
+  stored = over (cellAny (s .memo) rect) (s .cells) noFixes
 
   cells-placed : Each Placed (s .cells)
   cells-placed = each-map (GoodCell (s .cuts)) Placed (s .cells) (λ c g. record { rising = g .rising; placed = g .placed }) (w .cells)
 
-  reports-find : tableAny rect s r ≡ foundOr (λ x. some (x .place)) (find (s .waiting) r) (stored r)
+  reports-find : tableAny rect s r ≡ foundOr (λ x. x .fix) (find (s .waiting) r) (stored r)
   reports-find = over-find _ 0 (s .waiting) stored r (w .waiting-rises)
 
-  latest-is : latest s r ≡ orElse (placeOf (find (s .waiting) r)) (storedIn (s .memo) r (s .cells))
+  latest-is : latest s r ≡ orElse (fixOf (find (s .waiting) r)) (storedIn (s .memo) r (s .cells))
   unfolding latest
   latest-is = refl
 
   module _ (quiet : find (s .waiting) r ≡ none) where
-    one-live : liveCount (s .memo) r anyPlace (s .cells) ≡ 1
+    one-live : liveCount (s .memo) r anyFix (s .cells) ≡ 1
     one-live = omega (arith, live-all (s .memo) r (s .cells), w .present r, ap (λ (o : Option Report). one-if (wasNew o)) quiet, ap one-if on)
 
     seen-stored : seen rect (stored r) ≡ seen rect (storedIn (s .memo) r (s .cells))
@@ -207,39 +209,38 @@ module _ (s : Store) (w : WellFormed s) (rect : Rect) (r : ℕ) (on : isOn s r �
         seen-alike rect (stored r) (storedIn (s .memo) r (s .cells))
         (λ t k. omega (
           arith,
-          count-cells (s .memo) rect r (s .cells) noPlaces cells-placed (omega (arith, count-noPlaces anyPlace r)) t k,
-          count-noPlaces t r,
+          count-cells (s .memo) rect r (s .cells) noFixes cells-placed (omega arith) t k,
           stored-count (s .memo) r (s .cells) (omega arith) t,
         ))
 
   seen-latest : seen rect (tableAny rect s r) ≡ seen rect (latest s r)
   seen-latest =
       option-cases (find (s .waiting) r)
-      (λ e. ap (seen rect) (reports-find ∙ ap (λ (o : Option Report). foundOr (λ x. some (x .place)) o (stored r)) e)
+      (λ e. ap (seen rect) (reports-find ∙ ap (λ (o : Option Report). foundOr (λ x. x .fix) o (stored r)) e)
       ∙ seen-stored e
-      ∙ ap (seen rect) (sym (latest-is ∙ ap (λ (o : Option Report). orElse (placeOf o) (storedIn (s .memo) r (s .cells))) e)))
-      (λ v e. ap (seen rect) (reports-find ∙ ap (λ (o : Option Report). foundOr (λ x. some (x .place)) o (stored r)) e
-      ∙ sym (latest-is ∙ ap (λ (o : Option Report). orElse (placeOf o) (storedIn (s .memo) r (s .cells))) e)))
+      ∙ ap (seen rect) (sym (latest-is ∙ ap (λ (o : Option Report). orElse (fixOf o) (storedIn (s .memo) r (s .cells))) e)))
+      (λ v e. ap (seen rect) (reports-find ∙ ap (λ (o : Option Report). foundOr (λ x. x .fix) o (stored r)) e
+      ∙ sym (latest-is ∙ ap (λ (o : Option Report). orElse (fixOf o) (storedIn (s .memo) r (s .cells))) e)))
 
--- ---- a place outside is none
+-- ---- what is not listed has no place
 
--- The last row that names a radio tells its place, so it is the same whether each place is tested as it is laid over the others, or what is left at the end.
+-- The last row that names a radio tells its place, so it is the same whether each is tested as it is laid over the others, or what is left at the end.
 module _ (rect : Rect) where
-  abbrev seenAt : Places → Places
+  abbrev seenAt : Fixes → Places
   seenAt f r = seen rect (f r)
 
-  over-seen : {A : Type 0} (step tested : A → Places → Places) → ((x : A) (f : Places) → tested x (seenAt f) ≡ seenAt (step x f)) → (l : List A) (f : Places) → over tested l (seenAt f) ≡ seenAt (over step l f)
+  over-seen : {A : Type 0} (step : A → Fixes → Fixes) (tested : A → Places → Places) → ((x : A) (f : Fixes) → tested x (seenAt f) ≡ seenAt (step x f)) → (l : List A) (f : Fixes) → over tested l (seenAt f) ≡ seenAt (over step l f)
   unfolding over
   over-seen step tested h [] f = refl
   over-seen step tested h (x ∷ l) f = ap (over tested l) (h x f) ∙ over-seen step tested h l (step x f)
 
-  put-seen : (r : ℕ) (o : Option Place) (f : Places) → putAt r (seen rect o) (seenAt f) ≡ seenAt (putAt r o f)
+  put-seen : (r : ℕ) (o : Option Fix) (f : Fixes) → putAt r (seen rect o) (seenAt f) ≡ seenAt (putAt r o f)
   put-seen r o f = fun-ext (λ q. by-cases (eqb q r) (λ t. rw t) (λ t. rw t))
 
-  entry-seen : (old : Row Fix → Bool) (e : Row Fix) (f : Places) → entryOver old rect e (seenAt f) ≡ seenAt (entryAny old e f)
+  entry-seen : (old : Row Fix → Bool) (e : Row Fix) (f : Fixes) → entryOver old rect e (seenAt f) ≡ seenAt (entryAny old e f)
   entry-seen old e f = by-cases (old e) (λ t. rw t) (λ t. rw t (put-seen (e .key) (some (e .val)) f))
 
-  entries-seen : (old : Row Fix → Bool) (l : Rows Fix) (f : Places) → entriesOver old rect l (seenAt f) ≡ seenAt (over (entryAny old) l f)
+  entries-seen : (old : Row Fix → Bool) (l : Rows Fix) (f : Fixes) → entriesOver old rect l (seenAt f) ≡ seenAt (over (entryAny old) l f)
   unfolding entriesOver
   entries-seen old = over-seen (entryAny old) _ (entry-seen old)
 
@@ -247,7 +248,7 @@ module _ (rect : Rect) where
   abbrev pub cellOver : Rows Line → Cell → Places → Places
   cellOver memo c f = cond (touches rect (c .edges)) (entriesOver (stale memo) rect (c .entries) f) f
 
-  cell-seen : (memo : Rows Line) (c : Cell) (f : Places) → cellOver memo c (seenAt f) ≡ seenAt (cellAny memo rect c f)
+  cell-seen : (memo : Rows Line) (c : Cell) (f : Fixes) → cellOver memo c (seenAt f) ≡ seenAt (cellAny memo rect c f)
   cell-seen memo c f = by-cases (touches rect (c .edges)) (λ t. rw t (entries-seen (stale memo) (c .entries) f)) (λ t. rw t)
 
   abbrev pub tableOf : Store → Places
@@ -256,20 +257,20 @@ module _ (rect : Rect) where
   table-seen : (s : Store) → tableOf s ≡ seenAt (tableAny rect s)
   unfolding reportsOver noPlaces
   table-seen s =
-      ap (reportsOver rect (s .waiting)) (over-seen (cellAny (s .memo) rect) (cellOver (s .memo)) (cell-seen (s .memo)) (s .cells) noPlaces)
-      ∙ over-seen (rowAny (λ w. some (w .place))) _ (λ x f. put-seen (x .key) (some (x .val .place)) f) (s .waiting) _
+      ap (reportsOver rect (s .waiting)) (over-seen (cellAny (s .memo) rect) (cellOver (s .memo)) (cell-seen (s .memo)) (s .cells) noFixes)
+      ∙ over-seen (rowAny (λ w. w .fix)) _ (λ x f. put-seen (x .key) (some (x .val .fix)) f) (s .waiting) _
 
 -- ---- the same list
 
-listIf-seen : (rect : Rect) (r : ℕ) (o : Option Place) (l : Rows Fix) → listIf rect r o l ≡ putRow r (seen rect o) l
+listIf-seen : (rect : Rect) (r : ℕ) (o : Option Fix) (l : Rows Place) → listIf rect r o l ≡ putRow r (seen rect o) l
 listIf-seen rect r none l = refl
-listIf-seen rect r (some p) l = by-cases (covers rect p) (λ t. rw t) (λ t. rw t)
+listIf-seen rect r (some f) l = by-cases (listed rect f) (λ t. rw t) (λ t. rw t)
 
-held-seen : (rect : Rect) (f g : Places) (l : Rows (Unit {0})) → Each (λ x. f (x .key) ≡ seen rect (g (x .key))) l → listHeld f l ≡ listOf rect g l
+held-seen : (rect : Rect) (f : Places) (g : Fixes) (l : Rows (Unit {0})) → Each (λ x. f (x .key) ≡ seen rect (g (x .key))) l → listHeld f l ≡ listOf rect g l
 unfolding listHeld listOf
 held-seen rect f g [] e = refl
 held-seen rect f g (x ∷ l) e =
-    ap₂ (λ (o : Option Place) (m : Rows Fix). putRow (x .key) o m) (e .0) (held-seen rect f g l (e .1)) ∙ sym (listIf-seen rect (x .key) (g (x .key)) (listOf rect g l))
+    ap₂ (λ (o : Option Place) (m : Rows Place). putRow (x .key) o m) (e .0) (held-seen rect f g l (e .1)) ∙ sym (listIf-seen rect (x .key) (g (x .key)) (listOf rect g l))
 
 -- the radios on that have a place in the table are those whose latest place lies in the rectangle
 pub found-table : (s : Store) → WellFormed s → (rect : Rect) → listHeld (tableOf rect s) (s .on) ≡ found s rect

@@ -7,7 +7,7 @@ use native.Mathlib.Omega.{arith}
 use lib.ListN.{length, getD, set, take, replicate, length-map, length-set, length-take, length-replicate}
 use lib.Seq.{take-suc-set, take-set-le}
 use borrow.Author.Tests.{lt-ltb, le-ltb}
-use Rattle.terms.specs.Terms.{Fix, fieldBytes, maxRadio, maxOn}
+use Rattle.terms.specs.Terms.{Place, fieldBytes, maxRadio, maxOn}
 use Rattle.lists.specs.Parts.{put}
 use Rattle.lists.specs.Rows.{Row, Rows, UpTo, putRow}
 use Rattle.lists.specs.Sums.{keep, filter}
@@ -113,12 +113,12 @@ module _ {marks : List Bool} {radios : List ℕ} {n i kept : ℕ} {found : List 
 
 -- ---- their bytes
 
-length-bytesOf : (l : Rows Fix) → length (bytesOf l) ≡ listBytes * length l
+length-bytesOf : (l : Rows Place) → length (bytesOf l) ≡ listBytes * length l
 unfolding bytesOf le
 length-bytesOf [] = refl
 length-bytesOf (x ∷ l) = omega (arith, length-bytesOf l)
 
-bytesOf-append : (l m : Rows Fix) → bytesOf (l ++ m) ≡ bytesOf l ++ bytesOf m
+bytesOf-append : (l m : Rows Place) → bytesOf (l ++ m) ≡ bytesOf l ++ bytesOf m
 unfolding bytesOf le
 bytesOf-append [] m = refl
 bytesOf-append (x ∷ l) m = ap (λ (b : List ℕ). le fieldBytes (x .key) ++ (le fieldBytes (x .val .east) ++ (le fieldBytes (x .val .north) ++ b))) (bytesOf-append l m)
@@ -154,7 +154,7 @@ module _ (easts norths : List ℕ) where
         → d ≡ put c (listBytes * i) (bytesOf (rowAt easts norths (getD found i 0) ∷ [])) → Writing (i + 1) d
     writing-turn i size few more room w e =
         let l : Rows (Unit {0}) = take i (radiosOf (onWith n found)) in
-        let row : Rows Fix = rowAt easts norths (getD found i 0) ∷ [] in
+        let row : Rows Place = rowAt easts norths (getD found i 0) ∷ [] in
         let m : length (bytesOf (rowsAt easts norths l)) ≡ listBytes * i =
         omega (arith, length-bytesOf (rowsAt easts norths l), length-rowsAt l, length-take i (radiosOf (onWith n found)), length-radios found n size few) in
         put-then b 0 (bytesOf (rowsAt easts norths l)) (bytesOf row) w e (omega arith) (omega arith)
@@ -165,7 +165,7 @@ module _ (easts norths : List ℕ) where
 
 -- a radio that is marked stands in the list with what the columns have
 module _ (easts norths : List ℕ) (marks : List Bool) where
-  row-held : (x : Row (Unit {0})) (l : Rows Fix) → putRow (x .key) (placesIn easts norths marks (x .key)) l ≡ keep (isMarked marks x) (rowAt easts norths (x .key)) l
+  row-held : (x : Row (Unit {0})) (l : Rows Place) → putRow (x .key) (placesIn easts norths marks (x .key)) l ≡ keep (isMarked marks x) (rowAt easts norths (x .key)) l
   unfolding placesIn
   row-held x l = by-cases (getD marks (x .key) false) (λ t. rw t) (λ t. rw t)
 

@@ -5,7 +5,7 @@ use Prim.Native.Nat.{ℕ, _*_, _≤_}
 use native.Mathlib.Omega.{arith}
 use lib.Dec.{ltb}
 use lib.ListN.{length, length-map}
-use Rattle.terms.specs.Terms.{Fix, maxRadio, maxOn, noPage}
+use Rattle.terms.specs.Terms.{Place, Fix, maxRadio, maxOn, noPage}
 use Rattle.lists.specs.Chains.{firstOf}
 use Rattle.lists.specs.Rows.{Rows, Rising, UpTo}
 use Rattle.lists.specs.Tests.{Each}
@@ -68,7 +68,7 @@ count-slots d cells e = ap (λ (x : Directory). x .n) e
 abbrev outcome : Store → Told → Outcome
 outcome s t = record { number = t .number; count = t .count; buffer = t .buffer; store = s }
 
-told-answered : (s : Store) (l : Rows Fix) (buffer : List ℕ) → outcome s (toldList l buffer) ≡ answered l s buffer
+told-answered : (s : Store) (l : Rows Place) (buffer : List ℕ) → outcome s (toldList l buffer) ≡ answered l s buffer
 unfolding toldList answered
 told-answered s l buffer = by-cases (ltb (length buffer) (listBytes * length l)) (λ t. rw t) (λ t. rw t)
 
@@ -132,4 +132,4 @@ module _ (s : Store) (b : List ℕ) (desk : Desk) (w : WellFormed s) (l : Laid s
   pub range-gives : (rect : Rect) (buffer : List ℕ) {number count : ℕ} {after : List ℕ}
       → record { number = number; count = count; buffer = after } ≡ toldList (foundIn b rect (deskGrid desk .cells) (deskWaiting desk) (deskMemo desk) (deskOn desk)) buffer
       → record { number = number; count = count; buffer = after; store = s } ≡ answered (found s rect) s buffer
-  range-gives rect buffer e = ap (outcome s) (e ∙ ap (λ (l : Rows Fix). toldList l buffer) (found-is rect)) ∙ told-answered s (found s rect) buffer
+  range-gives rect buffer e = ap (outcome s) (e ∙ ap (λ (l : Rows Place). toldList l buffer) (found-is rect)) ∙ told-answered s (found s rect) buffer

@@ -27,6 +27,7 @@ use Rattle.page.proofs.ChainLaws.{chain-ended, chain-not-there, chain-there, ch
 use Rattle.rules.specs.Limits.{maxCells, fullMemory}
 use Rattle.rules.specs.Grid.{Rect, covers}
 use Rattle.rules.specs.Sweep.{stale}
+use Rattle.rules.specs.Carry.{listed}
 use Rattle.rules.specs.Plain.{putAt}
 use Rattle.desk.specs.declared.Slot.{Slot}
 use Rattle.desk.specs.Held.{Directory, Memo, Waiting}
@@ -85,9 +86,9 @@ module _ {A : Type 0} (step : A → Places → Places) where
   pub over-end : {easts norths : List ℕ} {marks : List Bool} (f : Places) (l l′ : List A) → l ≡ l′ → Holds easts norths marks (over step l f) → Holds easts norths marks (over step l′ f)
   over-end {easts} {norths} {marks} f l l′ e h = subst (λ (m : List A). Holds easts norths marks (over step m f)) e h
 
--- a test that tells whether a place lies in the rectangle
-seen-told : (rect : Rect) (p : Place) {q : Bool} → q ≡ covers rect p → cond q (some p) none ≡ seen rect (some p)
-seen-told rect p e = ap (λ (q : Bool). cond q (some p) none) e
+-- a test that tells whether it is listed
+seen-told : (rect : Rect) (f : Fix) {q : Bool} → q ≡ listed rect f → cond q (some (f .place)) none ≡ seen rect (some f)
+seen-told rect f e = ap (λ (q : Bool). cond q (some (f .place)) none) e
 
 -- ---- an entry
 
@@ -98,7 +99,7 @@ module _ (old : Row Fix → Bool) (rect : Rect) (e : Entry) {r : Bool} (told : r
   pub entry-held : {q : Bool} (f : Places) → r ≡ false → q ≡ covers rect (record { east = e .east; north = e .north })
       → Holds easts norths marks (putAt (e .radio) (cond q (some (record { east = e .east; north = e .north })) none) f) → Holds easts norths marks (entryOver old rect (rowOf e) f)
   entry-held f t seen h =
-      rw (← told, t) (subst (λ (o : Option Place). Holds easts norths marks (putAt (e .radio) o f)) (seen-told rect _ seen) h)
+      rw (← told, t) (subst (λ (o : Option Place). Holds easts norths marks (putAt (e .radio) o f)) (seen-told rect (rowOf e .val) seen) h)
 
 -- ---- the entries of a page
 
@@ -257,7 +258,7 @@ module _ (rect : Rect) (w : Waiting) where
     unfolding reportsOf reportsOver
     reports-turn f {easts} {norths} {easts′} {norths′} {marks} {marks′} told h k =
         over-turn _ f _ _ (reportRow report) (rw read (mapped-turn (everyReport (w .words)) (w .n) i noReport amid more reportRow)) h
-        (subst (λ (o : Option Place). Holds easts′ norths′ marks′ (putAt (report .radio) o (placesIn easts norths marks))) (seen-told rect _ told) k)
+        (subst (λ (o : Option Place). Holds easts′ norths′ marks′ (putAt (report .radio) o (placesIn easts norths marks))) (seen-told rect (reportRow report .val .fix) told) k)
 
   pub reports-end : (i : ℕ) (f : Places) {easts norths : List ℕ} {marks : List Bool} → w .n ≤ i → Holds easts norths marks (reportsOver rect (take i (reportsOf w)) f) → Holds easts norths marks (reportsOver rect (reportsOf w) f)
   unfolding reportsOf reportsOver

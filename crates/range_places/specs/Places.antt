@@ -14,7 +14,7 @@ use Rattle.rules.specs.Limits.{maxCells, fullMemory}
 use Rattle.rules.specs.Grid.{Span, within, takesIn, Rect}
 use Rattle.rules.specs.Store.{Report, Line}
 use Rattle.rules.specs.Sweep.{stale}
-use Rattle.rules.specs.Carry.{inRange}
+use Rattle.rules.specs.Carry.{listed}
 use Rattle.rules.specs.Plain.{putAt}
 use Rattle.desk.specs.declared.Slot.{Slot}
 use Rattle.desk.specs.Held.{Directory, Memo, Waiting}
@@ -28,7 +28,7 @@ use Rattle.waiting.specs.Waiting.{reportsOf}
 
 -- a place for each radio, or none
 abbrev pub Places : Type 0
-Places = ℕ → Option Fix
+Places = ℕ → Option Place
 
 unfoldable pub noPlaces : Places
 noPlaces r = none
@@ -50,27 +50,28 @@ pub record Holds (easts norths : List ℕ) (marks : List Bool) (f : Places) : Ty
 -- ---- one over the other
 
 -- one after the other, each over those before it
-unfoldable pub over : {A : Type 0} → (A → Places → Places) → List A → Places → Places
+unfoldable pub over : {A B : Type 0} → (A → B → B) → List A → B → B
 over step [] f = f
 over step (x ∷ l) f = over step l (step x f)
 
--- a place in the rectangle; one outside is none
-abbrev pub seen : Rect → Option Place → Option Place
-seen rect o = cond (inRange rect o) o none
+-- the place of what is listed; what is not has none
+abbrev pub seen : Rect → Option Fix → Option Place
+seen rect none = none
+seen rect (some f) = cond (listed rect f) (some (f .place)) none
 
--- the radio of a row has the row's place, or none where that lies outside, whatever it had
-abbrev pub rowOver : {Val : Type 0} → Rect → (Val → Option Place) → Row Val → Places → Places
-rowOver rect place x f = putAt (x .key) (seen rect (place (x .val))) f
+-- the radio of a row has the row's place, or none where that is not listed, whatever it had
+abbrev pub rowOver : {Val : Type 0} → Rect → (Val → Fix) → Row Val → Places → Places
+rowOver rect fix x f = putAt (x .key) (seen rect (some (fix (x .val)))) f
 
 -- an entry's place; a stale entry is passed over
 abbrev pub entryOver : (Row Fix → Bool) → Rect → Row Fix → Places → Places
-entryOver old rect e f = cond (old e) f (rowOver rect some e f)
+entryOver old rect e f = cond (old e) f (rowOver rect (λ v. v) e f)
 
 unfoldable pub entriesOver : (Row Fix → Bool) → Rect → Rows Fix → Places → Places
 entriesOver old rect = over (entryOver old rect)
 
 unfoldable pub reportsOver : Rect → Rows Report → Places → Places
-reportsOver rect = over (rowOver rect (λ w. some (w .place)))
+reportsOver rect = over (rowOver rect (λ w. w .fix))
 
 -- a range's edges, and a cell's: the cell begins in the range, or the range, which takes in its own low edge, in the cell
 abbrev pub meets : Span → Span → Bool

@@ -7,7 +7,7 @@ use native.Mathlib.Omega.{arith}
 use lib.Dec.{eqb}
 use lib.ListN.{length}
 use borrow.Author.Tests.{eq-eqb, eqb-true}
-use Rattle.terms.specs.Terms.{Place, maxOn}
+use Rattle.terms.specs.Terms.{Fix, maxOn}
 use Rattle.lists.specs.Rows.{Rows, Rising, find}
 use Rattle.lists.specs.Tests.{isSome}
 use Rattle.lists.specs.Words.{Bytes}
@@ -61,8 +61,8 @@ module _ (s : Store) (on : On) (laid : on ≡ onOf (s .on)) where
 -- ---- the outcome
 
 abbrev Showed : Store → Request → Type 0
-Showed s (signOn r p) = SignsOn s r p
-Showed s (report r p) = Reports s r p
+Showed s (signOn r f) = SignsOn s r f
+Showed s (report r f) = Reports s r f
 Showed s (signOff r) = SignsOff s r
 Showed s (range rect) = (rect .easts .low ≤ rect .easts .high) × (rect .norths .low ≤ rect .norths .high)
 
@@ -98,11 +98,11 @@ module _ (s : Store) (on : On) (b : List ℕ) {c : Checked} (laid : on ≡ onOf 
 
   -- what an accepted request says
   module _ (small : Bytes b) where
-    pub asks-on : (r : ℕ) (p : Place) → c ≡ asks (signOn r p) → SignsOn s r p
-    asks-on r p is = taken-showed (signOn r p) is small
+    pub asks-on : (r : ℕ) (f : Fix) → c ≡ asks (signOn r f) → SignsOn s r f
+    asks-on r f is = taken-showed (signOn r f) is small
 
-    pub asks-report : (r : ℕ) (p : Place) → c ≡ asks (report r p) → Reports s r p
-    asks-report r p is = taken-showed (report r p) is small
+    pub asks-report : (r : ℕ) (f : Fix) → c ≡ asks (report r f) → Reports s r f
+    asks-report r f is = taken-showed (report r f) is small
 
     pub asks-off : (r : ℕ) → c ≡ asks (signOff r) → SignsOff s r
     asks-off r is = taken-showed (signOff r) is small

@@ -8,11 +8,11 @@ use native.Mathlib.Omega.{arith}
 use lib.Dec.{eqb, leb, ltb}
 use lib.ListN.{length}
 use borrow.Author.Tests.{lt-ltb, le-ltb, ltb-false, eq-eqb, ne-eqb, eqb-true, eqb-false}
-use Rattle.terms.specs.Terms.{maxRadio, maxOn}
+use Rattle.terms.specs.Terms.{fixAt, maxRadio, maxOn}
 use Rattle.lists.specs.Tests.{both, either}
 use Rattle.lists.proofs.Cases.{by-cases}
 use Rattle.lists.proofs.TestsLaws.{both-left-false, both-second, either-left, either-right, either-false, not-false}
-use Rattle.rules.specs.Records.{Request, signOn, report, signOff, range, lengthField, kindField, lengthOf, radioField, placeField, rectField, requestOf, kindSignOn, kindReport, kindSignOff, kindRange, notAtHand, unknownKind, wrongLength, noRadio, noFix, reversed, onAlready, notOn, noRoom, refusal}
+use Rattle.rules.specs.Records.{Request, signOn, report, signOff, range, lengthField, kindField, lengthOf, radioField, placeField, fixField, rectField, requestOf, kindSignOn, kindReport, kindSignOff, kindRange, notAtHand, unknownKind, wrongLength, noRadio, noFix, reversed, onAlready, notOn, noRoom, refusal}
 use Rattle.rules.specs.Grid.{Rect}
 use Rattle.rules.proofs.RecordLaws.{passed}
 use Rattle.desk.specs.Held.{On}
@@ -270,17 +270,17 @@ module _ (b : List ℕ) (w : Whole b) {k : ℕ} (kind : k ≡ kindField b) where
   range-there l m n = rect-there b kind w (omega (arith, l, m, n, w, kind))
 
   module _ (p : Placed) (body : p ≡ record { radio = radioField b; east = placeField b .east; north = placeField b .north }) where
-    pub asked-on : k ≡ kindSignOn → asks (signOn (p .radio) (record { east = p .east; north = p .north })) ≡ asks (requestOf b)
-    unfolding requestOf
+    pub asked-on : k ≡ kindSignOn → asks (signOn (p .radio) (fixAt (p .east) (p .north))) ≡ asks (requestOf b)
+    unfolding requestOf fixField
     asked-on h =
         rw (eq-eqb (kindField b) kindSignOn (omega (arith, kind)))
-        (ap (λ (x : Placed). asks (signOn (x .radio) (record { east = x .east; north = x .north }))) body)
+        (ap (λ (x : Placed). asks (signOn (x .radio) (fixAt (x .east) (x .north)))) body)
 
-    pub asked-report : k ≡ kindReport → asks (report (p .radio) (record { east = p .east; north = p .north })) ≡ asks (requestOf b)
-    unfolding requestOf
+    pub asked-report : k ≡ kindReport → asks (report (p .radio) (fixAt (p .east) (p .north))) ≡ asks (requestOf b)
+    unfolding requestOf fixField
     asked-report h =
         rw (ne-eqb (kindField b) kindSignOn (omega (arith, kind)), eq-eqb (kindField b) kindReport (omega (arith, kind)))
-        (ap (λ (x : Placed). asks (report (x .radio) (record { east = x .east; north = x .north }))) body)
+        (ap (λ (x : Placed). asks (report (x .radio) (fixAt (x .east) (x .north)))) body)
 
   pub asked-off : {r : ℕ} → r ≡ radioField b → k ≡ kindSignOff → asks (signOff r) ≡ asks (requestOf b)
   unfolding requestOf
@@ -299,8 +299,8 @@ module _ (b : List ℕ) (w : Whole b) {k : ℕ} (kind : k ≡ kindField b) where
 
 -- each edge of a range is in its order
 abbrev pub Ordered : Request → Type 0
-Ordered (signOn r p) = Unit {0}
-Ordered (report r p) = Unit {0}
+Ordered (signOn r f) = Unit {0}
+Ordered (report r f) = Unit {0}
 Ordered (signOff r) = Unit {0}
 Ordered (range rect) = (rect .easts .low ≤ rect .easts .high) × (rect .norths .low ≤ rect .norths .high)
 

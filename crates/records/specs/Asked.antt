@@ -6,7 +6,7 @@ use Prim.Native.Nat.{ℕ, _≤_, _<_}
 use mathlib.Core.Path.{_≡_}
 use lib.Dec.{eqb}
 use lib.ListN.{length}
-use Rattle.terms.specs.Terms.{Place, maxRadio, maxOn}
+use Rattle.terms.specs.Terms.{Fix, fixAt, maxRadio, maxOn}
 use Rattle.lists.specs.Rows.{find}
 use Rattle.lists.specs.Tests.{isSome}
 use Rattle.rules.specs.Records.{Request, signOn, report, signOff, range, kindField, kindSignOn, kindRange, lengthOf}
@@ -57,8 +57,8 @@ fails n = record { number = n; request = none }
 
 -- the number and the values of each case: "radio, east, north", "radio", "west, east, south, north"
 abbrev pub askedOf : Asked → Checked
-askedOf (SignOn r e n) = asks (signOn r (record { east = e; north = n }))
-askedOf (Report r e n) = asks (report r (record { east = e; north = n }))
+askedOf (SignOn r e n) = asks (signOn r (fixAt e n))
+askedOf (Report r e n) = asks (report r (fixAt e n))
 askedOf (SignOff r) = asks (signOff r)
 askedOf (Range w e s n) = asks (range (record { easts = record { low = w; high = e }; norths = record { low = s; high = n } }))
 askedOf (Refused n) = fails n
@@ -68,17 +68,17 @@ unfoldable pub checked : ℕ → Request → Checked
 checked n q = cond (eqb n 0) (asks q) (fails n)
 
 -- what the checks showed of an accepted sign-on, report, sign-off
-pub record SignsOn (s : Store) (r : ℕ) (p : Place) : Type 0 where
+pub record SignsOn (s : Store) (r : ℕ) (f : Fix) : Type 0 where
   pub first : 1 ≤ r
   pub last : r ≤ maxRadio
-  pub placed : InSquare p
+  pub placed : InSquare (f .place)
   pub off : isOn s r ≡ false
   pub room : onCount s < maxOn
 
-pub record Reports (s : Store) (r : ℕ) (p : Place) : Type 0 where
+pub record Reports (s : Store) (r : ℕ) (f : Fix) : Type 0 where
   pub first : 1 ≤ r
   pub last : r ≤ maxRadio
-  pub placed : InSquare p
+  pub placed : InSquare (f .place)
   pub on : isOn s r ≡ true
 
 pub record SignsOff (s : Store) (r : ℕ) : Type 0 where

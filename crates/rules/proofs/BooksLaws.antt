@@ -39,7 +39,7 @@ liveC o r c = countIf (λ p. not (staleBy o p)) (find (c .entries) r)
 abbrev heldC : ℕ → Cell → ℕ
 heldC r c = countIf (λ _. true) (find (c .entries) r)
 
-count-split : (t : Place → Bool) (x : Option Place) → countIf (λ p. not (t p)) x + countIf t x ≡ countIf (λ _. true) x
+count-split : (t : Fix → Bool) (x : Option Fix) → countIf (λ p. not (t p)) x + countIf t x ≡ countIf (λ _. true) x
 count-split t none = refl
 count-split t (some p) = by-cases (t p) (λ e. rw e) (λ e. rw e)
 
@@ -47,22 +47,22 @@ count-split t (some p) = by-cases (t p) (λ e. rw e) (λ e. rw e)
 live-stale : (o : Option Line) (r : ℕ) (cells : List Cell) → sumBy (liveC o r) cells + sumBy (staleC o r) cells ≡ sumBy (heldC r) cells
 live-stale o r cells = sym (sum-add (liveC o r) (staleC o r) cells) ∙ sum-ext (λ c. liveC o r c + staleC o r c) (heldC r) cells (λ c. count-split (staleBy o) (find (c .entries) r))
 
-judged-by : {o u : Option Line} (p : Place) → u ≡ o → staleBy u p ≡ staleBy o p
+judged-by : {o u : Option Line} (f : Fix) → u ≡ o → staleBy u f ≡ staleBy o f
 judged-by p e = ap (λ o. staleBy o p) e
 
-pub count-passed : (t : Place → Bool) (u : Row Fix → Bool) (r : ℕ) (x : Option Place) → countIf t (passed u r x) + countIf t (passed (λ e. not (u e)) r x) ≡ countIf t x
+pub count-passed : (t : Fix → Bool) (u : Row Fix → Bool) (r : ℕ) (x : Option Fix) → countIf t (passed u r x) + countIf t (passed (λ e. not (u e)) r x) ≡ countIf t x
 count-passed t u r none = refl
 count-passed t u r (some p) = by-cases (u (record { key = r; val = p })) (λ e. rw e (omega arith)) (λ e. rw e (omega arith))
 
-count-zero : (t : Place → Bool) (x : Option Place) (p : Place) → countIf t x ≡ 0 → x ≡ some p → t p ≡ false
+count-zero : (t : Fix → Bool) (x : Option Fix) (f : Fix) → countIf t x ≡ 0 → x ≡ some f → t f ≡ false
 count-zero t x p z e = one-if-false (t p) (sym (ap (countIf t) e) ∙ z)
 
 -- two tests that judge the entry alike count alike
-count-same : (t u : Place → Bool) (x : Option Place) → ((p : Place) → x ≡ some p → t p ≡ u p) → countIf t x ≡ countIf u x
+count-same : (t u : Fix → Bool) (x : Option Fix) → ((f : Fix) → x ≡ some f → t f ≡ u f) → countIf t x ≡ countIf u x
 count-same t u none h = refl
 count-same t u (some p) h = ap one-if (h p refl)
 
-held-found : (x : Option Place) → countIf (λ _. true) x ≡ one-if (isSome x)
+held-found : (x : Option Fix) → countIf (λ _. true) x ≡ one-if (isSome x)
 held-found none = refl
 held-found (some p) = refl
 
@@ -138,8 +138,8 @@ rowed-same d e edges entries k = record {
   rising = subst (λ (l : Rows Fix). Rising 0 l) (sym entries) (k .rising);
   radios = subst (λ (l : Rows Fix). UpTo maxRadio l) (sym entries) (k .radios);
   placed =
-      subst (λ (l : Rows Fix). Each (λ x. inside (e .edges) (x .val) ≡ true) l) (sym entries)
-      (subst (λ (a : Rect). Each (λ x. inside a (x .val) ≡ true) (d .entries)) (sym edges) (k .placed));
+      subst (λ (l : Rows Fix). Each (λ x. inside (e .edges) (x .val .place) ≡ true) l) (sym entries)
+      (subst (λ (a : Rect). Each (λ x. inside a (x .val .place) ≡ true) (d .entries)) (sym edges) (k .placed));
 }
 
 -- a first cell with other number or chain
@@ -157,11 +157,11 @@ books-ext h k b =
 
 -- ---- clean cells
 
-clean-find : (memo : Rows Line) (c : Cell) → Rowed c → ((r : ℕ) (p : Place) → find (c .entries) r ≡ some p → staleBy (find memo r) p ≡ false) → Clean memo c
+clean-find : (memo : Rows Line) (c : Cell) → Rowed c → ((r : ℕ) (f : Fix) → find (c .entries) r ≡ some f → staleBy (find memo r) f ≡ false) → Clean memo c
 unfolding staleIn
 clean-find memo c k h = sum-zero-find (λ e. one-if (stale memo e)) 0 (c .entries) (k .rising) (λ r p e. ap one-if (h r p e))
 
-pub find-clean : (memo : Rows Line) (c : Cell) → Rowed c → Clean memo c → (r : ℕ) (p : Place) → find (c .entries) r ≡ some p → staleBy (find memo r) p ≡ false
+pub find-clean : (memo : Rows Line) (c : Cell) → Rowed c → Clean memo c → (r : ℕ) (f : Fix) → find (c .entries) r ≡ some f → staleBy (find memo r) f ≡ false
 unfolding staleIn
 find-clean memo c k clean r p e =
     each-find (λ r p. staleBy (find memo r) p ≡ false) r p (c .entries)
@@ -173,7 +173,7 @@ clean-count memo c k clean r =
 
 -- two memos that judge a cell's entries alike
 abbrev Judges : Rows Line → Rows Line → Cell → Type 0
-Judges memo memo′ c = (r : ℕ) (p : Place) → find (c .entries) r ≡ some p → staleBy (find memo′ r) p ≡ staleBy (find memo r) p
+Judges memo memo′ c = (r : ℕ) (f : Fix) → find (c .entries) r ≡ some f → staleBy (find memo′ r) f ≡ staleBy (find memo r) f
 
 judged-stale : (memo memo′ : Rows Line) (c : Cell) → Rowed c → Judges memo memo′ c → staleIn memo′ c ≡ staleIn memo c
 unfolding staleIn
@@ -184,9 +184,9 @@ judged-stale memo memo′ c k h =
 -- ---- sweep
 
 -- a line is lowered where an entry goes
-abbrev pub loweredIf : Option Place → Option Line → Option Line
+abbrev pub loweredIf : Option Fix → Option Line → Option Line
 loweredIf none o = o
-loweredIf (some p) o = lowered o
+loweredIf (some f) o = lowered o
 
 find-lowerEach : (r b : ℕ) (es : Rows Fix) (memo : Rows Line) → Rising b es → Rising 0 memo → find (lowerEach es memo) r ≡ loweredIf (find es r) (find memo r)
 unfolding lowerEach find
@@ -221,7 +221,7 @@ lowered-missed none = λ h. absurd (omega arith)
 lowered-missed (some l) = λ h. by-cases (ltb 1 (l .missed)) (λ t. rw t (omega (arith, ltb-true))) (λ t. rw t (omega (arith, ltb-false)))
 
 -- a line that is lowered and not dropped judges as before; one that is dropped was the last
-lowered-judges : (o : Option Line) (p : Place) → (missedOf o ≤ 1 → staleBy o p ≡ false) → staleBy (lowered o) p ≡ staleBy o p
+lowered-judges : (o : Option Line) (f : Fix) → (missedOf o ≤ 1 → staleBy o f ≡ false) → staleBy (lowered o) f ≡ staleBy o f
 lowered-judges none p h = refl
 lowered-judges (some l) p h = by-cases (ltb 1 (l .missed)) (λ t. rw t) (λ t. rw t (sym (h (omega (arith, ltb-false)))))
 
@@ -247,22 +247,22 @@ module _ {memo : Rows Line} {new on : ℕ → Bool} (d : Cell) (rest : List Cell
   swept-lacks : (r : ℕ) → find (d .entries) r ≡ none → (find (swept memo d .entries) r ≡ none) × (find (sweptMemo memo (d .entries)) r ≡ find memo r)
   swept-lacks r e = (rw (find-swept memo d (b .cells-rowed .0 .rising) r, e), rw (find-sweptMemo memo (d .entries) (b .memo-rises) (b .cells-rowed .0 .rising) r, e))
 
-  swept-keeps : (r : ℕ) (p : Place) → find (d .entries) r ≡ some p → staleBy (find memo r) p ≡ false
-      → (find (swept memo d .entries) r ≡ some p) × (find (sweptMemo memo (d .entries)) r ≡ find memo r)
-  swept-keeps r p e t =
+  swept-keeps : (r : ℕ) (f : Fix) → find (d .entries) r ≡ some f → staleBy (find memo r) f ≡ false
+      → (find (swept memo d .entries) r ≡ some f) × (find (sweptMemo memo (d .entries)) r ≡ find memo r)
+  swept-keeps r f e t =
       (rw (find-swept memo d (b .cells-rowed .0 .rising) r, e, t), rw (find-sweptMemo memo (d .entries) (b .memo-rises) (b .cells-rowed .0 .rising) r, e, t))
 
-  swept-drops : (r : ℕ) (p : Place) → find (d .entries) r ≡ some p → staleBy (find memo r) p ≡ true
+  swept-drops : (r : ℕ) (f : Fix) → find (d .entries) r ≡ some f → staleBy (find memo r) f ≡ true
       → (find (swept memo d .entries) r ≡ none) × (find (sweptMemo memo (d .entries)) r ≡ lowered (find memo r))
-  swept-drops r p e t =
+  swept-drops r f e t =
       (rw (find-swept memo d (b .cells-rowed .0 .rising) r, e, t), rw (find-sweptMemo memo (d .entries) (b .memo-rises) (b .cells-rowed .0 .rising) r, e, t))
 
   -- the entry that goes is one of those that the line counts
-  swept-missed : (r : ℕ) (p : Place) → find (d .entries) r ≡ some p → staleBy (find memo r) p ≡ true → sumBy (staleC (find memo r) r) rest + 1 ≡ missedOf (find memo r)
+  swept-missed : (r : ℕ) (f : Fix) → find (d .entries) r ≡ some f → staleBy (find memo r) f ≡ true → sumBy (staleC (find memo r) r) rest + 1 ≡ missedOf (find memo r)
   unfolding sumBy
-  swept-missed r p e t = omega (arith, book-of b r .counted, ap (countIf (staleBy (find memo r))) e, ap one-if t)
+  swept-missed r f e t = omega (arith, book-of b r .counted, ap (countIf (staleBy (find memo r))) e, ap one-if t)
 
-  swept-judges-at : (r : ℕ) → Each (λ c. (p : Place) → find (c .entries) r ≡ some p → staleBy (find (sweptMemo memo (d .entries)) r) p ≡ staleBy (find memo r) p) rest
+  swept-judges-at : (r : ℕ) → Each (λ c. (f : Fix) → find (c .entries) r ≡ some f → staleBy (find (sweptMemo memo (d .entries)) r) f ≡ staleBy (find memo r) f) rest
   swept-judges-at r =
       option-cases (find (d .entries) r)
       (λ e. each-every _ rest (λ c p _. judged-by p (swept-lacks r e .1)))
@@ -361,7 +361,7 @@ module _ {memo : Rows Line} {new on : ℕ → Bool} (d : Cell) (rest : List Cell
 
 -- ---- one memo line changes
 
-pub found-stale : (memo : Rows Line) (r : ℕ) (x : Option Place) → countFound (λ q p. one-if (staleBy (find memo q) p)) r x ≡ countIf (staleBy (find memo r)) x
+pub found-stale : (memo : Rows Line) (r : ℕ) (x : Option Fix) → countFound (λ q p. one-if (staleBy (find memo q) p)) r x ≡ countIf (staleBy (find memo r)) x
 found-stale memo r none = refl
 found-stale memo r (some p) = refl
 
@@ -455,48 +455,48 @@ entered-at false true p o = placed-at p o
 entered-at false false p o = raised-at p o
 
 -- at that place nothing is stale
-at-live : (p : Place) (o : Option Line) → At p o → staleBy o p ≡ false
-at-live p none h = refl
-at-live p (some l) h = ap (λ q. not (isAt q p)) h ∙ ap not (samePlace-refl p)
+at-live : (f : Fix) (o : Option Line) → At (f .place) o → staleBy o f ≡ false
+at-live f none h = refl
+at-live f (some l) h = ap (λ q. not (isAt q (f .place))) h ∙ ap not (samePlace-refl (f .place))
 
 -- no entry of a cell is at a place outside it
-pub away : (c : Cell) (p : Place) → Rowed c → inside (c .edges) p ≡ false → (r : ℕ) (v : Place) → find (c .entries) r ≡ some v → samePlace p v ≡ false
-away c p k h r v e =
-    by-cases (samePlace p v)
-    (λ t. let z = ap (inside (c .edges)) (samePlace-true p v t) in let y = each-find (λ _ v. inside (c .edges) v ≡ true) r v (c .entries) (k .placed) e in cc)
+pub away : (c : Cell) (p : Place) → Rowed c → inside (c .edges) p ≡ false → (r : ℕ) (f : Fix) → find (c .entries) r ≡ some f → samePlace p (f .place) ≡ false
+away c p k h r f e =
+    by-cases (samePlace p (f .place))
+    (λ t. let z = ap (inside (c .edges)) (samePlace-true p (f .place) t) in let y = each-find (λ _ (f : Fix). inside (c .edges) (f .place) ≡ true) r f (c .entries) (k .placed) e in cc)
     (λ t. t)
 
 -- so all entries outside are stale by a line with the place
 away-stale : (o : Option Line) (p : Place) (r : ℕ) (c : Cell) → At p o → 1 ≤ missedOf o → Rowed c → inside (c .edges) p ≡ false → staleC o r c ≡ heldC r c
 away-stale none p r c h m k i = absurd (omega arith)
 away-stale (some l) p r c h m k i =
-    count-same (staleBy (some l)) (λ _. true) (find (c .entries) r) (λ v e. ap (λ q. not (isAt q v)) h ∙ ap not (away c p k i r v e))
+    count-same (staleBy (some l)) (λ _. true) (find (c .entries) r) (λ f e. ap (λ q. not (isAt q (f .place))) h ∙ ap not (away c p k i r f e))
 
--- radio r, on, reports the place p, which lies in d; d is clean, and n is the mark
-module _ {memo : Rows Line} {new on : ℕ → Bool} (d : Cell) (rest : List Cell) (b : Books (d ∷ rest) memo new on) (clean : Clean memo d) (r : ℕ) (p : Place) (n : Bool)
-    (pos : 0 < r) (top : r ≤ maxRadio) (here : inside (d .edges) p ≡ true) (square : InSquare p) (mark : new r ≡ n) (is-on : on r ≡ true) where
+-- radio r, on, reports a place, which lies in d; d is clean, and n is the mark
+module _ {memo : Rows Line} {new on : ℕ → Bool} (d : Cell) (rest : List Cell) (b : Books (d ∷ rest) memo new on) (clean : Clean memo d) (r : ℕ) (f : Fix) (n : Bool)
+    (pos : 0 < r) (top : r ≤ maxRadio) (here : inside (d .edges) (f .place) ≡ true) (square : InSquare (f .place)) (mark : new r ≡ n) (is-on : on r ≡ true) where
   -- what becomes of a line of r, the line then, and d's entries then
   abbrev lineThen : Option Line → Option Line
-  lineThen = entered (isSome (find (d .entries) r)) n p
+  lineThen = entered (isSome (find (d .entries) r)) n (f .place)
 
   abbrev lineNow : Option Line
   lineNow = lineThen (find memo r)
 
   abbrev entriesThen : Rows Fix
-  entriesThen = insert r p (d .entries)
+  entriesThen = insert r f (d .entries)
 
-  entry-same : find entriesThen r ≡ some p
-  entry-same = rw (find-alter (λ _. some p) 0 r r (d .entries) pos (b .cells-rowed .0 .rising), eq-eqb r r refl)
+  entry-same : find entriesThen r ≡ some f
+  entry-same = rw (find-alter (λ _. some f) 0 r r (d .entries) pos (b .cells-rowed .0 .rising), eq-eqb r r refl)
 
   entry-other : (q : ℕ) → eqb q r ≡ false → find entriesThen q ≡ find (d .entries) q
-  entry-other q t = rw (find-alter (λ _. some p) 0 r q (d .entries) pos (b .cells-rowed .0 .rising), t)
+  entry-other q t = rw (find-alter (λ _. some f) 0 r q (d .entries) pos (b .cells-rowed .0 .rising), t)
 
   -- an entry is the new one, or was there
-  entry-cases : {P : Type 0} (q : ℕ) (v : Place) → find entriesThen q ≡ some v → (eqb q r ≡ true → p ≡ v → P) → (eqb q r ≡ false → find (d .entries) q ≡ some v → P) → P
-  entry-cases q v e f g =
+  entry-cases : {P : Type 0} (q : ℕ) (v : Fix) → find entriesThen q ≡ some v → (eqb q r ≡ true → f ≡ v → P) → (eqb q r ≡ false → find (d .entries) q ≡ some v → P) → P
+  entry-cases q v e new old =
       by-cases (eqb q r)
-      (λ t. let z : p ≡ v = cc (entry-same, ap (find entriesThen) (eqb-true q r t)) in f t z)
-      (λ t. g t (sym (entry-other q t) ∙ e))
+      (λ t. let z : f ≡ v = cc (entry-same, ap (find entriesThen) (eqb-true q r t)) in new t z)
+      (λ t. old t (sym (entry-other q t) ∙ e))
 
   memo-same : find (alter lineThen r memo) r ≡ lineNow
   memo-same = find-alter-same lineThen 0 r memo pos (b .memo-rises)
@@ -504,9 +504,9 @@ module _ {memo : Rows Line} {new on : ℕ → Bool} (d : Cell) (rest : List Cell
   memo-other : (q : ℕ) → (q ≡ r → ⊥) → find (alter lineThen r memo) q ≡ find memo q
   memo-other = find-alter-other lineThen 0 r memo pos (b .memo-rises)
 
-  outside : Each (λ c. inside (c .edges) p ≡ false) rest
+  outside : Each (λ c. inside (c .edges) (f .place) ≡ false) rest
   unfolding sumBy
-  outside = each-map _ _ rest (λ c. one-if-false (inside (c .edges) p)) (sum-zero-each (λ c. one-if (inside (c .edges) p)) rest (omega (arith, b .apart p, ap one-if here)))
+  outside = each-map _ _ rest (λ c. one-if-false (inside (c .edges) (f .place))) (sum-zero-each (λ c. one-if (inside (c .edges) (f .place))) rest (omega (arith, b .apart (f .place), ap one-if here)))
 
   -- the entries elsewhere are what the line is to count: they were stale, and so was all that is missed, but for a live one if d has none and the mark is off
   held-elsewhere : sumBy (heldC r) rest ≡ missedOf lineNow
@@ -519,20 +519,20 @@ module _ {memo : Rows Line} {new on : ℕ → Bool} (d : Cell) (rest : List Cell
       let found = held-found (find (d .entries) r) in
       let marked = ap one-if mark in
       let signed = ap one-if is-on in
-      omega (arith, k .counted, k .present, live-stale o r rest, entered-missed (isSome (find (d .entries) r)) n p o (omega (arith, k .present)))
+      omega (arith, k .counted, k .present, live-stale o r rest, entered-missed (isSome (find (d .entries) r)) n (f .place) o (omega (arith, k .present)))
 
-  at-place : At p lineNow
-  at-place = entered-at (isSome (find (d .entries) r)) n p (find memo r)
+  at-place : At (f .place) lineNow
+  at-place = entered-at (isSome (find (d .entries) r)) n (f .place) (find memo r)
 
   stale-elsewhere : sumBy (staleC lineNow r) rest ≡ sumBy (heldC r) rest
   stale-elsewhere =
       by-cases (ltb 0 (missedOf lineNow))
       (λ t. sum-each (staleC lineNow r) (heldC r) rest
-      (each-zip _ _ _ rest (λ c k i. away-stale lineNow p r c at-place (ltb-true 0 (missedOf lineNow) t) k i) (b .cells-rowed .1) outside))
+      (each-zip _ _ _ rest (λ c k i. away-stale lineNow (f .place) r c at-place (ltb-true 0 (missedOf lineNow) t) k i) (b .cells-rowed .1) outside))
       (λ t. omega (arith, held-elsewhere, live-stale lineNow r rest, ltb-false 0 (missedOf lineNow) t))
 
-  live-here : staleBy lineNow p ≡ false
-  live-here = at-live p lineNow at-place
+  live-here : staleBy lineNow f ≡ false
+  live-here = at-live f lineNow at-place
 
   entered-book : Book (withEntries entriesThen d ∷ rest) r lineNow false (on r)
   unfolding sumBy
@@ -553,11 +553,11 @@ module _ {memo : Rows Line} {new on : ℕ → Bool} (d : Cell) (rest : List Cell
   entered-rowed =
       let k = b .cells-rowed .0 in
       record {
-        rising = rising-alter (λ _. some p) 0 r (d .entries) pos (k .rising);
-        radios = upTo-alter (λ _. some p) maxRadio r (d .entries) top (k .radios);
-        placed = find-each (λ _ v. inside (d .edges) v ≡ true) 0 entriesThen (rising-alter (λ _. some p) 0 r (d .entries) pos (k .rising)) (λ q v e. entry-cases q v e
+        rising = rising-alter (λ _. some f) 0 r (d .entries) pos (k .rising);
+        radios = upTo-alter (λ _. some f) maxRadio r (d .entries) top (k .radios);
+        placed = find-each (λ _ (v : Fix). inside (d .edges) (v .place) ≡ true) 0 entriesThen (rising-alter (λ _. some f) 0 r (d .entries) pos (k .rising)) (λ q v e. entry-cases q v e
             (λ _ z. rw (← z) here)
-            (λ _ f. each-find (λ _ v. inside (d .edges) v ≡ true) q v (d .entries) (k .placed) f));
+            (λ _ s. each-find (λ _ (v : Fix). inside (d .edges) (v .place) ≡ true) q v (d .entries) (k .placed) s));
       }
 
   entered-books : Books (withEntries entriesThen d ∷ rest) (alter lineThen r memo) (putAt r false new) on
@@ -565,13 +565,13 @@ module _ {memo : Rows Line} {new on : ℕ → Bool} (d : Cell) (rest : List Cell
   entered-books =
       books-from (entered-rowed, b .cells-rowed .1) (λ v. b .apart v) (rising-alter lineThen 0 r memo pos (b .memo-rises)) (upTo-alter lineThen maxRadio r memo top (b .memo-radios))
       (altered-lines lineThen r memo pos (b .memo-rises) (b .lines)
-      (λ l e. entered-line (isSome (find (d .entries) r)) n p (find memo r) l square (λ m f. b .lines r m f .0) e))
+      (λ l e. entered-line (isSome (find (d .entries) r)) n (f .place) (find memo r) l square (λ m s. b .lines r m s .0) e))
       entered-books-at
 
   entered-clean : Clean (alter lineThen r memo) (withEntries entriesThen d)
   entered-clean = clean-find (alter lineThen r memo) (withEntries entriesThen d) entered-rowed (λ q v e. entry-cases q v e
       (λ t z. judged-by v (ap (find (alter lineThen r memo)) (eqb-true q r t) ∙ memo-same) ∙ ap (staleBy lineNow) (sym z) ∙ live-here)
-      (λ t f. judged-by v (memo-other q (eqb-false q r t)) ∙ find-clean memo d (b .cells-rowed .0) clean q v f))
+      (λ t s. judged-by v (memo-other q (eqb-false q r t)) ∙ find-clean memo d (b .cells-rowed .0) clean q v s))
 
   entered-stale : (j : ℕ) → sumBy (staleIn (alter lineThen r memo)) (drop j rest) ≤ sumBy (staleIn memo) (drop j rest) + 1
   unfolding sumBy
@@ -580,8 +580,8 @@ module _ {memo : Rows Line} {new on : ℕ → Bool} (d : Cell) (rest : List Cell
 -- what is asked of a report that goes into a cell with these edges
 pub record Enters (edges : Rect) (new on : ℕ → Bool) (w : Row Report) : Type 0 where
   pub radio : w .key ≤ maxRadio
-  pub here : inside edges (w .val .place) ≡ true
-  pub square : InSquare (w .val .place)
+  pub here : inside edges (w .val .fix .place) ≡ true
+  pub square : InSquare (w .val .fix .place)
   pub marked : new (w .key) ≡ w .val .new
   pub signed : on (w .key) ≡ true
 
@@ -597,15 +597,15 @@ module _ {memo : Rows Line} {new on : ℕ → Bool} (d : Cell) (rest : List Cell
     (w : Row Report) (pos : 0 < w .key) (e : Enters (d .edges) new on w) where
   pub books-enter : Books (withEntries (enter w (workOf memo d) .entries) d ∷ rest) (enter w (workOf memo d) .memo) (putAt (w .key) false new) on
   unfolding enter
-  books-enter = entered-books d rest b clean (w .key) (w .val .place) (w .val .new) pos (e .radio) (e .here) (e .square) (e .marked) (e .signed)
+  books-enter = entered-books d rest b clean (w .key) (w .val .fix) (w .val .new) pos (e .radio) (e .here) (e .square) (e .marked) (e .signed)
 
   pub clean-enter : Clean (enter w (workOf memo d) .memo) (withEntries (enter w (workOf memo d) .entries) d)
   unfolding enter
-  clean-enter = entered-clean d rest b clean (w .key) (w .val .place) (w .val .new) pos (e .radio) (e .here) (e .square) (e .marked) (e .signed)
+  clean-enter = entered-clean d rest b clean (w .key) (w .val .fix) (w .val .new) pos (e .radio) (e .here) (e .square) (e .marked) (e .signed)
 
   pub stale-enter : (j : ℕ) → sumBy (staleIn (enter w (workOf memo d) .memo)) (drop j rest) ≤ sumBy (staleIn memo) (drop j rest) + 1
   unfolding enter
-  stale-enter = entered-stale d rest b clean (w .key) (w .val .place) (w .val .new) pos (e .radio) (e .here) (e .square) (e .marked) (e .signed)
+  stale-enter = entered-stale d rest b clean (w .key) (w .val .fix) (w .val .new) pos (e .radio) (e .here) (e .square) (e .marked) (e .signed)
 
 -- ---- reports are entered one by one
 
@@ -665,7 +665,7 @@ books-on {cells} {memo} {new} {on} r off b =
 
 -- ---- sign-off
 
-raised-stale : (o : Option Line) (p : Place) → staleBy (raised none o) p ≡ true
+raised-stale : (o : Option Line) (f : Fix) → staleBy (raised none o) f ≡ true
 raised-stale none p = refl
 raised-stale (some l) p = refl
 
@@ -717,7 +717,7 @@ module _ (c : Cut) (n : ℕ) (d : Cell) (cuts : through (spanOf (c .axis) (d .ed
   rowed-low k = record {
     rising = rising-filter (lowSide c) 0 (d .entries) (k .rising);
     radios = each-filter _ _ (lowSide c) (d .entries) (λ x h _. h) (k .radios);
-    placed = each-filter _ _ (lowSide c) (d .entries) (λ x h t. inside-low c (d .edges) (x .val) h t) (k .placed);
+    placed = each-filter _ _ (lowSide c) (d .entries) (λ x h t. inside-low c (d .edges) (x .val .place) h t) (k .placed);
   }
 
   rowed-high : Rowed d → Rowed (highCell c n d)
@@ -725,10 +725,10 @@ module _ (c : Cut) (n : ℕ) (d : Cell) (cuts : through (spanOf (c .axis) (d .ed
   rowed-high k = record {
     rising = rising-filter (λ e. not (lowSide c e)) 0 (d .entries) (k .rising);
     radios = each-filter _ _ (λ e. not (lowSide c e)) (d .entries) (λ x h _. h) (k .radios);
-    placed = each-filter _ _ (λ e. not (lowSide c e)) (d .entries) (λ x h t. inside-high c (d .edges) (x .val) h (not-true (lowSide c x) t)) (k .placed);
+    placed = each-filter _ _ (λ e. not (lowSide c e)) (d .entries) (λ x h t. inside-high c (d .edges) (x .val .place) h (not-true (lowSide c x) t)) (k .placed);
   }
 
-  count-cut : (t : Place → Bool) (r : ℕ) → Rising 0 (d .entries) → countIf t (find (lowCell c d .entries) r) + countIf t (find (highCell c n d .entries) r) ≡ countIf t (find (d .entries) r)
+  count-cut : (t : Fix → Bool) (r : ℕ) → Rising 0 (d .entries) → countIf t (find (lowCell c d .entries) r) + countIf t (find (highCell c n d .entries) r) ≡ countIf t (find (d .entries) r)
   unfolding lowCell highCell
   count-cut t r a =
       omega (
@@ -754,7 +754,7 @@ module _ (c : Cut) (n : ℕ) (d : Cell) (cuts : through (spanOf (c .axis) (d .ed
 abbrev pub joinedCell : ℕ → List ℕ → Cell → Cell → Cell
 joinedCell k chain d n = record { number = k; edges = joinedEdges (d .edges) (n .edges); chain = chain; entries = merge (n .entries) (d .entries) }
 
-count-orElse : (t : Place → Bool) (x y : Option Place) → countIf (λ _. true) x + countIf (λ _. true) y ≤ 1 → countIf t (orElse x y) ≡ countIf t x + countIf t y
+count-orElse : (t : Fix → Bool) (x y : Option Fix) → countIf (λ _. true) x + countIf (λ _. true) y ≤ 1 → countIf t (orElse x y) ≡ countIf t x + countIf t y
 count-orElse t none y h = omega arith
 count-orElse t (some p) none h = omega arith
 count-orElse t (some p) (some q) h = absurd (omega arith)
@@ -772,7 +772,7 @@ module _ {memo : Rows Line} {new on : ℕ → Bool} (d n : Cell) (rest : List Ce
       let e = clean-count memo n (b .cells-rowed .1 .0) clean-n r in
       omega (arith, book-of b r .present, one-if-le (on r), count-split (staleBy o) (find (d .entries) r), count-split (staleBy o) (find (n .entries) r))
 
-  pub count-joined : (t : Place → Bool) (r : ℕ) → countIf t (find (merge (n .entries) (d .entries)) r) ≡ countIf t (find (n .entries) r) + countIf t (find (d .entries) r)
+  pub count-joined : (t : Fix → Bool) (r : ℕ) → countIf t (find (merge (n .entries) (d .entries)) r) ≡ countIf t (find (n .entries) r) + countIf t (find (d .entries) r)
   count-joined t r = ap (countIf t) (find-joined r) ∙ count-orElse t (find (n .entries) r) (find (d .entries) r) (one-held r)
 
   module _ (k : ℕ) (chain : List ℕ) (side : Side) (adjoin : beside side (d .edges) (n .edges) ≡ true) where
@@ -784,10 +784,10 @@ module _ {memo : Rows Line} {new on : ℕ → Bool} (d n : Cell) (rest : List Ce
         record {
           rising = rises;
           radios = upTo-merge maxRadio (n .entries) (d .entries) (y .radios) (x .radios);
-          placed = find-each (λ _ p. inside (joinedEdges (d .edges) (n .edges)) p ≡ true) 0 (merge (n .entries) (d .entries)) rises
-              (λ r p e. orElse-cases (find (n .entries) r) (find (d .entries) r) p (sym (find-joined r) ∙ e)
-              (λ f. inside-joined-right (d .edges) (n .edges) p (each-find (λ _ p. inside (n .edges) p ≡ true) r p (n .entries) (y .placed) f))
-              (λ f. inside-joined-left (d .edges) (n .edges) p (each-find (λ _ p. inside (d .edges) p ≡ true) r p (d .entries) (x .placed) f)));
+          placed = find-each (λ _ (f : Fix). inside (joinedEdges (d .edges) (n .edges)) (f .place) ≡ true) 0 (merge (n .entries) (d .entries)) rises
+              (λ r f e. orElse-cases (find (n .entries) r) (find (d .entries) r) f (sym (find-joined r) ∙ e)
+              (λ s. inside-joined-right (d .edges) (n .edges) (f .place) (each-find (λ _ (f : Fix). inside (n .edges) (f .place) ≡ true) r f (n .entries) (y .placed) s))
+              (λ s. inside-joined-left (d .edges) (n .edges) (f .place) (each-find (λ _ (f : Fix). inside (d .edges) (f .place) ≡ true) r f (d .entries) (x .placed) s)));
         }
 
     pub books-join : Books (joinedCell k chain d n ∷ rest) memo new on
@@ -807,14 +807,14 @@ module _ {memo : Rows Line} {new on : ℕ → Bool} (d n : Cell) (rest : List Ce
 
 -- ---- the marks and who is on, as the store's rows have them (for books-ext)
 
-pub marks-signedOn : (r : ℕ) (p : Place) (waiting : Rows Report) → 0 < r → Rising 0 waiting → (q : ℕ) → putAt r true (marks waiting) q ≡ marks (insert r (record { place = p; new = true }) waiting) q
-marks-signedOn r p waiting pos a q =
-    rw (find-alter (λ _. some (record { place = p; new = true })) 0 r q waiting pos a) (by-cases (eqb q r) (λ t. rw t) (λ t. rw t))
+pub marks-signedOn : (r : ℕ) (f : Fix) (waiting : Rows Report) → 0 < r → Rising 0 waiting → (q : ℕ) → putAt r true (marks waiting) q ≡ marks (insert r (record { fix = f; new = true }) waiting) q
+marks-signedOn r f waiting pos a q =
+    rw (find-alter (λ _. some (record { fix = f; new = true })) 0 r q waiting pos a) (by-cases (eqb q r) (λ t. rw t) (λ t. rw t))
 
-pub marks-reported : (r : ℕ) (p : Place) (waiting : Rows Report) → 0 < r → Rising 0 waiting → (q : ℕ)
-    → marks waiting q ≡ marks (alter (λ w. some (record { place = p; new = wasNew w })) r waiting) q
-marks-reported r p waiting pos a q =
-    rw (find-alter (λ w. some (record { place = p; new = wasNew w })) 0 r q waiting pos a) (by-cases (eqb q r) (λ t. rw t) (λ t. rw t))
+pub marks-reported : (r : ℕ) (f : Fix) (waiting : Rows Report) → 0 < r → Rising 0 waiting → (q : ℕ)
+    → marks waiting q ≡ marks (alter (λ w. some (record { fix = f; new = wasNew w })) r waiting) q
+marks-reported r f waiting pos a q =
+    rw (find-alter (λ w. some (record { fix = f; new = wasNew w })) 0 r q waiting pos a) (by-cases (eqb q r) (λ t. rw t) (λ t. rw t))
 
 pub marks-signedOff : (r : ℕ) (waiting : Rows Report) → 0 < r → Rising 0 waiting → (q : ℕ) → putAt r false (marks waiting) q ≡ marks (alter (λ _. none) r waiting) q
 marks-signedOff r waiting pos a q = rw (find-alter (λ _. none) 0 r q waiting pos a) (by-cases (eqb q r) (λ t. rw t) (λ t. rw t))
@@ -881,7 +881,7 @@ entries-total {cells} {memo} rows s b =
 
 -- ---- a bound
 
-count-one : (t : Place → Bool) (o : Option Place) → countIf t o ≤ 1
+count-one : (t : Fix → Bool) (o : Option Fix) → countIf t o ≤ 1
 count-one t none = omega arith
 count-one t (some p) = one-if-le (t p)
 

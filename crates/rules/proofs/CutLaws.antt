@@ -91,17 +91,17 @@ median-through s l x h e =
     let highest = within-high s x (each-count (λ y. within s y ≡ true) x l h (r .1)) in
     both-intro (lt-ltb (s .low) x (omega (arith, lowest, r .0))) (le-leb x (s .high) highest)
 
-median-good : (axis : Axis) (cuts : Cuts) (edges : Rect) (es : Rows Fix) (c : Cut) → Each (λ e. inside edges (e .val) ≡ true) es → medianCut axis cuts es ≡ some c → GoodCut cuts edges c
+median-good : (axis : Axis) (cuts : Cuts) (edges : Rect) (es : Rows Fix) (c : Cut) → Each (λ e. inside edges (e .val .place) ≡ true) es → medianCut axis cuts es ≡ some c → GoodCut cuts edges c
 unfolding medianCut
 median-good axis cuts edges es c h e =
-    let l = map (λ (w : Row Fix). along axis (w .val)) es in
+    let l = map (λ (w : Row Fix). along axis (w .val .place)) es in
     let s = spanOf axis edges in
     let r = validAt-some axis cuts (median l) c e in
-    let held = each-over-map (λ y. within s y ≡ true) (λ (w : Row Fix). along axis (w .val)) es
-    (each-map (λ w. inside edges (w .val) ≡ true) (λ w. within s (along axis (w .val)) ≡ true) es (λ w t. inside-along axis edges (w .val) t) h) in
+    let held = each-over-map (λ y. within s y ≡ true) (λ (w : Row Fix). along axis (w .val .place)) es
+    (each-map (λ w. inside edges (w .val .place) ≡ true) (λ w. within s (along axis (w .val .place)) ≡ true) es (λ w t. inside-along axis edges (w .val .place) t) h) in
     subst (GoodCut cuts edges) (r .2) (record { crosses = median-through s l (r .0) held (r .1); valid = r .3 })
 
-pub chosen-good : (cuts : Cuts) (edges : Rect) (es : Rows Fix) (c : Cut) → Each (λ e. inside edges (e .val) ≡ true) es → chosenCut cuts edges es ≡ some c → GoodCut cuts edges c
+pub chosen-good : (cuts : Cuts) (edges : Rect) (es : Rows Fix) (c : Cut) → Each (λ e. inside edges (e .val .place) ≡ true) es → chosenCut cuts edges es ≡ some c → GoodCut cuts edges c
 unfolding chosenCut
 chosen-good cuts edges es c h e =
     let one = medianCut (longerSide edges) cuts es in
@@ -151,14 +151,14 @@ box-same a b t =
     let north = eqb-true (a .north) (b .north) (both-right (eqb (a .east) (b .east)) (eqb (a .north) (b .north)) t) in
     λ i. record { east = east i; north = north i }
 
-pub inBox-box : (cuts : Cuts) (m : Box) (w : Row Report) → inBox cuts m w ≡ true → boxOf cuts (w .val .place) ≡ m
+pub inBox-box : (cuts : Cuts) (m : Box) (w : Row Report) → inBox cuts m w ≡ true → boxOf cuts (w .val .fix .place) ≡ m
 unfolding inBox
-inBox-box cuts m w t = box-same (boxOf cuts (w .val .place)) m t
+inBox-box cuts m w t = box-same (boxOf cuts (w .val .fix .place)) m t
 
-pub box-inBox : (cuts : Cuts) (m : Box) (w : Row Report) → boxOf cuts (w .val .place) ≡ m → inBox cuts m w ≡ true
+pub box-inBox : (cuts : Cuts) (m : Box) (w : Row Report) → boxOf cuts (w .val .fix .place) ≡ m → inBox cuts m w ≡ true
 unfolding inBox
 box-inBox cuts m w e =
-    let b = boxOf cuts (w .val .place) in
+    let b = boxOf cuts (w .val .fix .place) in
     both-intro (eq-eqb (b .east) (m .east) (ap (λ (n : Box). n .east) e)) (eq-eqb (b .north) (m .north) (ap (λ (n : Box). n .north) e))
 
 -- after a cut no memory cell has more waiting than one had before
@@ -168,10 +168,10 @@ waiting-finer c cuts ws k h m =
     any-cases (inBox (cutsWith c cuts) m) ws
     (λ e. omega (arith, e, h m))
     (λ v t.
-    let b = boxOf cuts (v .val .place) in
+    let b = boxOf cuts (v .val .fix .place) in
     let finer : (w : Row Report) → one-if (inBox (cutsWith c cuts) m w) ≤ one-if (inBox cuts b w) = λ w.
     by-cases (inBox (cutsWith c cuts) m w)
-    (λ u. let same = box-finer c cuts (w .val .place) (v .val .place) (inBox-box (cutsWith c cuts) m w u ∙ sym (inBox-box (cutsWith c cuts) m v t)) in
+    (λ u. let same = box-finer c cuts (w .val .fix .place) (v .val .fix .place) (inBox-box (cutsWith c cuts) m w u ∙ sym (inBox-box (cutsWith c cuts) m v t)) in
     omega (arith, ap one-if u, ap one-if (box-inBox cuts b w same)))
     (λ u. omega (arith, ap one-if u)) in
     omega (arith, h b, sum-le (λ w. one-if (inBox (cutsWith c cuts) m w)) (λ w. one-if (inBox cuts b w)) ws finer))
@@ -182,19 +182,19 @@ waiting-length cuts ws m = length-filter (inBox cuts m) ws
 
 -- one radio's report is replaced, made or discarded
 pub waiting-alter : (cuts : Cuts) (g : Option Report → Option Report) (r : ℕ) (ws : Rows Report) (m : Box) → 0 < r → Rising 0 ws
-    → waitingIn cuts (alter g r ws) m + countFound (λ _ w. one-if (sameBox (boxOf cuts (w .place)) m)) r (find ws r)
-    ≡ waitingIn cuts ws m + countFound (λ _ w. one-if (sameBox (boxOf cuts (w .place)) m)) r (g (find ws r))
+    → waitingIn cuts (alter g r ws) m + countFound (λ _ w. one-if (sameBox (boxOf cuts (w .fix .place)) m)) r (find ws r)
+    ≡ waitingIn cuts ws m + countFound (λ _ w. one-if (sameBox (boxOf cuts (w .fix .place)) m)) r (g (find ws r))
 unfolding waitingIn inBox
-waiting-alter cuts g r ws m h a = sum-alter (λ _ w. one-if (sameBox (boxOf cuts (w .place)) m)) g 0 r ws h a
+waiting-alter cuts g r ws m h a = sum-alter (λ _ w. one-if (sameBox (boxOf cuts (w .fix .place)) m)) g 0 r ws h a
 
 -- no memory cell has more than before, but for one more in that of the new place
 pub waiting-new : (cuts : Cuts) (g : Option Report → Option Report) (r : ℕ) (ws : Rows Report) (w : Report) (m : Box) → 0 < r → Rising 0 ws → g (find ws r) ≡ some w
-    → waitingIn cuts (alter g r ws) m ≤ waitingIn cuts ws m + one-if (sameBox (boxOf cuts (w .place)) m)
-waiting-new cuts g r ws w m h a e = omega (arith, waiting-alter cuts g r ws m h a, ap (countFound (λ _ v. one-if (sameBox (boxOf cuts (v .place)) m)) r) e)
+    → waitingIn cuts (alter g r ws) m ≤ waitingIn cuts ws m + one-if (sameBox (boxOf cuts (w .fix .place)) m)
+waiting-new cuts g r ws w m h a e = omega (arith, waiting-alter cuts g r ws m h a, ap (countFound (λ _ v. one-if (sameBox (boxOf cuts (v .fix .place)) m)) r) e)
 
 pub waiting-less : (cuts : Cuts) (g : Option Report → Option Report) (r : ℕ) (ws : Rows Report) (m : Box) → 0 < r → Rising 0 ws → g (find ws r) ≡ none
     → waitingIn cuts (alter g r ws) m ≤ waitingIn cuts ws m
-waiting-less cuts g r ws m h a e = omega (arith, waiting-alter cuts g r ws m h a, ap (countFound (λ _ v. one-if (sameBox (boxOf cuts (v .place)) m)) r) e)
+waiting-less cuts g r ws m h a e = omega (arith, waiting-alter cuts g r ws m h a, ap (countFound (λ _ v. one-if (sameBox (boxOf cuts (v .fix .place)) m)) r) e)
 
 -- ---- once the reports of m wait no longer
 
@@ -241,17 +241,17 @@ most-best howMany cuts =
     x xs in
     (m, ap (mostOf howMany) n, λ p. ltb-false (howMany m) (howMany (boxOf cuts p)) (boxes-hold (λ z. better z m ≡ false) cuts p (subst (Each (λ z. better z m ≡ false)) (sym n) none-more))))
 
-waiting-here : (cuts : Cuts) (w : Row Report) (ws : Rows Report) → 1 ≤ waitingIn cuts (w ∷ ws) (boxOf cuts (w .val .place))
+waiting-here : (cuts : Cuts) (w : Row Report) (ws : Rows Report) → 1 ≤ waitingIn cuts (w ∷ ws) (boxOf cuts (w .val .fix .place))
 unfolding waitingIn
 waiting-here cuts w ws =
-    let b = boxOf cuts (w .val .place) in
+    let b = boxOf cuts (w .val .fix .place) in
     omega (arith, sum-cons (λ v. one-if (inBox cuts b v)) w ws, ap one-if (box-inBox cuts b w refl))
 
 pub most-some : (cuts : Cuts) (ws : Rows Report) → 1 ≤ length ws → (m : Box) × (mostOf (waitingIn cuts ws) (boxes cuts) ≡ some m) × (1 ≤ waitingIn cuts ws m)
 most-some cuts [] h = absurd (not-suc-le-zero h)
 most-some cuts (w ∷ ws) h =
     let r = most-best (waitingIn cuts (w ∷ ws)) cuts in
-    (r .0, r .1, omega (arith, r .2 (w .val .place), waiting-here cuts w ws))
+    (r .0, r .1, omega (arith, r .2 (w .val .fix .place), waiting-here cuts w ws))
 
 -- ---- the memory cell to flush
 

@@ -93,7 +93,7 @@ module _ (m : Box) (s : Store) (d : Cell) (k : Core s) (a : Among (s .cells) d) 
       let square = k .waits .waiting-placed r w e in
       record {
         radio = each-find (λ q v. q ≤ maxRadio) r w (s .waiting) (k .waits .waiting-radios) e;
-        here = inside-home (s .cuts) (s .cells) d m (w .place) (k .tiling) (each-among (Edged (s .cuts)) (k .tiling .cells-edged) a) home square (inBox-box (s .cuts) m (record { key = r; val = w }) t);
+        here = inside-home (s .cuts) (s .cells) d m (w .fix .place) (k .tiling) (each-among (Edged (s .cuts)) (k .tiling .cells-edged) a) home square (inBox-box (s .cuts) m (record { key = r; val = w }) t);
         square = square;
         marked = ap wasNew e;
         signed = report-on r w e;
@@ -342,7 +342,7 @@ module _ (f : Flushed) (d₀ : Cell) (before after : List Cell) (memo : Rows Lin
 
   -- ---- the whole
 
-  placed-flushed : Each (λ e. inside (f .cell .edges) (e .val) ≡ true) (f .cell .entries)
+  placed-flushed : Each (λ e. inside (f .cell .edges) (e .val .place) ≡ true) (f .cell .entries)
   placed-flushed = r .books .cells-rowed .0 .placed
 
   pub split-or : (o : Option Cut) → chosenCut (f .store .cuts) (f .cell .edges) (f .cell .entries) ≡ o → length (f .store .cells) < maxCells → MidCall (splitOr o f) c

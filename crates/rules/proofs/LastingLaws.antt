@@ -9,7 +9,7 @@ use native.Mathlib.Omega.{arith}
 use lib.Dec.{eqb, ltb}
 use lib.ListN.{length, length-append}
 use borrow.Author.Tests.{eqb-true, eqb-false, eq-eqb}
-use Rattle.terms.specs.Terms.{Place}
+use Rattle.terms.specs.Terms.{Place, Fix}
 use Rattle.lists.specs.Among.{Among}
 use Rattle.lists.specs.Rows.{Rows, find, alter, insert}
 use Rattle.lists.specs.Tests.{Each, both}
@@ -180,28 +180,28 @@ nearer s stay k early e c now old =
     let l = stay c (j .0 .was) (j .1) in
     record { was = l .at; sooner = omega (arith, j .0 .sooner, l .late) }
 
--- a report is put among the waiting (f, as in put-few): u is the store then
-module _ (s : Store) (w : WellFormed s) (r : ℕ) (h : 1 ≤ r) (f : Option Report → Option Report) (p : Place) (b : Bool)
-    (put : f (find (s .waiting) r) ≡ some (record { place = p; new = b })) (on : Rows (Unit {0})) where
+-- a report is put among the waiting (g, as in put-few): u is the store then
+module _ (s : Store) (w : WellFormed s) (r : ℕ) (h : 1 ≤ r) (g : Option Report → Option Report) (f : Fix) (b : Bool)
+    (put : g (find (s .waiting) r) ≡ some (record { fix = f; new = b })) (on : Rows (Unit {0})) where
   abbrev put-store : Store
-  put-store = withWaiting (alter f r (s .waiting)) (withOn on s)
+  put-store = withWaiting (alter g r (s .waiting)) (withOn on s)
 
-  put-nearer : Core put-store → OldComeNearer s (tick (afterReport p put-store))
+  put-nearer : Core put-store → OldComeNearer s (tick (afterReport (f .place) put-store))
   put-nearer k =
-      let bounded = put-bounded s w r h f p b put in
-      let few = put-few s w r h f p b put in
+      let bounded = put-bounded s w r h g f b put in
+      let few = put-few s w r h g f b put in
       let late : s .tally + 1 ≤ sweepEvery = omega (arith, w .tallied) in
-      nearer (afterReport p put-store) (stay-report p put-store k bounded (w .tallied) few)
-      (report-done p put-store (s .tally + 1) k bounded late few (put-boxes s w r h f p b put) .mid .core) (w .tallied) (after-tally p put-store)
+      nearer (afterReport (f .place) put-store) (stay-report (f .place) put-store k bounded (w .tallied) few)
+      (report-done (f .place) put-store (s .tally + 1) k bounded late few (put-boxes s w r h g f b put) .mid .core) (w .tallied) (after-tally (f .place) put-store)
 
 -- what an accepted sign-on, report or sign-off leaves
 counted-nearer : (q : Request) (s : Store) (buffer : List ℕ) → WellFormed s → Accepted (isOn s) (onCount s) q → isCounted q ≡ true
     → OldComeNearer s (carriedOut q s buffer .store)
 unfolding carriedOut signedOn reported signedOff
-counted-nearer q s buffer w (on-passed r p h k i off room) e =
-    put-nearer s w r h (λ _. some (record { place = p; new = true })) p true refl (insert r tt (s .on)) (on-core s w r p h k i off room)
-counted-nearer q s buffer w (report-passed r p h k i on) e =
-    put-nearer s w r h (λ o. some (record { place = p; new = wasNew o })) p (wasNew (find (s .waiting) r)) refl (s .on) (report-core s w r p h k i on)
+counted-nearer q s buffer w (on-passed r f h k i off room) e =
+    put-nearer s w r h (λ _. some (record { fix = f; new = true })) f true refl (insert r tt (s .on)) (on-core s w r f h k i off room)
+counted-nearer q s buffer w (report-passed r f h k i on) e =
+    put-nearer s w r h (λ o. some (record { fix = f; new = wasNew o })) f (wasNew (find (s .waiting) r)) refl (s .on) (report-core s w r f h k i on)
 counted-nearer q s buffer w (off-passed r h k on) e =
     nearer (signedOff r s) (λ c now old. record { at = now; late = omega arith }) (off-core s w r h k on) (w .tallied) refl
 counted-nearer q s buffer w (range-passed rect) e = false-true e
@@ -209,8 +209,8 @@ counted-nearer q s buffer w (range-passed rect) e = false-true e
 -- a call that is not accepted, or a range, leaves the store
 uncounted-same : (q : Request) (s : Store) (buffer : List ℕ) → isCounted q ≡ false → carriedOut q s buffer .store ≡ s
 unfolding carriedOut
-uncounted-same (signOn r p) s buffer e = false-true (sym e)
-uncounted-same (report r p) s buffer e = false-true (sym e)
+uncounted-same (signOn r f) s buffer e = false-true (sym e)
+uncounted-same (report r f) s buffer e = false-true (sym e)
 uncounted-same (signOff r) s buffer e = false-true (sym e)
 uncounted-same (range rect) s buffer e = answered-store (found s rect) s buffer
 

@@ -8,7 +8,7 @@ use native.Mathlib.Omega.{arith}
 use lib.ListN.{length}
 use lib.Dec.{eqb, ltb}
 use borrow.Author.Tests.{eqb-true, eqb-false}
-use Rattle.terms.specs.Terms.{Place}
+use Rattle.terms.specs.Terms.{Place, Fix}
 use Rattle.lists.specs.Rows.{Rows, Rising, find, alter, passed}
 use Rattle.lists.specs.Sums.{sumBy, filter, count}
 use Rattle.lists.specs.Tests.{orElse, one-if}
@@ -23,7 +23,7 @@ use Rattle.rules.specs.Store.{Report, Line, Cell, Store, others, settled
 use Rattle.rules.specs.Sweep.{swept, sweptMemo, sweepFront, tick}
 use Rattle.rules.specs.Cut.{Cut}
 use Rattle.rules.specs.Flush.{joined, raised, inBox, Flushed, flushedInto, grown, lowCell, highCell, unusedNumber, splitAt, joinedWith, reshaped, cellOfBox, flush}
-use Rattle.rules.specs.Carry.{isOn, wasNew, placeOf, storedIn, signedOff, flushDue, afterReport, onCount, waitingIn, signedOn, reported, found, carriedOut, carry, latest}
+use Rattle.rules.specs.Carry.{isOn, wasNew, fixOf, storedIn, signedOff, flushDue, afterReport, onCount, waitingIn, signedOn, reported, found, carriedOut, carry, latest}
 use Rattle.rules.specs.WellFormed.{WellFormed}
 use Rattle.rules.specs.Records.{Request, signOn, report, signOff, range, requestOf, refusal}
 use Rattle.rules.specs.Parts.{Books, Clean, Core, marks, onSet, Bounded}
@@ -43,7 +43,7 @@ use Rattle.rules.proofs.StepLaws.{report-done, on-core, report-core, of
 
 -- d and the other cells, once the reports are in, and the store that a step makes of them
 pub record Leaves (f : Flushed) (s : Store) : Type 0 where
-  pub live : (t : Place → Bool) (q : ℕ) → liveBy t (s .memo) q (s .cells) ≡ liveBy t (f .store .memo) q (f .cell ∷ f .rest)
+  pub live : (t : Fix → Bool) (q : ℕ) → liveBy t (s .memo) q (s .cells) ≡ liveBy t (f .store .memo) q (f .cell ∷ f .rest)
   pub lines : (q : ℕ) (l : Line) → find (s .memo) q ≡ some l → (k : Line) × (find (f .store .memo) q ≡ some k) × (k .last ≡ l .last)
   pub waiting : s .waiting ≡ f .store .waiting
   pub on : s .on ≡ f .store .on
@@ -88,7 +88,7 @@ module _ (f : Flushed) (b : Books (f .cell ∷ f .rest) (f .store .memo) (marks 
     abbrev memoThen : Rows Line
     memoThen = sweptMemo (f .store .memo) (m .entries)
 
-    join-live : (t : Place → Bool) (q : ℕ) → liveBy t memoThen q (joined f m ∷ left) ≡ liveBy t (f .store .memo) q (f .cell ∷ f .rest)
+    join-live : (t : Fix → Bool) (q : ℕ) → liveBy t memoThen q (joined f m ∷ left) ≡ liveBy t (f .store .memo) q (f .cell ∷ f .rest)
     unfolding settled swept
     join-live t q =
         live-join (f .cell) (swept (f .store .memo) m) (joined f m) left memoThen (marks (f .store .waiting)) (onSet (f .store .on))
@@ -127,16 +127,16 @@ module _ (m : Box) (s : Store) (d : Cell) (c : Core s) (a : Among (s .cells) d) 
   pub swept-others : Books (swept (s .memo) d ∷ others (d .number) (s .cells)) (sweptMemo (s .memo) (d .entries)) (marks (s .waiting)) (onSet (s .on))
   swept-others = books-sweep d (others (d .number) (s .cells)) books-others
 
-  others-live : (t : Place → Bool) (q : ℕ) → liveBy t (s .memo) q (d ∷ others (d .number) (s .cells)) ≡ liveBy t (s .memo) q (s .cells)
+  others-live : (t : Fix → Bool) (q : ℕ) → liveBy t (s .memo) q (d ∷ others (d .number) (s .cells)) ≡ liveBy t (s .memo) q (s .cells)
   others-live t q =
       live-order t (s .memo) q (d ∷ others (d .number) (s .cells)) (s .cells)
       (λ g. omega (arith, sum-cons g d (others (d .number) (s .cells)), ap (sumBy g) (others-among (s .cells) d a (c .tiling .round)), sum-among g a))
 
-  -- a radio whose report goes in is stored at its place; any other stays where it is
-  pub stored-in : (t : Store) → Leaves (flushedInto m s d) t → (q : ℕ) (w : Report) → find reportsIn q ≡ some w → storedIn (t .memo) q (t .cells) ≡ some (w .place)
+  -- a radio whose report goes in is stored by it; any other stays where it is
+  pub stored-in : (t : Store) → Leaves (flushedInto m s d) t → (q : ℕ) (w : Report) → find reportsIn q ≡ some w → storedIn (t .memo) q (t .cells) ≡ some (w .fix)
   stored-in t v q w n =
       let f = report-found m s d c a home q w n in
-      stored-at (t .memo) q (t .cells) (w .place)
+      stored-at (t .memo) q (t .cells) (w .fix)
       (λ p. v .live p q
       ∙ live-flushed m s d (marks (s .waiting)) (onSet (s .on)) swept-others (c .waits .waiting-rises) q w n (report-enters m s d c a home q w (f .0) (f .1) .here) (ap wasNew (f .0)) p)
 
@@ -202,10 +202,10 @@ latest-flush m s c q =
     let a = c .waits .waiting-rises in
     let w = flushed-waiting m s f in
     option-cases (find (filter (inBox (s .cuts) m) (s .waiting)) q)
-    (λ n. ap₂ orElse (ap (λ (l : Rows Report). placeOf (find l q)) w ∙ ap placeOf (kept-report m s a q n)) (stored-out m s (f .cell) c (f .among) (f .home) (flush m s) (f .leaves) q n))
+    (λ n. ap₂ orElse (ap (λ (l : Rows Report). fixOf (find l q)) w ∙ ap fixOf (kept-report m s a q n)) (stored-out m s (f .cell) c (f .among) (f .home) (flush m s) (f .leaves) q n))
     (λ v n.
-    ap₂ orElse (ap (λ (l : Rows Report). placeOf (find l q)) w ∙ ap placeOf (gone-report m s a q v n)) (stored-in m s (f .cell) c (f .among) (f .home) (flush m s) (f .leaves) q v n)
-    ∙ sym (ap (λ (o : Option Report). orElse (placeOf o) (storedIn (s .memo) q (s .cells))) (report-found m s (f .cell) c (f .among) (f .home) q v n .0)))
+    ap₂ orElse (ap (λ (l : Rows Report). fixOf (find l q)) w ∙ ap fixOf (gone-report m s a q v n)) (stored-in m s (f .cell) c (f .among) (f .home) (flush m s) (f .leaves) q v n)
+    ∙ sym (ap (λ (o : Option Report). orElse (fixOf o) (storedIn (s .memo) q (s .cells))) (report-found m s (f .cell) c (f .among) (f .home) q v n .0)))
 
 -- ---- the tally
 
@@ -214,7 +214,7 @@ module _ (s : Store) (b : Books (s .cells) (s .memo) (marks (s .waiting)) (onSet
   front-books = subst (λ (l : List Cell). Books l (s .memo) (marks (s .waiting)) (onSet (s .on))) e b
 
   -- the live entries stay
-  front-live : (t : Place → Bool) (q : ℕ) → liveBy t (sweptMemo (s .memo) (d .entries)) q (cs ++ (settled (s .free) (swept (s .memo) d) ∷ [])) ≡ liveBy t (s .memo) q (d ∷ cs)
+  front-live : (t : Fix → Bool) (q : ℕ) → liveBy t (sweptMemo (s .memo) (d .entries)) q (cs ++ (settled (s .free) (swept (s .memo) d) ∷ [])) ≡ liveBy t (s .memo) q (d ∷ cs)
   front-live t q =
       live-back t (sweptMemo (s .memo) (d .entries)) q cs (settled (s .free) (swept (s .memo) d) ∷ [])
       ∙ live-settled t (sweptMemo (s .memo) (d .entries)) q (s .free) (swept (s .memo) d) cs
@@ -232,43 +232,54 @@ latest-tick s b q =
     (λ t. rw t)
     (λ t. rw t (list-cases (s .cells)
     (λ e. subst (λ (l : List Cell). latest (sweepFront l s) q ≡ latest s q) (sym e) (unfold sweepFront in refl))
-    (λ d cs e. subst (λ (l : List Cell). latest (sweepFront l s) q ≡ latest s q) (sym e) (unfold sweepFront in ap (orElse (placeOf (find (s .waiting) q))) (stored-front s b d cs e q)))))
+    (λ d cs e. subst (λ (l : List Cell). latest (sweepFront l s) q ≡ latest s q) (sym e) (unfold sweepFront in ap (orElse (fixOf (find (s .waiting) q))) (stored-front s b d cs e q)))))
 
 -- ---- the record's own effect
 
-latest-put : (s : Store) → Rising 0 (s .waiting) → (r : ℕ) (p : Place) → 1 ≤ r → (f : Option Report → Option Report) → (placeOf (f (find (s .waiting) r)) ≡ some p) → (q : ℕ)
-    → orElse (placeOf (find (alter f r (s .waiting)) q)) (storedIn (s .memo) q (s .cells)) ≡ cond (eqb q r) (some p) (latest s q)
+latest-put : (s : Store) → Rising 0 (s .waiting) → (r : ℕ) (f : Fix) → 1 ≤ r → (g : Option Report → Option Report) → (fixOf (g (find (s .waiting) r)) ≡ some f) → (q : ℕ)
+    → orElse (fixOf (find (alter g r (s .waiting)) q)) (storedIn (s .memo) q (s .cells)) ≡ cond (eqb q r) (some f) (latest s q)
 unfolding latest
-latest-put s a r p h f e q =
-    rw (find-alter f 0 r q (s .waiting) h a) (by-cases (eqb q r)
+latest-put s a r f h g e q =
+    rw (find-alter g 0 r q (s .waiting) h a) (by-cases (eqb q r)
     (λ t. rw (t, eqb-true q r t, e))
     (λ t. rw t))
 
-pub latest-on : (s : Store) → Rising 0 (s .waiting) → (r : ℕ) (p : Place) → 1 ≤ r → (q : ℕ) → latest (signedOn r p s) q ≡ cond (eqb q r) (some p) (latest s q)
+pub latest-on : (s : Store) → Rising 0 (s .waiting) → (r : ℕ) (f : Fix) → 1 ≤ r → (q : ℕ) → latest (signedOn r f s) q ≡ cond (eqb q r) (some f) (latest s q)
 unfolding signedOn
-latest-on s a r p h q = unfold latest in latest-put s a r p h (λ _. some (record { place = p; new = true })) refl q
+latest-on s a r f h q = unfold latest in latest-put s a r f h (λ _. some (record { fix = f; new = true })) refl q
 
-pub latest-report : (s : Store) → Rising 0 (s .waiting) → (r : ℕ) (p : Place) → 1 ≤ r → (q : ℕ) → latest (reported r p s) q ≡ cond (eqb q r) (some p) (latest s q)
+pub latest-report : (s : Store) → Rising 0 (s .waiting) → (r : ℕ) (f : Fix) → 1 ≤ r → (q : ℕ) → latest (reported r f s) q ≡ cond (eqb q r) (some f) (latest s q)
 unfolding reported
-latest-report s a r p h q = unfold latest in latest-put s a r p h (λ w. some (record { place = p; new = wasNew w })) refl q
+latest-report s a r f h q = unfold latest in latest-put s a r f h (λ w. some (record { fix = f; new = wasNew w })) refl q
 
 -- a sign-on that never left memory: none of its radio's entries counts
 new-unstored : (s : Store) → Core s → (r : ℕ) → wasNew (find (s .waiting) r) ≡ true → storedIn (s .memo) r (s .cells) ≡ none
 new-unstored s c r u =
     stored-none (s .memo) r (s .cells) (omega (arith, c .books .present r, ap one-if u, one-if-le (onSet (s .on) r)))
 
-pub latest-off : (s : Store) → Core s → (r : ℕ) → 1 ≤ r → (q : ℕ) → latest (signedOff r s) q ≡ cond (eqb q r) none (latest s q)
-unfolding signedOff latest
-latest-off s c r h q =
-    rw (find-alter (λ _. none) 0 r q (s .waiting) h (c .waits .waiting-rises)) (by-cases (eqb q r)
+-- nothing of the radio is stored then, and every other stays
+pub stored-off : (s : Store) → Core s → (r : ℕ) → 1 ≤ r → (q : ℕ) → storedIn (signedOff r s .memo) q (s .cells) ≡ cond (eqb q r) none (storedIn (s .memo) q (s .cells))
+unfolding signedOff
+stored-off s c r h q =
+    by-cases (eqb q r)
     (λ t. rw (t, eqb-true q r t) (by-cases (wasNew (find (s .waiting) r))
     (λ u. rw u (new-unstored s c r u))
     (λ u. rw u (stored-none (alter (raised none) r (s .memo)) r (s .cells) (live-off (s .memo) r h (c .books .memo-rises) (s .cells))))))
     (λ t. rw t (by-cases (wasNew (find (s .waiting) r))
     (λ u. rw u)
-    (λ u. rw u (ap (orElse (placeOf (find (s .waiting) q)))
-    (stored-same (s .memo) (alter (raised none) r (s .memo)) q (s .cells) (s .cells) (live-off-other (s .memo) r h (c .books .memo-rises) (s .cells) q (eqb-false q r t))
-    (live-one (s .cells) (s .memo) (marks (s .waiting)) (onSet (s .on)) q (c .books))))))))
+    (λ u. rw u (stored-same (s .memo) (alter (raised none) r (s .memo)) q (s .cells) (s .cells) (live-off-other (s .memo) r h (c .books .memo-rises) (s .cells) q (eqb-false q r t))
+    (live-one (s .cells) (s .memo) (marks (s .waiting)) (onSet (s .on)) q (c .books))))))
+
+pub latest-off : (s : Store) → Core s → (r : ℕ) → 1 ≤ r → (q : ℕ) → latest (signedOff r s) q ≡ cond (eqb q r) none (latest s q)
+unfolding latest
+latest-off s c r h q =
+    ap₂ orElse (ap fixOf waiting-off) (stored-off′ ∙ stored-off s c r h q) ∙ by-cases (eqb q r) (λ t. rw t) (λ t. rw t)
+  where
+    waiting-off : find (signedOff r s .waiting) q ≡ cond (eqb q r) none (find (s .waiting) q)
+    waiting-off = unfold signedOff in find-alter (λ _. none) 0 r q (s .waiting) h (c .waits .waiting-rises)
+
+    stored-off′ : storedIn (signedOff r s .memo) q (signedOff r s .cells) ≡ storedIn (signedOff r s .memo) q (s .cells)
+    stored-off′ = unfold signedOff in refl
 
 -- ---- any call
 
@@ -277,9 +288,9 @@ unfolding afterReport
 latest-after p s c q = option-cases (flushDue s p) (λ e. rw e) (λ m e. rw e (latest-flush m s c q))
 
 -- what an accepted record makes of the latest places
-unfoldable pub latestBy : Request → (ℕ → Option Place) → ℕ → Option Place
-latestBy (signOn r p) before q = cond (eqb q r) (some p) (before q)
-latestBy (report r p) before q = cond (eqb q r) (some p) (before q)
+unfoldable pub latestBy : Request → (ℕ → Option Fix) → ℕ → Option Fix
+latestBy (signOn r f) before q = cond (eqb q r) (some f) (before q)
+latestBy (report r f) before q = cond (eqb q r) (some f) (before q)
 latestBy (signOff r) before q = cond (eqb q r) none (before q)
 latestBy (range rect) before q = before q
 
@@ -290,17 +301,17 @@ settled-latest p s c b t few boxes q =
 
 done-latest : (k : Request) (s : Store) (buffer : List ℕ) → WellFormed s → Accepted (isOn s) (onCount s) k → (q : ℕ) → latest (carriedOut k s buffer .store) q ≡ latestBy k (latest s) q
 unfolding carriedOut latestBy signedOn reported
-done-latest k s buffer w (on-passed r p h i g off room) q =
-    let f : Option Report → Option Report = λ _. some (record { place = p; new = true }) in
-    settled-latest p (signedOn r p s) (on-core s w r p h i g off room) (put-bounded s w r h f p true refl) (w .tallied) (put-few s w r h f p true refl)
-    (put-boxes s w r h f p true refl) q
-    ∙ latest-on s (w .waiting-rises) r p h q
-done-latest k s buffer w (report-passed r p h i g on) q =
-    let f : Option Report → Option Report = λ o. some (record { place = p; new = wasNew o }) in
+done-latest k s buffer w (on-passed r f h i here off room) q =
+    let g : Option Report → Option Report = λ _. some (record { fix = f; new = true }) in
+    settled-latest (f .place) (signedOn r f s) (on-core s w r f h i here off room) (put-bounded s w r h g f true refl) (w .tallied) (put-few s w r h g f true refl)
+    (put-boxes s w r h g f true refl) q
+    ∙ latest-on s (w .waiting-rises) r f h q
+done-latest k s buffer w (report-passed r f h i here on) q =
+    let g : Option Report → Option Report = λ o. some (record { fix = f; new = wasNew o }) in
     let b = wasNew (find (s .waiting) r) in
-    settled-latest p (reported r p s) (report-core s w r p h i g on) (put-bounded s w r h f p b refl) (w .tallied) (put-few s w r h f p b refl)
-    (put-boxes s w r h f p b refl) q
-    ∙ latest-report s (w .waiting-rises) r p h q
+    settled-latest (f .place) (reported r f s) (report-core s w r f h i here on) (put-bounded s w r h g f b refl) (w .tallied) (put-few s w r h g f b refl)
+    (put-boxes s w r h g f b refl) q
+    ∙ latest-report s (w .waiting-rises) r f h q
 done-latest k s buffer w (off-passed r h i on) q = latest-tick (signedOff r s) (off-core s w r h i on .books) q ∙ latest-off s (well-core s w) r h q
 done-latest k s buffer w (range-passed rect) q = ap (λ (t : Store). latest t q) (answered-store (found s rect) s buffer)
 

@@ -16,25 +16,25 @@ use Rattle.lists.specs.Tests.{one-if, both, isSome}
 use Rattle.lists.proofs.Cases.{by-cases, option-cases, false-true, isSome-true, isSome-false}
 use Rattle.lists.proofs.RowsLaws.{find-below, rising-less, find-alter, ext-find, sum-rows, rising-tab, find-tab, find-within, length-found}
 use Rattle.lists.proofs.SumsLaws.{sumTo-ext}
-use Rattle.rules.specs.Grid.{Rect, covers, Cuts, Box, sameBox, boxOf}
+use Rattle.rules.specs.Grid.{Rect, Cuts, Box, sameBox, boxOf}
 use Rattle.rules.specs.Store.{Report, Line, Store, withWaiting, withOn, fresh}
 use Rattle.rules.specs.Flush.{inBox}
 use Rattle.rules.specs.Records.{refusal}
-use Rattle.rules.specs.Carry.{isOn, onCount, wasNew, placeOf, liveIn, storedIn, latest, listIf, listOf, found, waitingIn, boxToFlush, flushDue, signedOn, reported}
-use Rattle.rules.specs.Plain.{Plain, plainFresh, plainOn, plainOnCount, putAt, waitsIn, plainIn, plainDue, plainPlace, plainRefusal, plainFound}
+use Rattle.rules.specs.Carry.{isOn, onCount, wasNew, fixOf, liveIn, storedIn, latest, listed, listIf, listOf, found, waitingIn, boxToFlush, flushDue, signedOn, reported}
+use Rattle.rules.specs.Plain.{Plain, plainFresh, plainOn, plainOnCount, putAt, placeOf, waitsIn, plainIn, plainDue, plainPlace, plainRefusal, plainFound}
 use Rattle.rules.specs.Parts.{Signed, Waits}
 
 pub record Link (s : Store) (x : Plain) : Type 0 where
   pub on : (r : ℕ) → isOn s r ≡ plainOn x r
   -- the reports waiting are the plain rule's waiting radios with their latest places
-  pub waiting : (r : ℕ) → placeOf (find (s .waiting) r) ≡ cond (x .waits r) (x .latest r) none
+  pub waiting : (r : ℕ) → fixOf (find (s .waiting) r) ≡ cond (x .waits r) (x .latest r) none
   -- "marked new" is "no last place flushed"
   pub marked : (r : ℕ) → wasNew (find (s .waiting) r) ≡ both (x .waits r) (not (isSome (x .flushed r)))
   -- the live entry has the last place flushed, and so has any memo line
-  pub stored : (r : ℕ) → storedIn (s .memo) r (s .cells) ≡ x .flushed r
+  pub stored : (r : ℕ) → placeOf (storedIn (s .memo) r (s .cells)) ≡ x .flushed r
   pub lines : (r : ℕ) (l : Line) → find (s .memo) r ≡ some l → l .last ≡ x .flushed r
-  -- where nothing waits, the latest place is the last place flushed, or the radio is off
-  pub quiet : (r : ℕ) → x .waits r ≡ false → x .latest r ≡ x .flushed r
+  -- where nothing waits, the live entry has what the latest report told, or the radio is off
+  pub quiet : (r : ℕ) → x .waits r ≡ false → storedIn (s .memo) r (s .cells) ≡ x .latest r
   pub waits-on : (r : ℕ) → x .waits r ≡ true → plainOn x r ≡ true
 
 pub fresh-link : Link fresh plainFresh
@@ -56,7 +56,7 @@ unfolding latest plainOn
 latest-same s x k r =
     by-cases (x .waits r)
     (λ t. isSome-true (x .latest r) (k .waits-on r t) (λ p e. rw (k .waiting r, t, e)))
-    (λ t. rw (k .waiting r, t) (k .stored r ∙ sym (k .quiet r t)))
+    (λ t. rw (k .waiting r, t) (k .quiet r t))
 
 -- ---- the same who is on
 
@@ -68,29 +68,29 @@ refusal-same s x k g bytes =
 
 -- ---- the same list
 
-abbrev placeIn : Rect → Option Place → Option Place
+abbrev placeIn : Rect → Option Fix → Option Place
 placeIn rect none = none
-placeIn rect (some p) = cond (covers rect p) (some p) none
+placeIn rect (some f) = cond (listed rect f) (some (f .place)) none
 
-module _ (rect : Rect) (f : ℕ → Option Place) where
-  rising-listIf : (b r : ℕ) (o : Option Place) (l : Rows Fix) → b < r → Rising r l → Rising b (listIf rect r o l)
+module _ (rect : Rect) (f : ℕ → Option Fix) where
+  rising-listIf : (b r : ℕ) (o : Option Fix) (l : Rows Place) → b < r → Rising r l → Rising b (listIf rect r o l)
   rising-listIf b r none l h a = rising-less b r l (omega arith) a
-  rising-listIf b r (some p) l h a = by-cases (covers rect p) (λ t. rw t (h, a)) (λ t. rw t (rising-less b r l (omega arith) a))
+  rising-listIf b r (some g) l h a = by-cases (listed rect g) (λ t. rw t (h, a)) (λ t. rw t (rising-less b r l (omega arith) a))
 
   pub rising-listOf : (b : ℕ) (l : Rows (Unit {0})) → Rising b l → Rising b (listOf rect f l)
   unfolding listOf
   rising-listOf b [] a = tt
   rising-listOf b (x ∷ xs) a = rising-listIf b (x .key) (f (x .key)) (listOf rect f xs) (a .0) (rising-listOf (x .key) xs (a .1))
 
-  find-listIf-same : (r : ℕ) (o : Option Place) (l : Rows Fix) → Rising r l → find (listIf rect r o l) r ≡ placeIn rect o
+  find-listIf-same : (r : ℕ) (o : Option Fix) (l : Rows Place) → Rising r l → find (listIf rect r o l) r ≡ placeIn rect o
   unfolding find
   find-listIf-same r none l a = find-below r r l (omega arith) a
-  find-listIf-same r (some p) l a = by-cases (covers rect p) (λ t. rw (t, eq-eqb r r refl)) (λ t. rw t (find-below r r l (omega arith) a))
+  find-listIf-same r (some g) l a = by-cases (listed rect g) (λ t. rw (t, eq-eqb r r refl)) (λ t. rw t (find-below r r l (omega arith) a))
 
-  find-listIf-other : (r q : ℕ) (o : Option Place) (l : Rows Fix) → eqb q r ≡ false → find (listIf rect r o l) q ≡ find l q
+  find-listIf-other : (r q : ℕ) (o : Option Fix) (l : Rows Place) → eqb q r ≡ false → find (listIf rect r o l) q ≡ find l q
   unfolding find
   find-listIf-other r q none l e = refl
-  find-listIf-other r q (some p) l e = by-cases (covers rect p) (λ t. rw (t, e)) (λ t. rw t)
+  find-listIf-other r q (some g) l e = by-cases (listed rect g) (λ t. rw (t, e)) (λ t. rw t)
 
   find-listOf : (b q : ℕ) (l : Rows (Unit {0})) → Rising b l → find (listOf rect f l) q ≡ cond (isSome (find l q)) (placeIn rect (f q)) none
   unfolding listOf find
@@ -105,7 +105,7 @@ unfolding found plainFound isOn plainOn
 found-same s x k g rect =
     let all : Rows (Unit {0}) = tab maxRadio (λ i. record { key = suc i; val = tt }) in
     let rises : Rising 0 all = rising-tab maxRadio 0 suc (λ _. tt) (λ i. omega arith) in
-    ap (λ (f : ℕ → Option Place). listOf rect f (s .on)) (fun-ext (latest-same s x k))
+    ap (λ (f : ℕ → Option Fix). listOf rect f (s .on)) (fun-ext (latest-same s x k))
     ∙ ext-find 0 (listOf rect (x .latest) (s .on)) (listOf rect (x .latest) all) (rising-listOf rect (x .latest) 0 (s .on) (g .rising-on)) (rising-listOf rect (x .latest) 0 all rises)
     (λ r. find-listOf rect (x .latest) 0 r (s .on) (g .rising-on) ∙ option-cases (x .latest r)
     (λ e. rw e (never (isSome (find (s .on) r)) ∙ sym (rw (find-listOf rect (x .latest) 0 r all rises, e) (never (isSome (find all r))))))
@@ -119,19 +119,19 @@ found-same s x k g rect =
 
 -- ---- the same memory cell to flush
 
-abbrev countAt : Cuts → Box → Option Place → ℕ
+abbrev countAt : Cuts → Box → Option Fix → ℕ
 countAt cuts m none = 0
-countAt cuts m (some p) = one-if (sameBox (boxOf cuts p) m)
+countAt cuts m (some f) = one-if (sameBox (boxOf cuts (f .place)) m)
 
-count-report : (cuts : Cuts) (m : Box) (r : ℕ) (o : Option Report) → countFound (λ q w. one-if (inBox cuts m (record { key = q; val = w }))) r o ≡ countAt cuts m (placeOf o)
+count-report : (cuts : Cuts) (m : Box) (r : ℕ) (o : Option Report) → countFound (λ q w. one-if (inBox cuts m (record { key = q; val = w }))) r o ≡ countAt cuts m (fixOf o)
 unfolding inBox
 count-report cuts m r none = refl
 count-report cuts m r (some w) = refl
 
-count-plain : (cuts : Cuts) (m : Box) (b : Bool) (o : Option Place) → countAt cuts m (cond b o none) ≡ one-if (both b (waitsIn cuts m o))
+count-plain : (cuts : Cuts) (m : Box) (b : Bool) (o : Option Fix) → countAt cuts m (cond b o none) ≡ one-if (both b (waitsIn cuts m o))
 unfolding both
 count-plain cuts m true none = refl
-count-plain cuts m true (some p) = refl
+count-plain cuts m true (some f) = refl
 count-plain cuts m false o = refl
 
 pub waitingIn-same : (s : Store) (x : Plain) → Link s x → Waits (s .waiting) (s .on) → (m : Box)
@@ -141,14 +141,18 @@ waitingIn-same s x k w m =
     sum-rows (λ q v. one-if (inBox (s .cuts) m (record { key = q; val = v }))) 0 maxRadio (s .waiting) (w .waiting-rises) (w .waiting-radios)
     ∙ sumTo-ext (suc maxRadio) _ _ (λ r h. count-report (s .cuts) m r (find (s .waiting) r) ∙ ap (countAt (s .cuts) m) (k .waiting r) ∙ count-plain (s .cuts) m (x .waits r) (x .latest r))
 
-some-place : (o : Option Report) → isSome o ≡ isSome (placeOf o)
+some-fix : (o : Option Report) → isSome o ≡ isSome (fixOf o)
+some-fix none = refl
+some-fix (some w) = refl
+
+some-place : (o : Option Fix) → isSome (placeOf o) ≡ isSome o
 some-place none = refl
-some-place (some w) = refl
+some-place (some f) = refl
 
 waits-found : (s : Store) (x : Plain) → Link s x → (r : ℕ) → isSome (find (s .waiting) r) ≡ x .waits r
 unfolding plainOn
 waits-found s x k r =
-    some-place (find (s .waiting) r) ∙ ap isSome (k .waiting r)
+    some-fix (find (s .waiting) r) ∙ ap isSome (k .waiting r)
     ∙ by-cases (x .waits r) (λ t. rw t (k .waits-on r t)) (λ t. rw t)
 
 pub length-waiting : (s : Store) (x : Plain) → Link s x → Waits (s .waiting) (s .on) → length (s .waiting) ≡ sumTo (suc maxRadio) (λ r. one-if (x .waits r))
@@ -168,39 +172,39 @@ off-nothing s x k r e =
     let l = isSome-false (x .latest r) e in
     by-cases (x .waits r)
     (λ t. false-true (sym e ∙ k .waits-on r t))
-    (λ t. (t, l, sym (k .quiet r t) ∙ l))
+    (λ t. (t, l, sym (k .stored r) ∙ ap placeOf (k .quiet r t ∙ l)))
 
 -- a report is put among the waiting, marked where nothing of its radio was flushed
-module _ (s : Store) (x : Plain) (k : Link s x) (r : ℕ) (p : Place) (h : 0 < r) (rises : Rising 0 (s .waiting)) (f : Option Report → Option Report) (b : Bool)
-    (put : f (find (s .waiting) r) ≡ some (record { place = p; new = b })) (mark : b ≡ not (isSome (x .flushed r))) where
-  waiting-place : (q : ℕ) → placeOf (find (alter f r (s .waiting)) q) ≡ cond (putAt r true (x .waits) q) (putAt r (some p) (x .latest) q) none
+module _ (s : Store) (x : Plain) (k : Link s x) (r : ℕ) (f : Fix) (h : 0 < r) (rises : Rising 0 (s .waiting)) (g : Option Report → Option Report) (b : Bool)
+    (put : g (find (s .waiting) r) ≡ some (record { fix = f; new = b })) (mark : b ≡ not (isSome (x .flushed r))) where
+  waiting-place : (q : ℕ) → fixOf (find (alter g r (s .waiting)) q) ≡ cond (putAt r true (x .waits) q) (putAt r (some f) (x .latest) q) none
   waiting-place q =
-      rw (find-alter f 0 r q (s .waiting) h rises) (by-cases (eqb q r)
+      rw (find-alter g 0 r q (s .waiting) h rises) (by-cases (eqb q r)
       (λ t. rw (t, eqb-true q r t, put))
       (λ t. rw t (k .waiting q)))
 
-  marked-place : (q : ℕ) → wasNew (find (alter f r (s .waiting)) q) ≡ both (putAt r true (x .waits) q) (not (isSome (x .flushed q)))
+  marked-place : (q : ℕ) → wasNew (find (alter g r (s .waiting)) q) ≡ both (putAt r true (x .waits) q) (not (isSome (x .flushed q)))
   unfolding both
   marked-place q =
-      rw (find-alter f 0 r q (s .waiting) h rises) (by-cases (eqb q r)
+      rw (find-alter g 0 r q (s .waiting) h rises) (by-cases (eqb q r)
       (λ t. rw (t, eqb-true q r t, put) mark)
       (λ t. rw t (k .marked q)))
 
-  quiet-place : (q : ℕ) → putAt r true (x .waits) q ≡ false → putAt r (some p) (x .latest) q ≡ x .flushed q
+  quiet-place : (q : ℕ) → putAt r true (x .waits) q ≡ false → storedIn (s .memo) q (s .cells) ≡ putAt r (some f) (x .latest) q
   quiet-place q =
       by-cases (eqb q r)
       (λ t. rw t (λ e. cc))
       (λ t. rw t (λ e. k .quiet q e))
 
-  waits-place : (q : ℕ) → putAt r true (x .waits) q ≡ true → isSome (putAt r (some p) (x .latest) q) ≡ true
+  waits-place : (q : ℕ) → putAt r true (x .waits) q ≡ true → isSome (putAt r (some f) (x .latest) q) ≡ true
   unfolding plainOn
   waits-place q =
       by-cases (eqb q r)
       (λ t. rw t (λ e. refl))
       (λ t. rw t (λ e. k .waits-on q e))
 
-  link-place : (on : Rows (Unit {0})) → ((q : ℕ) → isSome (find on q) ≡ isSome (putAt r (some p) (x .latest) q))
-      → Link (withWaiting (alter f r (s .waiting)) (withOn on s)) (plainPlace r p x)
+  link-place : (on : Rows (Unit {0})) → ((q : ℕ) → isSome (find on q) ≡ isSome (putAt r (some f) (x .latest) q))
+      → Link (withWaiting (alter g r (s .waiting)) (withOn on s)) (plainPlace r f x)
   unfolding plainPlace isOn plainOn
   link-place on same = record {
     on = same;
@@ -212,19 +216,19 @@ module _ (s : Store) (x : Plain) (k : Link s x) (r : ℕ) (p : Place) (h : 0 < r
     waits-on = waits-place;
   }
 
-pub link-on : (s : Store) (x : Plain) → Link s x → (r : ℕ) (p : Place) → 1 ≤ r → Signed (s .on) → Waits (s .waiting) (s .on) → isOn s r ≡ false
-    → Link (signedOn r p s) (plainPlace r p x)
+pub link-on : (s : Store) (x : Plain) → Link s x → (r : ℕ) (f : Fix) → 1 ≤ r → Signed (s .on) → Waits (s .waiting) (s .on) → isOn s r ≡ false
+    → Link (signedOn r f s) (plainPlace r f x)
 unfolding signedOn isOn plainOn
-link-on s x k r p h g w off =
+link-on s x k r f h g w off =
     let o = off-nothing s x k r (sym (k .on r) ∙ off) in
-    link-place s x k r p h (w .waiting-rises) (λ _. some (record { place = p; new = true })) true refl (sym (rw (o .2) refl)) (insert r tt (s .on))
+    link-place s x k r f h (w .waiting-rises) (λ _. some (record { fix = f; new = true })) true refl (sym (rw (o .2) refl)) (insert r tt (s .on))
     (λ q. rw (find-alter (λ _. some tt) 0 r q (s .on) h (g .rising-on)) (by-cases (eqb q r) (λ t. rw t) (λ t. rw t (k .on q))))
 
-pub link-report : (s : Store) (x : Plain) → Link s x → (r : ℕ) (p : Place) → 1 ≤ r → Waits (s .waiting) (s .on) → isOn s r ≡ true
-    → Link (reported r p s) (plainPlace r p x)
+pub link-report : (s : Store) (x : Plain) → Link s x → (r : ℕ) (f : Fix) → 1 ≤ r → Waits (s .waiting) (s .on) → isOn s r ≡ true
+    → Link (reported r f s) (plainPlace r f x)
 unfolding reported isOn plainOn
-link-report s x k r p h w on =
-    link-place s x k r p h (w .waiting-rises) (λ o. some (record { place = p; new = wasNew o })) (wasNew (find (s .waiting) r)) refl
-    (k .marked r ∙ by-cases (x .waits r) (λ t. unfold both in rw t) (λ t. unfold both in rw (t, ← k .quiet r t, sym (k .on r) ∙ on)))
+link-report s x k r f h w on =
+    link-place s x k r f h (w .waiting-rises) (λ o. some (record { fix = f; new = wasNew o })) (wasNew (find (s .waiting) r)) refl
+    (k .marked r ∙ by-cases (x .waits r) (λ t. unfold both in rw t) (λ t. unfold both in rw (t, ← k .stored r, some-place (storedIn (s .memo) r (s .cells)), k .quiet r t, sym (k .on r) ∙ on)))
     (s .on)
     (λ q. k .on q ∙ by-cases (eqb q r) (λ t. rw (t, eqb-true q r t) (sym (k .on r) ∙ on)) (λ t. rw t))

@@ -8,7 +8,7 @@ use native.Mathlib.Omega.{arith}
 use lib.ListN.{length}
 use lib.Dec.{eqb, ltb}
 use borrow.Author.Tests.{eqb-true, eqb-false}
-use Rattle.terms.specs.Terms.{Place}
+use Rattle.terms.specs.Terms.{Place, Fix}
 use Rattle.lists.specs.Rows.{Rows, Rising, find, alter}
 use Rattle.lists.specs.Sums.{filter}
 use Rattle.lists.specs.Tests.{both, isSome}
@@ -20,19 +20,19 @@ use Rattle.rules.specs.Grid.{Box, cornerOf, inside, sameBox, boxOf}
 use Rattle.rules.specs.Store.{Report, Line, Cell, Store}
 use Rattle.rules.specs.Sweep.{sweptEntries, swept, sweptMemo, sweepFront, tick}
 use Rattle.rules.specs.Flush.{raised, entered, inBox, Flushed, flushedInto, flush}
-use Rattle.rules.specs.Carry.{isOn, wasNew, placeOf, storedIn, signedOff, flushDue, afterReport, onCount, waitingIn, signedOn, reported, found, carriedOut, carry}
-use Rattle.rules.specs.Plain.{Plain, plainOn, plainIn, plainFlush, plainAfter, plainOff, plainPlace, plainDone, plainStep}
+use Rattle.rules.specs.Carry.{isOn, wasNew, fixOf, storedIn, signedOff, flushDue, afterReport, onCount, waitingIn, signedOn, reported, found, carriedOut, carry}
+use Rattle.rules.specs.Plain.{Plain, plainOn, placeOf, plainIn, plainFlush, plainAfter, plainOff, plainPlace, plainDone, plainStep}
 use Rattle.rules.specs.WellFormed.{WellFormed}
 use Rattle.rules.specs.Records.{Request, requestOf, refusal}
 use Rattle.rules.specs.Parts.{Books, Core, marks, onSet, Bounded}
 use Rattle.lists.specs.Words.{Bytes}
 use Rattle.lists.specs.Among.{Among}
 use Rattle.rules.proofs.WellLaws.{well-core}
-use Rattle.rules.proofs.LiveLaws.{stored-none, stored-same, live-one, live-off, live-off-other, find-enterEach-memo, sweptMemo-last}
+use Rattle.rules.proofs.LiveLaws.{find-enterEach-memo, sweptMemo-last}
 use Rattle.rules.proofs.FlushLaws.{report-found}
 use Rattle.rules.proofs.RecordLaws.{Accepted, on-passed, report-passed, off-passed, range-passed, accepted}
 use Rattle.rules.proofs.StepLaws.{report-done, on-core, report-core, off-core, put-few, put-boxes, put-bounded, answered-store}
-use Rattle.rules.proofs.LatestLaws.{Leaves, swept-others, books-others, stored-in, stored-out, flushes, front-books, stored-front}
+use Rattle.rules.proofs.LatestLaws.{Leaves, swept-others, books-others, stored-in, stored-out, flushes, front-books, stored-front, stored-off}
 use Rattle.rules.proofs.LinkLaws.{Link, due-same, link-on, link-report, refusal-same}
 
 -- ---- sign-off
@@ -51,20 +51,13 @@ link-off s x k r h w = record {
   on = λ q. rw (find-alter (λ _. none) 0 r q (s .on) h (w .rising-on)) (by-cases (eqb q r) (λ t. rw t) (λ t. rw t (k .on q)));
   waiting = λ q. rw (find-alter (λ _. none) 0 r q (s .waiting) h (w .waiting-rises)) (by-cases (eqb q r) (λ t. rw t) (λ t. rw t (k .waiting q)));
   marked = λ q. unfold both in rw (find-alter (λ _. none) 0 r q (s .waiting) h (w .waiting-rises)) (by-cases (eqb q r) (λ t. rw t) (λ t. rw t (k .marked q)));
-  stored = λ q. by-cases (wasNew (find (s .waiting) r))
-      (λ u. rw u (by-cases (eqb q r)
-      (λ t. rw (t, eqb-true q r t) (k .stored r ∙ unflushed s x k r u))
-      (λ t. rw t (k .stored q))))
-      (λ u. rw u (by-cases (eqb q r)
-      (λ t. rw (t, eqb-true q r t) (stored-none (alter (raised none) r (s .memo)) r (s .cells) (live-off (s .memo) r h (w .memo-rises) (s .cells))))
-      (λ t. rw t (stored-same (s .memo) (alter (raised none) r (s .memo)) q (s .cells) (s .cells) (live-off-other (s .memo) r h (w .memo-rises) (s .cells) q (eqb-false q r t))
-      (live-one (s .cells) (s .memo) (marks (s .waiting)) (onSet (s .on)) q (well-core s w .books)) ∙ k .stored q))));
+  stored = λ q. ap placeOf (stored-off s (well-core s w) r h q) ∙ by-cases (eqb q r) (λ t. rw t) (λ t. rw t (k .stored q));
   lines = λ q l. by-cases (wasNew (find (s .waiting) r))
       (λ u. rw u (λ e. k .lines q l e ∙ by-cases (eqb q r) (λ t. rw (t, eqb-true q r t) (unflushed s x k r u)) (λ t. rw t)))
       (λ u. rw (u, find-alter (raised none) 0 r q (s .memo) h (w .memo-rises)) (by-cases (eqb q r)
       (λ t. rw t (raised-last (find (s .memo) q) l))
       (λ t. rw t (λ e. k .lines q l e))));
-  quiet = λ q. by-cases (eqb q r) (λ t. rw t (λ e. refl)) (λ t. rw t (k .quiet q));
+  quiet = λ q e. stored-off s (well-core s w) r h q ∙ by-cases (eqb q r) (λ t. rw t) (λ t. rw t (k .quiet q (rw t at e)));
   waits-on = λ q. by-cases (eqb q r) (λ t. rw t (λ e. cc)) (λ t. rw t (k .waits-on q));
 }
 
@@ -77,11 +70,11 @@ module _ (s : Store) (x : Plain) (k : Link s x) (b : Books (s .cells) (s .memo) 
     on = k .on;
     waiting = k .waiting;
     marked = k .marked;
-    stored = λ q. stored-front s b d cs e q ∙ k .stored q;
+    stored = λ q. ap placeOf (stored-front s b d cs e q) ∙ k .stored q;
     lines = λ q l z.
         let o = sweptMemo-last q (s .memo) (d .entries) (front-books s b d cs e .cells-rowed .0 .rising) (b .memo-rises) l z in
         sym (o .2) ∙ k .lines q (o .0) (o .1);
-    quiet = k .quiet;
+    quiet = λ q f. stored-front s b d cs e q ∙ k .quiet q f;
     waits-on = k .waits-on;
   }
 
@@ -99,12 +92,12 @@ link-tick s x k b =
 -- what a plain flush does to one radio, from its waiting report
 module _ (s : Store) (x : Plain) (k : Link s x) (m : Box) where
   -- its report waits in m
-  report-in : (r : ℕ) (w : Report) → find (s .waiting) r ≡ some w → (x .waits r ≡ true) × (x .latest r ≡ some (w .place)) × (plainIn (s .cuts) x m r ≡ inBox (s .cuts) m (record { key = r; val = w }))
+  report-in : (r : ℕ) (w : Report) → find (s .waiting) r ≡ some w → (x .waits r ≡ true) × (x .latest r ≡ some (w .fix)) × (plainIn (s .cuts) x m r ≡ inBox (s .cuts) m (record { key = r; val = w }))
   unfolding plainIn inBox plainOn both
   report-in r w e =
-      let p : some (w .place) ≡ cond (x .waits r) (x .latest r) none = sym (ap placeOf e) ∙ k .waiting r in
+      let p : some (w .fix) ≡ cond (x .waits r) (x .latest r) none = sym (ap fixOf e) ∙ k .waiting r in
       by-cases (x .waits r)
-      (λ t. let l : x .latest r ≡ some (w .place) = sym (p ∙ rw t refl) in (t, l, rw (t, l)))
+      (λ t. let l : x .latest r ≡ some (w .fix) = sym (p ∙ rw t refl) in (t, l, rw (t, l)))
       (λ t. none-some (sym (p ∙ rw t refl)))
 
   -- none of its waits in m
@@ -112,7 +105,7 @@ module _ (s : Store) (x : Plain) (k : Link s x) (m : Box) where
   unfolding plainOn
   report-out r e =
       by-cases (x .waits r)
-      (λ t. let l : x .latest r ≡ none = sym (sym (ap placeOf e) ∙ k .waiting r ∙ rw t refl) in let o = k .waits-on r t in absurd (let z : _≡_ {A = ℕ} 0 1 = cc in omega arith))
+      (λ t. let l : x .latest r ≡ none = sym (sym (ap fixOf e) ∙ k .waiting r ∙ rw t refl) in let o = k .waits-on r t in absurd (let z : _≡_ {A = ℕ} 0 1 = cc in omega arith))
       (λ t. t)
 
 entered-last : (b n : Bool) (p : Place) (o : Option Line) (l : Line) → entered b n p o ≡ some l → l .last ≡ some p
@@ -139,7 +132,7 @@ module _ (s : Store) (x : Plain) (k : Link s x) (m : Box) (d : Cell) (c : Core s
       (λ t. none-some {a = w} (sym e ∙ find-filter (inBox (s .cuts) m) 0 r (s .waiting) rises ∙ rw (n, t) refl))
       (λ t. t))
 
-  goes-in : (r : ℕ) (w : Report) → find (filter (inBox (s .cuts) m) (s .waiting)) r ≡ some w → (plainIn (s .cuts) x m r ≡ true) × (x .latest r ≡ some (w .place))
+  goes-in : (r : ℕ) (w : Report) → find (filter (inBox (s .cuts) m) (s .waiting)) r ≡ some w → (plainIn (s .cuts) x m r ≡ true) × (x .latest r ≡ some (w .fix))
   goes-in r w e =
       let q = report-found m s d c a home r w e in
       let i = report-in s x k m r w (q .0) in
@@ -147,18 +140,18 @@ module _ (s : Store) (x : Plain) (k : Link s x) (m : Box) (d : Cell) (c : Core s
 
   -- ---- the waiting
 
-  kept-place : (r : ℕ) → placeOf (find (filter (λ w. not (inBox (s .cuts) m w)) (s .waiting)) r) ≡ cond (cond (plainIn (s .cuts) x m r) false (x .waits r)) (x .latest r) none
+  kept-place : (r : ℕ) → fixOf (find (filter (λ w. not (inBox (s .cuts) m w)) (s .waiting)) r) ≡ cond (cond (plainIn (s .cuts) x m r) false (x .waits r)) (x .latest r) none
   kept-place r =
       rw (find-filter (λ w. not (inBox (s .cuts) m w)) 0 r (s .waiting) rises) (option-cases (find (s .waiting) r)
       (λ n. rw (n, report-out s x k m r n) (never (plainIn (s .cuts) x m r) (x .latest r)))
       (λ w n. let i = report-in s x k m r w n in rw (n, i .2, i .0, i .1) (by-cases (inBox (s .cuts) m (record { key = r; val = w })) (λ t. rw t) (λ t. rw t))))
     where
-      never : (b : Bool) (o : Option Place) → none ≡ cond (cond b false false) o none
+      never : (b : Bool) (o : Option Fix) → none ≡ cond (cond b false false) o none
       never true o = refl
       never false o = refl
 
   kept-mark : (r : ℕ) → wasNew (find (filter (λ w. not (inBox (s .cuts) m w)) (s .waiting)) r)
-      ≡ both (cond (plainIn (s .cuts) x m r) false (x .waits r)) (not (isSome (cond (plainIn (s .cuts) x m r) (x .latest r) (x .flushed r))))
+      ≡ both (cond (plainIn (s .cuts) x m r) false (x .waits r)) (not (isSome (cond (plainIn (s .cuts) x m r) (placeOf (x .latest r)) (x .flushed r))))
   kept-mark r =
       rw (find-filter (λ w. not (inBox (s .cuts) m w)) 0 r (s .waiting) rises) (option-cases (find (s .waiting) r)
       (λ n. rw (n, report-out s x k m r n) (never (plainIn (s .cuts) x m r) _))
@@ -172,14 +165,13 @@ module _ (s : Store) (x : Plain) (k : Link s x) (m : Box) (d : Cell) (c : Core s
 
   -- ---- the entries and the lines
 
-  flushed-stored : (t : Store) → Leaves flushedHere t → (q : ℕ) → storedIn (t .memo) q (t .cells) ≡ cond (plainIn (s .cuts) x m q) (x .latest q) (x .flushed q)
+  flushed-stored : (t : Store) → Leaves flushedHere t → (q : ℕ) → storedIn (t .memo) q (t .cells) ≡ cond (plainIn (s .cuts) x m q) (x .latest q) (storedIn (s .memo) q (s .cells))
   flushed-stored t v q =
       option-cases (find (filter (inBox (s .cuts) m) (s .waiting)) q)
-      (λ n. rw (stays-out q n)
-      (stored-out m s d c a home t v q n ∙ k .stored q))
+      (λ n. rw (stays-out q n) (stored-out m s d c a home t v q n))
       (λ w n. let g = goes-in q w n in rw (g .0, g .1) (stored-in m s d c a home t v q w n))
 
-  flushed-line : (q : ℕ) (l : Line) → find (flushedHere .store .memo) q ≡ some l → l .last ≡ cond (plainIn (s .cuts) x m q) (x .latest q) (x .flushed q)
+  flushed-line : (q : ℕ) (l : Line) → find (flushedHere .store .memo) q ≡ some l → l .last ≡ cond (plainIn (s .cuts) x m q) (placeOf (x .latest q)) (x .flushed q)
   unfolding flushedInto
   flushed-line q l e =
       let ws = filter (inBox (s .cuts) m) (s .waiting) in
@@ -190,17 +182,17 @@ module _ (s : Store) (x : Plain) (k : Link s x) (m : Box) (d : Cell) (c : Core s
       (λ n. rw (stays-out q n)
       (let o = sweptMemo-last q (s .memo) (d .entries) (books-others m s d c a home .cells-rowed .0 .rising) (c .books .memo-rises) l (rw n at z) in
       sym (o .2) ∙ k .lines q (o .0) (o .1)))
-      (λ w n. let g = goes-in q w n in rw (g .0, g .1) (entered-last (isSome (find (sweptEntries (s .memo) (d .entries)) q)) (w .new) (w .place) (find (sweptMemo (s .memo) (d .entries)) q) l (rw n at z)))
+      (λ w n. let g = goes-in q w n in rw (g .0, g .1) (entered-last (isSome (find (sweptEntries (s .memo) (d .entries)) q)) (w .new) (w .fix .place) (find (sweptMemo (s .memo) (d .entries)) q) l (rw n at z)))
 
   pub link-leaves : (t : Store) → Leaves flushedHere t → Link t (plainFlush (s .cuts) (some m) x)
   unfolding isOn plainOn
   link-leaves t v = record {
     on = λ q. ap (λ (l : Rows (Unit {0})). isSome (find l q)) (v .on ∙ flushed-on) ∙ k .on q;
-    waiting = λ q. ap (λ (l : Rows Report). placeOf (find l q)) (v .waiting ∙ flushed-waiting) ∙ kept-place q;
+    waiting = λ q. ap (λ (l : Rows Report). fixOf (find l q)) (v .waiting ∙ flushed-waiting) ∙ kept-place q;
     marked = λ q. ap (λ (l : Rows Report). wasNew (find l q)) (v .waiting ∙ flushed-waiting) ∙ kept-mark q;
-    stored = flushed-stored t v;
+    stored = λ q. ap placeOf (flushed-stored t v q) ∙ by-cases (plainIn (s .cuts) x m q) (λ u. rw u) (λ u. rw u (k .stored q));
     lines = λ q l e. let o = v .lines q l e in sym (o .2) ∙ flushed-line q (o .0) (o .1);
-    quiet = λ q. by-cases (plainIn (s .cuts) x m q) (λ u. rw u (λ e. refl)) (λ u. rw u (k .quiet q));
+    quiet = λ q e. flushed-stored t v q ∙ by-cases (plainIn (s .cuts) x m q) (λ u. rw u) (λ u. rw u (k .quiet q (rw u at e)));
     waits-on = λ q. by-cases (plainIn (s .cuts) x m q) (λ u. rw u false-true) (λ u. rw u (k .waits-on q));
   }
     where
@@ -233,15 +225,15 @@ report-link p s x l k b t few boxes =
 done-link : (q : Request) (s : Store) (x : Plain) (buffer : List ℕ) → WellFormed s → Link s x → Accepted (isOn s) (onCount s) q
     → Link (carriedOut q s buffer .store) (plainDone (s .cuts) q x)
 unfolding carriedOut plainDone signedOn reported
-done-link q s x buffer w l (on-passed r p h k i off room) =
-    let f : Option Report → Option Report = λ _. some (record { place = p; new = true }) in
-    report-link p (signedOn r p s) (plainPlace r p x) (link-on s x l r p h (well-core s w .signed) (well-core s w .waits) off)
-    (on-core s w r p h k i off room) (put-bounded s w r h f p true refl) (w .tallied) (put-few s w r h f p true refl) (put-boxes s w r h f p true refl)
-done-link q s x buffer w l (report-passed r p h k i on) =
-    let f : Option Report → Option Report = λ o. some (record { place = p; new = wasNew o }) in
+done-link q s x buffer w l (on-passed r f h k i off room) =
+    let g : Option Report → Option Report = λ _. some (record { fix = f; new = true }) in
+    report-link (f .place) (signedOn r f s) (plainPlace r f x) (link-on s x l r f h (well-core s w .signed) (well-core s w .waits) off)
+    (on-core s w r f h k i off room) (put-bounded s w r h g f true refl) (w .tallied) (put-few s w r h g f true refl) (put-boxes s w r h g f true refl)
+done-link q s x buffer w l (report-passed r f h k i on) =
+    let g : Option Report → Option Report = λ o. some (record { fix = f; new = wasNew o }) in
     let b = wasNew (find (s .waiting) r) in
-    report-link p (reported r p s) (plainPlace r p x) (link-report s x l r p h (well-core s w .waits) on)
-    (report-core s w r p h k i on) (put-bounded s w r h f p b refl) (w .tallied) (put-few s w r h f p b refl) (put-boxes s w r h f p b refl)
+    report-link (f .place) (reported r f s) (plainPlace r f x) (link-report s x l r f h (well-core s w .waits) on)
+    (report-core s w r f h k i on) (put-bounded s w r h g f b refl) (w .tallied) (put-few s w r h g f b refl) (put-boxes s w r h g f b refl)
 done-link q s x buffer w l (off-passed r h k on) = link-tick (signedOff r s) (plainOff r x) (link-off s x l r h w) (off-core s w r h k on .books)
 done-link q s x buffer w l (range-passed rect) = subst (λ (t : Store). Link t x) (sym (answered-store (found s rect) s buffer)) l
 

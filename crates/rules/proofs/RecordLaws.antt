@@ -8,7 +8,7 @@ use native.Mathlib.Omega.{arith}
 use lib.Dec.{eqb}
 use lib.ListN.{length}
 use borrow.Author.Tests.{lt-ltb, ltb-false, leb-false, eqb-true, eqb-false, not-false}
-use Rattle.terms.specs.Terms.{Place, maxRadio, maxOn}
+use Rattle.terms.specs.Terms.{Fix, maxRadio, maxOn}
 use Rattle.lists.specs.Rows.{Rows, find, alter, insert}
 use Rattle.lists.specs.Tests.{isSome}
 use Rattle.lists.specs.Words.{Bytes}
@@ -18,7 +18,7 @@ use Rattle.lists.proofs.TestsLaws.{either-left, either-right, either-false, bot
 use Rattle.lists.proofs.WordsLaws.{word-small}
 use Rattle.rules.specs.Grid.{Rect}
 use Rattle.rules.specs.Store.{Report}
-use Rattle.rules.specs.Records.{Request, signOn, report, signOff, range, requestOf, kindField, radioField, placeField, rectField, kindSignOn, kindReport, kindSignOff, kindRange, notAtHand, unknownKind, wrongLength, noRadio, noFix, reversed, onAlready, notOn, noRoom, refusal}
+use Rattle.rules.specs.Records.{Request, signOn, report, signOff, range, requestOf, kindField, radioField, placeField, fixField, rectField, kindSignOn, kindReport, kindSignOff, kindRange, notAtHand, unknownKind, wrongLength, noRadio, noFix, reversed, onAlready, notOn, noRoom, refusal}
 use Rattle.rules.specs.WellFormed.{InSquare}
 use Rattle.rules.specs.Parts.{Signed, Waits}
 
@@ -26,8 +26,8 @@ use Rattle.rules.specs.Parts.{Signed, Waits}
 
 -- what an accepted record asks, with what the checks showed of it
 pub data Accepted (on : ℕ → Bool) (howMany : ℕ) : Request → Type 0 where
-  on-passed : (r : ℕ) (p : Place) → 1 ≤ r → r ≤ maxRadio → InSquare p → on r ≡ false → howMany < maxOn → Accepted on howMany (signOn r p)
-  report-passed : (r : ℕ) (p : Place) → 1 ≤ r → r ≤ maxRadio → InSquare p → on r ≡ true → Accepted on howMany (report r p)
+  on-passed : (r : ℕ) (f : Fix) → 1 ≤ r → r ≤ maxRadio → InSquare (f .place) → on r ≡ false → howMany < maxOn → Accepted on howMany (signOn r f)
+  report-passed : (r : ℕ) (f : Fix) → 1 ≤ r → r ≤ maxRadio → InSquare (f .place) → on r ≡ true → Accepted on howMany (report r f)
   off-passed : (r : ℕ) → 1 ≤ r → r ≤ maxRadio → on r ≡ true → Accepted on howMany (signOff r)
   range-passed : (rect : Rect) → Accepted on howMany (range rect)
 
@@ -36,8 +36,8 @@ first-passed : (t : Bool) {n m : ℕ} → 0 < n → cond t n m ≡ 0 → (t ≡ 
 first-passed true h e = absurd (omega arith)
 first-passed false h e = (refl, e)
 
-place-small : (b : List ℕ) → Bytes b → InSquare (placeField b)
-unfolding placeField
+place-small : (b : List ℕ) → Bytes b → InSquare (fixField b .place)
+unfolding placeField fixField
 place-small b small = (let h = word-small b 6 small in omega arith, let h = word-small b 8 small in omega arith)
 
 -- a record that is carried out fails none of them
@@ -90,11 +90,11 @@ module _ (on : ℕ → Bool) (howMany : ℕ) (b : List ℕ) (small : Bytes b) wh
       by-cases (eqb (kindField b) kindSignOn)
       (λ k. let z = eqb-true (kindField b) kindSignOn k in
       let r = radio-small (omega arith) (t .radio) in
-      rw k (on-passed (radioField b) (placeField b) (r .0) (r .1) (place-small b small) (both-second _ _ k (t .was-off)) (leb-false maxOn howMany (both-second _ _ k (t .room)))))
+      rw k (on-passed (radioField b) (fixField b) (r .0) (r .1) (place-small b small) (both-second _ _ k (t .was-off)) (leb-false maxOn howMany (both-second _ _ k (t .room)))))
       (λ k. by-cases (eqb (kindField b) kindReport)
       (λ l. let z = eqb-true (kindField b) kindReport l in
       let r = radio-small (omega arith) (t .radio) in
-      rw (k, l) (report-passed (radioField b) (placeField b) (r .0) (r .1) (place-small b small) (not-false _ (both-second _ _ (either-left _ l) (t .was-on)))))
+      rw (k, l) (report-passed (radioField b) (fixField b) (r .0) (r .1) (place-small b small) (not-false _ (both-second _ _ (either-left _ l) (t .was-on)))))
       (λ l. by-cases (eqb (kindField b) kindSignOff)
       (λ m. let z = eqb-true (kindField b) kindSignOff m in
       let r = radio-small (omega arith) (t .radio) in
@@ -121,7 +121,7 @@ signed-off r on h k s = record {
 
 module _ (waiting : Rows Report) (on : Rows (Unit {0})) (s : Waits waiting on) (r : ℕ) (h : 1 ≤ r) (k : r ≤ maxRadio) (f : Option Report → Option Report) where
   -- the new report's place is in the square, and it is marked or its radio on; every other radio is on as before
-  pub waits-alter : (on′ : Rows (Unit {0})) → ((w : Report) → f (find waiting r) ≡ some w → InSquare (w .place))
+  pub waits-alter : (on′ : Rows (Unit {0})) → ((w : Report) → f (find waiting r) ≡ some w → InSquare (w .fix .place))
       → ((w : Report) → f (find waiting r) ≡ some w → w .new ≡ false → isSome (find on′ r) ≡ true)
       → ((q : ℕ) → (q ≡ r → ⊥) → isSome (find on′ q) ≡ isSome (find on q))
       → Waits (alter f r waiting) on′

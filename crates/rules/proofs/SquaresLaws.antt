@@ -65,11 +65,12 @@ keep-parted f x l l₁ l₂ false true a₂ e h = absurd (omega (arith, e))
 keep-parted f x l l₁ l₂ false false true e h = absurd (omega (arith, e))
 keep-parted f x l l₁ l₂ false false false e h = h
 
-module _ (axis : Axis) (r : Rect) (c : ℕ) (k : CutAt axis r c) (f : Row Fix → ℕ) where
-  row-parted : (radio : ℕ) (o : Option Fix) (l l₁ l₂ : Rows Fix) → sumBy f l ≡ sumBy f l₁ + sumBy f l₂
+module _ (axis : Axis) (r : Rect) (c : ℕ) (k : CutAt axis r c) (f : Row Place → ℕ) where
+  row-parted : (radio : ℕ) (o : Option Fix) (l l₁ l₂ : Rows Place) → sumBy f l ≡ sumBy f l₁ + sumBy f l₂
       → sumBy f (listIf r radio o l) ≡ sumBy f (listIf (lowPart axis c r) radio o l₁) + sumBy f (listIf (highPart axis c r) radio o l₂)
   row-parted radio none l l₁ l₂ h = h
-  row-parted radio (some p) l l₁ l₂ h =
+  row-parted radio (some g) l l₁ l₂ h =
+      let p : Place = g .place in
       keep-parted f (record { key = radio; val = p }) l l₁ l₂ (covers r p) (covers (lowPart axis c r) p) (covers (highPart axis c r) p) (covers-parted axis r c k p) h
 
 pub add-up : AddUp
@@ -79,7 +80,7 @@ add-up latest (x ∷ xs) axis r c k f = row-parted axis r c k f (x .key) (latest
 
 -- ---- no radio twice
 
-times-above : (b radio : ℕ) (l : Rows Fix) → Rising b l → radio ≤ b → timesIn radio l ≡ 0
+times-above : (b radio : ℕ) (l : Rows Place) → Rising b l → radio ≤ b → timesIn radio l ≡ 0
 unfolding sumBy
 times-above b radio [] a h = refl
 times-above b radio (x ∷ xs) a h =
@@ -87,7 +88,7 @@ times-above b radio (x ∷ xs) a h =
     let e : eqb radio (x .key) ≡ false = ne-eqb radio (x .key) (omega arith) in
     rw e (omega (arith, times-above (x .key) radio xs (a .1) (omega arith)))
 
-times-once : (b radio : ℕ) (l : Rows Fix) → Rising b l → timesIn radio l ≤ 1
+times-once : (b radio : ℕ) (l : Rows Place) → Rising b l → timesIn radio l ≤ 1
 unfolding sumBy
 times-once b radio [] a = omega arith
 times-once b radio (x ∷ xs) a =

@@ -159,54 +159,54 @@ box-other n m t =
     (λ u. u)
 
 -- a report is put among the waiting: one more waits, in the memory cell of its place
-module _ (s : Store) (w : WellFormed s) (r : ℕ) (h : 1 ≤ r) (f : Option Report → Option Report) (p : Place) (b : Bool)
-    (put : f (find (s .waiting) r) ≡ some (record { place = p; new = b })) where
-  pub put-few : length (alter f r (s .waiting)) ≤ fullMemory
-  put-few = omega (arith, length-alter-le f 0 r (s .waiting) h (w .waiting-rises), w .few-wait)
+module _ (s : Store) (w : WellFormed s) (r : ℕ) (h : 1 ≤ r) (g : Option Report → Option Report) (f : Fix) (b : Bool)
+    (put : g (find (s .waiting) r) ≡ some (record { fix = f; new = b })) where
+  pub put-few : length (alter g r (s .waiting)) ≤ fullMemory
+  put-few = omega (arith, length-alter-le g 0 r (s .waiting) h (w .waiting-rises), w .few-wait)
 
-  pub put-boxes : (n : Box) → sameBox n (boxOf (s .cuts) p) ≡ false → waitingIn (s .cuts) (alter f r (s .waiting)) n < fullBox
+  pub put-boxes : (n : Box) → sameBox n (boxOf (s .cuts) (f .place)) ≡ false → waitingIn (s .cuts) (alter g r (s .waiting)) n < fullBox
   put-boxes n t =
       omega (
         arith,
-        waiting-new (s .cuts) f r (s .waiting) (record { place = p; new = b }) n h (w .waiting-rises) put,
+        waiting-new (s .cuts) g r (s .waiting) (record { fix = f; new = b }) n h (w .waiting-rises) put,
         w .few-in-box n,
-        ap one-if (box-other n (boxOf (s .cuts) p) t),
+        ap one-if (box-other n (boxOf (s .cuts) (f .place)) t),
       )
 
-  pub put-bounded : Bounded (s .memo) (s .cells) (length (alter f r (s .waiting))) (s .tally + 1)
+  pub put-bounded : Bounded (s .memo) (s .cells) (length (alter g r (s .waiting))) (s .tally + 1)
   put-bounded =
-      bounded-record (s .memo) (s .memo) (s .cells) (length (s .waiting)) (length (alter f r (s .waiting))) (s .tally) (well-bounded s w)
-      (λ k. omega (arith, length-alter-le f 0 r (s .waiting) h (w .waiting-rises)))
+      bounded-record (s .memo) (s .memo) (s .cells) (length (s .waiting)) (length (alter g r (s .waiting))) (s .tally) (well-bounded s w)
+      (λ k. omega (arith, length-alter-le g 0 r (s .waiting) h (w .waiting-rises)))
 
-pub on-core : (s : Store) (w : WellFormed s) (r : ℕ) (p : Place) → 1 ≤ r → r ≤ maxRadio → InSquare p → isOn s r ≡ false → onCount s < maxOn → Core (signedOn r p s)
+pub on-core : (s : Store) (w : WellFormed s) (r : ℕ) (f : Fix) → 1 ≤ r → r ≤ maxRadio → InSquare (f .place) → isOn s r ≡ false → onCount s < maxOn → Core (signedOn r f s)
 unfolding signedOn isOn onCount
-on-core s w r p h k q off room =
+on-core s w r f h k q off room =
     let c = well-core s w in
     record {
       tiling = c .tiling;
-      books = books-ext (marks-signedOn r p (s .waiting) h (w .waiting-rises)) (on-signedOn r (s .on) h (w .rising-on)) (books-on r off (c .books));
+      books = books-ext (marks-signedOn r f (s .waiting) h (w .waiting-rises)) (on-signedOn r (s .on) h (w .rising-on)) (books-on r off (c .books));
       paged = c .paged;
       signed = signed-on r (s .on) h k room (c .signed);
-      waits = waits-alter (s .waiting) (s .on) (c .waits) r h k (λ _. some (record { place = p; new = true })) (insert r tt (s .on))
-          (λ v e. subst (λ (z : Report). InSquare (z .place)) (some-injective e) q)
+      waits = waits-alter (s .waiting) (s .on) (c .waits) r h k (λ _. some (record { fix = f; new = true })) (insert r tt (s .on))
+          (λ v e. subst (λ (z : Report). InSquare (z .fix .place)) (some-injective e) q)
           (λ v e u. absurd (not-marked v e u))
           (λ n z. rw (find-alter (λ _. some tt) 0 r n (s .on) h (w .rising-on), ne-eqb n r z));
     }
   where
-    not-marked : (v : Report) → some (record { place = p; new = true }) ≡ some v → v .new ≡ false → ⊥
+    not-marked : (v : Report) → some (record { fix = f; new = true }) ≡ some v → v .new ≡ false → ⊥
     not-marked v e u = false-true (sym u ∙ sym (ap (λ (x : Report). x .new) (some-injective e)))
 
-pub report-core : (s : Store) (w : WellFormed s) (r : ℕ) (p : Place) → 1 ≤ r → r ≤ maxRadio → InSquare p → isOn s r ≡ true → Core (reported r p s)
+pub report-core : (s : Store) (w : WellFormed s) (r : ℕ) (f : Fix) → 1 ≤ r → r ≤ maxRadio → InSquare (f .place) → isOn s r ≡ true → Core (reported r f s)
 unfolding reported isOn
-report-core s w r p h k q on =
+report-core s w r f h k q on =
     let c = well-core s w in
     record {
       tiling = c .tiling;
-      books = books-ext (marks-reported r p (s .waiting) h (w .waiting-rises)) (λ n. refl) (c .books);
+      books = books-ext (marks-reported r f (s .waiting) h (w .waiting-rises)) (λ n. refl) (c .books);
       paged = c .paged;
       signed = c .signed;
-      waits = waits-alter (s .waiting) (s .on) (c .waits) r h k (λ o. some (record { place = p; new = wasNew o })) (s .on)
-          (λ v e. subst (λ (z : Report). InSquare (z .place)) (some-injective e) q)
+      waits = waits-alter (s .waiting) (s .on) (c .waits) r h k (λ o. some (record { fix = f; new = wasNew o })) (s .on)
+          (λ v e. subst (λ (z : Report). InSquare (z .fix .place)) (some-injective e) q)
           (λ v e u. on)
           (λ n z. refl);
     }
@@ -245,19 +245,19 @@ report-well p s k b t few boxes =
     tick-well (afterReport p s) (subst (λ (c : ℕ). c < sweepEvery) (sym (after-tally p s)) t)
     (subst (λ (c : ℕ). MidCallRoomy (afterReport p s) (c + 1)) (sym (after-tally p s)) (report-done p s (s .tally + 1) k b (omega arith) few boxes))
 
-on-well : (s : Store) (w : WellFormed s) (r : ℕ) (p : Place) → 1 ≤ r → r ≤ maxRadio → InSquare p → isOn s r ≡ false → onCount s < maxOn
-    → WellFormed (tick (afterReport p (signedOn r p s)))
+on-well : (s : Store) (w : WellFormed s) (r : ℕ) (f : Fix) → 1 ≤ r → r ≤ maxRadio → InSquare (f .place) → isOn s r ≡ false → onCount s < maxOn
+    → WellFormed (tick (afterReport (f .place) (signedOn r f s)))
 unfolding signedOn
-on-well s w r p h k q off room =
-    let f : Option Report → Option Report = λ _. some (record { place = p; new = true }) in
-    report-well p (signedOn r p s) (on-core s w r p h k q off room) (put-bounded s w r h f p true refl) (w .tallied) (put-few s w r h f p true refl) (put-boxes s w r h f p true refl)
+on-well s w r f h k q off room =
+    let g : Option Report → Option Report = λ _. some (record { fix = f; new = true }) in
+    report-well (f .place) (signedOn r f s) (on-core s w r f h k q off room) (put-bounded s w r h g f true refl) (w .tallied) (put-few s w r h g f true refl) (put-boxes s w r h g f true refl)
 
-report-on-well : (s : Store) (w : WellFormed s) (r : ℕ) (p : Place) → 1 ≤ r → r ≤ maxRadio → InSquare p → isOn s r ≡ true → WellFormed (tick (afterReport p (reported r p s)))
+report-on-well : (s : Store) (w : WellFormed s) (r : ℕ) (f : Fix) → 1 ≤ r → r ≤ maxRadio → InSquare (f .place) → isOn s r ≡ true → WellFormed (tick (afterReport (f .place) (reported r f s)))
 unfolding reported
-report-on-well s w r p h k q on =
-    let f : Option Report → Option Report = λ o. some (record { place = p; new = wasNew o }) in
+report-on-well s w r f h k q on =
+    let g : Option Report → Option Report = λ o. some (record { fix = f; new = wasNew o }) in
     let b = wasNew (find (s .waiting) r) in
-    report-well p (reported r p s) (report-core s w r p h k q on) (put-bounded s w r h f p b refl) (w .tallied) (put-few s w r h f p b refl) (put-boxes s w r h f p b refl)
+    report-well (f .place) (reported r f s) (report-core s w r f h k q on) (put-bounded s w r h g f b refl) (w .tallied) (put-few s w r h g f b refl) (put-boxes s w r h g f b refl)
 
 -- before the tally
 pub off-done : (s : Store) (w : WellFormed s) (r : ℕ) → 1 ≤ r → r ≤ maxRadio → isOn s r ≡ true → MidCallRoomy (signedOff r s) (signedOff r s .tally + 1)
@@ -285,14 +285,14 @@ off-well s w r h k on = tick-well (signedOff r s) (off-early s w r) (off-done s 
 
 -- ---- any call
 
-pub answered-store : (l : Rows Fix) (s : Store) (buffer : List ℕ) → answered l s buffer .store ≡ s
+pub answered-store : (l : Rows Place) (s : Store) (buffer : List ℕ) → answered l s buffer .store ≡ s
 unfolding answered
 answered-store l s buffer = by-cases (ltb (length buffer) (listBytes * length l)) (λ t. rw t) (λ t. rw t)
 
 done-well : (q : Request) (s : Store) (buffer : List ℕ) → WellFormed s → Accepted (isOn s) (onCount s) q → WellFormed (carriedOut q s buffer .store)
 unfolding carriedOut
-done-well q s buffer w (on-passed r p h k i off room) = on-well s w r p h k i off room
-done-well q s buffer w (report-passed r p h k i on) = report-on-well s w r p h k i on
+done-well q s buffer w (on-passed r f h k i off room) = on-well s w r f h k i off room
+done-well q s buffer w (report-passed r f h k i on) = report-on-well s w r f h k i on
 done-well q s buffer w (off-passed r h k on) = off-well s w r h k on
 done-well q s buffer w (range-passed rect) = subst WellFormed (sym (answered-store (found s rect) s buffer)) w
 

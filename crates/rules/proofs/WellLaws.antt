@@ -5,7 +5,7 @@ use mathlib.Core.Option.{Option, none, some}
 use mathlib.Core.Path.{_≡_, refl, sym, ap, _∙_}
 use Prim.Native.Nat.{ℕ, _<_}
 use lib.ListN.{length}
-use Rattle.terms.specs.Terms.{Place}
+use Rattle.terms.specs.Terms.{Place, Fix}
 use Rattle.lists.specs.Rows.{Rows, find}
 use Rattle.lists.specs.Tests.{Each}
 use Rattle.lists.proofs.Cases.{option-cases}
@@ -28,9 +28,9 @@ stale-none : (memo : Rows Line) (r : ℕ) (cells : List Cell) → find memo r �
 unfolding staleR
 stale-none memo r cells e = rw e (sum-zero (λ c. countIf (λ p. false) (find (c .entries) r)) cells (λ c. never (find (c .entries) r)))
   where
-    never : (o : Option Place) → countIf (λ p. false) o ≡ 0
+    never : (o : Option Fix) → countIf (λ p. false) o ≡ 0
     never none = refl
-    never (some p) = refl
+    never (some f) = refl
 
 edged : (cuts : Cuts) (cells : List Cell) → Each (GoodCell cuts) cells → Each (Edged cuts) cells
 edged cuts cells g = each-map (GoodCell cuts) (Edged cuts) cells (λ c x. record { numbered = x .numbered; edged = x .edged }) g

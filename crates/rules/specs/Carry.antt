@@ -33,12 +33,12 @@ wasNew none = false
 wasNew (some w) = w .new
 
 -- "Sign-on puts a report marked new among the waiting."
-unfoldable pub signedOn : ℕ → Place → Store → Store
-signedOn r p s = withWaiting (insert r (record { place = p; new = true }) (s .waiting)) (withOn (insert r tt (s .on)) s)
+unfoldable pub signedOn : ℕ → Fix → Store → Store
+signedOn r f s = withWaiting (insert r (record { fix = f; new = true }) (s .waiting)) (withOn (insert r tt (s .on)) s)
 
 -- "Report replaces a waiting report of that radio, keeping its mark new; otherwise it waits unmarked."
-unfoldable pub reported : ℕ → Place → Store → Store
-reported r p s = withWaiting (alter (λ w. some (record { place = p; new = wasNew w })) r (s .waiting)) s
+unfoldable pub reported : ℕ → Fix → Store → Store
+reported r f s = withWaiting (alter (λ w. some (record { fix = f; new = wasNew w })) r (s .waiting)) s
 
 -- "Sign-off discards a waiting report. If the discarded one was not marked new, or none waited, the memo's missed count for the radio grows by 1 (made as
 -- 1 if absent) and its place becomes none."
@@ -90,36 +90,35 @@ unfoldable pub storedIn : Rows Line → ℕ → List Cell → Option Fix
 storedIn memo r [] = none
 storedIn memo r (c ∷ cs) = orElse (liveIn memo r c) (storedIn memo r cs)
 
-abbrev pub placeOf : Option Report → Option Place
-placeOf none = none
-placeOf (some w) = some (w .place)
+abbrev pub fixOf : Option Report → Option Fix
+fixOf none = none
+fixOf (some w) = some (w .fix)
 
 -- "latest place, a waiting report's before a stored one's"
 unfoldable pub latest : Store → ℕ → Option Fix
-latest s r = orElse (placeOf (find (s .waiting) r)) (storedIn (s .memo) r (s .cells))
+latest s r = orElse (fixOf (find (s .waiting) r)) (storedIn (s .memo) r (s .cells))
 
--- by the edges of Job 1
-abbrev pub inRange : Rect → Option Fix → Bool
-inRange rect none = false
-inRange rect (some p) = covers rect p
+-- whether a range lists a radio by what its latest report told: by the edges of Job 1
+abbrev pub listed : Rect → Fix → Bool
+listed rect f = covers rect (f .place)
 
-abbrev pub listIf : Rect → ℕ → Option Fix → Rows Fix → Rows Fix
+abbrev pub listIf : Rect → ℕ → Option Fix → Rows Place → Rows Place
 listIf rect r none l = l
-listIf rect r (some p) l = keep (covers rect p) (record { key = r; val = p }) l
+listIf rect r (some f) l = keep (listed rect f) (record { key = r; val = f .place }) l
 
 -- "the radios on whose latest place .. lies in the rectangle, by rising number"
-unfoldable pub listOf : Rect → (ℕ → Option Fix) → Rows (Unit {0}) → Rows Fix
+unfoldable pub listOf : Rect → (ℕ → Option Fix) → Rows (Unit {0}) → Rows Place
 listOf rect latestOf [] = []
 listOf rect latestOf (x ∷ xs) = listIf rect (x .key) (latestOf (x .key)) (listOf rect latestOf xs)
 
-unfoldable pub found : Store → Rect → Rows Fix
+unfoldable pub found : Store → Rect → Rows Place
 found s rect = listOf rect (latest s) (s .on)
 
 -- "6 × n bytes (radio, east, north)"
 abbrev pub listBytes : ℕ
 listBytes = 6
 
-unfoldable pub bytesOf : Rows Fix → List ℕ
+unfoldable pub bytesOf : Rows Place → List ℕ
 bytesOf [] = []
 bytesOf (x ∷ xs) = le fieldBytes (x .key) ++ (le fieldBytes (x .val .east) ++ (le fieldBytes (x .val .north) ++ bytesOf xs))
 
@@ -133,7 +132,7 @@ pub record Outcome : Type 0 where
   pub store : Store
 
 -- 11: "The answer buffer has fewer than 6 × n bytes for n radios found."; "An accepted range writes 6 × n bytes .. at the buffer's start and nothing else."
-unfoldable pub answered : Rows Fix → Store → List ℕ → Outcome
+unfoldable pub answered : Rows Place → Store → List ℕ → Outcome
 answered l s buffer =
     cond (ltb (length buffer) (listBytes * length l))
     (record { number = 11; count = length l; buffer = buffer; store = s })
@@ -143,8 +142,8 @@ abbrev accepted : Store → List ℕ → Outcome
 accepted s buffer = record { number = 0; count = 0; buffer = buffer; store = s }
 
 unfoldable pub carriedOut : Request → Store → List ℕ → Outcome
-carriedOut (signOn r p) s buffer = accepted (tick (afterReport p (signedOn r p s))) buffer
-carriedOut (report r p) s buffer = accepted (tick (afterReport p (reported r p s))) buffer
+carriedOut (signOn r f) s buffer = accepted (tick (afterReport (f .place) (signedOn r f s))) buffer
+carriedOut (report r f) s buffer = accepted (tick (afterReport (f .place) (reported r f s))) buffer
 carriedOut (signOff r) s buffer = accepted (tick (signedOff r s)) buffer
 carriedOut (range rect) s buffer = answered (found s rect) s buffer
 

@@ -20,7 +20,7 @@ pub record Cut : Type 0 where
 
 -- "coordinates below c on the low side"
 abbrev pub lowSide : Cut → Row Fix → Bool
-lowSide c e = ltb (along (c .axis) (e .val)) (c .at)
+lowSide c e = ltb (along (c .axis) (e .val .place)) (c .at)
 
 unfoldable pub lowCount : Rows Fix → Cut → ℕ
 lowCount es c = sumBy (λ e. one-if (lowSide c e)) es
@@ -67,7 +67,7 @@ validAt axis cuts (some c) =
     cond (either (ltb 0 (count c (cutsOf axis cuts))) (ltb (length (cutsOf axis cuts)) maxCuts)) (some (record { axis = axis; at = c })) none
 
 unfoldable pub medianCut : Axis → Cuts → Rows Fix → Option Cut
-medianCut axis cuts es = validAt axis cuts (median (map (λ e. along axis (e .val)) es))
+medianCut axis cuts es = validAt axis cuts (median (map (λ e. along axis (e .val .place)) es))
 
 abbrev pub longerSide : Rect → Axis
 longerSide d = cond (ltb (d .easts .high - d .easts .low) (d .norths .high - d .norths .low)) northward eastward

@@ -46,8 +46,8 @@ pub record Work : Type 0 where
 -- "if d has an entry of that radio, it and any memo line take the new place; else add the entry, and, if not marked new, add 1 to the missed count"
 unfoldable pub enter : Row Report → Work → Work
 enter w k = record {
-  entries = insert (w .key) (w .val .place) (k .entries);
-  memo = alter (entered (isSome (find (k .entries) (w .key))) (w .val .new) (w .val .place)) (w .key) (k .memo);
+  entries = insert (w .key) (w .val .fix) (k .entries);
+  memo = alter (entered (isSome (find (k .entries) (w .key))) (w .val .new) (w .val .fix .place)) (w .key) (k .memo);
 }
 
 unfoldable pub enterEach : Rows Report → Work → Work
@@ -56,7 +56,7 @@ enterEach (w ∷ ws) k = enterEach ws (enter w k)
 
 -- the waiting reports of a memory cell, and the others
 unfoldable pub inBox : Cuts → Box → Row Report → Bool
-inBox cuts m w = sameBox (boxOf cuts (w .val .place)) m
+inBox cuts m w = sameBox (boxOf cuts (w .val .fix .place)) m
 
 -- ---- d once the reports are in
 

@@ -10,8 +10,8 @@ use Rattle.rules.specs.Parts.{Clean}
 
 -- "sign-on, report or sign-off": what adds 1 to the tally once it is accepted
 abbrev pub isCounted : Request → Bool
-isCounted (signOn r p) = true
-isCounted (report r p) = true
+isCounted (signOn r f) = true
+isCounted (report r f) = true
 isCounted (signOff r) = true
 isCounted (range rect) = false
 

@@ -35,7 +35,7 @@ cellOn number i j n = record {
   number = number;
   edges = record { easts = stripeAt i; norths = stripeAt j };
   chain = [];
-  entries = tab n (λ k. record { key = suc k; val = record { east = 10 * i; north = 10 * j } });
+  entries = tab n (λ k. record { key = suc k; val = record { place = record { east = 10 * i; north = 10 * j } } });
 }
 
 abbrev numberOf : Option Cell → Option ℕ

@@ -41,7 +41,7 @@ staleR memo r cells = sumBy (λ c. countIf (staleBy (find memo r)) (find (c .ent
 pub record Rowed (c : Cell) : Type 0 where
   pub rising : Rising 0 (c .entries)
   pub radios : UpTo maxRadio (c .entries)
-  pub placed : Each (λ e. inside (c .edges) (e .val) ≡ true) (c .entries)
+  pub placed : Each (λ e. inside (c .edges) (e .val .place) ≡ true) (c .entries)
 
 pub record Books (cells : List Cell) (memo : Rows Line) (new on : ℕ → Bool) : Type 0 where
   pub cells-rowed : Each Rowed cells
@@ -78,7 +78,7 @@ pub record Signed (on : Rows (Unit {0})) : Type 0 where
 pub record Waits (waiting : Rows Report) (on : Rows (Unit {0})) : Type 0 where
   pub waiting-rises : Rising 0 waiting
   pub waiting-radios : UpTo maxRadio waiting
-  pub waiting-placed : (r : ℕ) (w : Report) → find waiting r ≡ some w → InSquare (w .place)
+  pub waiting-placed : (r : ℕ) (w : Report) → find waiting r ≡ some w → InSquare (w .fix .place)
   pub unmarked : (r : ℕ) (w : Report) → find waiting r ≡ some w → w .new ≡ false → isSome (find on r) ≡ true
 
 -- ---- the parts together: what holds also in the middle of a call

@@ -35,9 +35,9 @@ plainOnCount x = sumTo (suc maxRadio) (λ r. one-if (plainOn x r))
 abbrev pub putAt : {A : Type 0} → ℕ → A → (ℕ → A) → ℕ → A
 putAt r v f q = cond (eqb q r) v (f q)
 
-abbrev pub waitsIn : Cuts → Box → Option Place → Bool
+abbrev pub waitsIn : Cuts → Box → Option Fix → Bool
 waitsIn cuts m none = false
-waitsIn cuts m (some p) = sameBox (boxOf cuts p) m
+waitsIn cuts m (some f) = sameBox (boxOf cuts (f .place)) m
 
 -- it "waits with its latest place in" the memory cell
 unfoldable pub plainIn : Cuts → Plain → Box → ℕ → Bool
@@ -48,18 +48,22 @@ unfoldable pub plainDue : Cuts → Plain → Place → Option Box
 plainDue cuts x p =
     boxToFlush cuts (λ m. sumTo (suc maxRadio) (λ r. one-if (plainIn cuts x m r))) (sumTo (suc maxRadio) (λ r. one-if (x .waits r))) p
 
+abbrev pub placeOf : Option Fix → Option Place
+placeOf none = none
+placeOf (some f) = some (f .place)
+
 -- "Each that waits with its latest place in a flushed memory cell waits no longer, and that place becomes its last place flushed."
 abbrev pub plainFlush : Cuts → Option Box → Plain → Plain
 plainFlush cuts none x = x
 plainFlush cuts (some m) x = record {
   latest = x .latest;
   waits = λ r. cond (plainIn cuts x m r) false (x .waits r);
-  flushed = λ r. cond (plainIn cuts x m r) (x .latest r) (x .flushed r);
+  flushed = λ r. cond (plainIn cuts x m r) (placeOf (x .latest r)) (x .flushed r);
 }
 
 -- "the radio is on with that place, and waits"; "the radio takes that place and waits"
-unfoldable pub plainPlace : ℕ → Place → Plain → Plain
-plainPlace r p x = record { latest = putAt r (some p) (x .latest); waits = putAt r true (x .waits); flushed = x .flushed }
+unfoldable pub plainPlace : ℕ → Fix → Plain → Plain
+plainPlace r f x = record { latest = putAt r (some f) (x .latest); waits = putAt r true (x .waits); flushed = x .flushed }
 
 unfoldable pub plainAfter : Cuts → Place → Plain → Plain
 plainAfter cuts p x = plainFlush cuts (plainDue cuts x p) x
@@ -69,8 +73,8 @@ unfoldable pub plainOff : ℕ → Plain → Plain
 plainOff r x = record { latest = putAt r none (x .latest); waits = putAt r false (x .waits); flushed = putAt r none (x .flushed) }
 
 unfoldable pub plainDone : Cuts → Request → Plain → Plain
-plainDone cuts (signOn r p) x = plainAfter cuts p (plainPlace r p x)
-plainDone cuts (report r p) x = plainAfter cuts p (plainPlace r p x)
+plainDone cuts (signOn r f) x = plainAfter cuts (f .place) (plainPlace r f x)
+plainDone cuts (report r f) x = plainAfter cuts (f .place) (plainPlace r f x)
 plainDone cuts (signOff r) x = plainOff r x
 plainDone cuts (range rect) x = x
 
@@ -82,5 +86,5 @@ unfoldable pub plainStep : Cuts → List ℕ → Plain → Plain
 plainStep cuts bytes x = cond (eqb (plainRefusal x bytes) 0) (plainDone cuts (requestOf bytes) x) x
 
 -- "A range lists the radios on whose latest place lies in it"
-unfoldable pub plainFound : Plain → Rect → Rows Fix
+unfoldable pub plainFound : Plain → Rect → Rows Place
 plainFound x rect = listOf rect (x .latest) (tab maxRadio (λ i. record { key = suc i; val = tt }))

@@ -4,7 +4,7 @@ use mathlib.Core.List.{List}
 use Prim.Native.Nat.{ℕ}
 use lib.Dec.{eqb, leb, ltb}
 use lib.ListN.{length}
-use Rattle.terms.specs.Terms.{Place, fieldBytes, maxRadio, maxOn}
+use Rattle.terms.specs.Terms.{Place, Fix, fieldBytes, maxRadio, maxOn}
 use Rattle.lists.specs.Tests.{both, either}
 use Rattle.lists.specs.Words.{word}
 use Rattle.rules.specs.Grid.{Rect}
@@ -43,21 +43,24 @@ radioField b = field b 4
 unfoldable pub placeField : List ℕ → Place
 placeField b = record { east = field b 6; north = field b 8 }
 
+unfoldable pub fixField : List ℕ → Fix
+fixField b = record { place = placeField b }
+
 -- "west, east, south, north"
 unfoldable pub rectField : List ℕ → Rect
 rectField b = record { easts = record { low = field b 4; high = field b 6 }; norths = record { low = field b 8; high = field b 10 } }
 
 -- what is asked
 pub data Request : Type 0 where
-  signOn : ℕ → Place → Request
-  report : ℕ → Place → Request
+  signOn : ℕ → Fix → Request
+  report : ℕ → Fix → Request
   signOff : ℕ → Request
   range : Rect → Request
 
 unfoldable pub requestOf : List ℕ → Request
 requestOf b =
-    cond (eqb (kindField b) kindSignOn) (signOn (radioField b) (placeField b))
-    (cond (eqb (kindField b) kindReport) (report (radioField b) (placeField b))
+    cond (eqb (kindField b) kindSignOn) (signOn (radioField b) (fixField b))
+    (cond (eqb (kindField b) kindReport) (report (radioField b) (fixField b))
     (cond (eqb (kindField b) kindSignOff) (signOff (radioField b)) (range (rectField b))))
 
 -- ---- the checks on a record's bytes and on who is on

@@ -3,7 +3,7 @@ use mathlib.Core.Option.{Option}
 use mathlib.Core.Path.{_≡_}
 use Prim.Native.Nat.{ℕ, _+_, _≤_, _<_}
 use lib.Dec.{eqb}
-use Rattle.terms.specs.Terms.{Fix}
+use Rattle.terms.specs.Terms.{Place, Fix}
 use Rattle.lists.specs.Rows.{Row, Rows, Rising}
 use Rattle.lists.specs.Sums.{sumBy}
 use Rattle.lists.specs.Tests.{one-if}
@@ -26,11 +26,11 @@ pub record CutAt (axis : Axis) (r : Rect) (c : ℕ) : Type 0 where
 
 -- the lists of the two parts together are the list of the whole: whatever is summed over it is summed over them, the count and each radio's place alike
 abbrev pub AddUp : Type 0
-AddUp = (latest : ℕ → Option Fix) (on : Rows (Unit {0})) (axis : Axis) (r : Rect) (c : ℕ) → CutAt axis r c → (f : Row Fix → ℕ)
+AddUp = (latest : ℕ → Option Fix) (on : Rows (Unit {0})) (axis : Axis) (r : Rect) (c : ℕ) → CutAt axis r c → (f : Row Place → ℕ)
     → sumBy f (listOf r latest on) ≡ sumBy f (listOf (lowPart axis c r) latest on) + sumBy f (listOf (highPart axis c r) latest on)
 
 -- how often a list names a radio
-abbrev pub timesIn : ℕ → Rows Fix → ℕ
+abbrev pub timesIn : ℕ → Rows Place → ℕ
 timesIn radio l = sumBy (λ x. one-if (eqb radio (x .key))) l
 
 -- and no radio stands in both, nor twice in one

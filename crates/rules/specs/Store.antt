@@ -14,7 +14,7 @@ use Rattle.rules.specs.Grid.{Rect, Cuts, inside, square}
 
 -- a waiting report; "marked new"
 pub record Report : Type 0 where
-  pub place : Place
+  pub fix : Fix
   pub new : Bool
 
 -- a memo line: "missed count", "place", or "none"
@@ -27,7 +27,7 @@ abbrev pub missedOf : Option Line → ℕ
 missedOf none = 0
 missedOf (some l) = l .missed
 
--- a cell of the directory with its pages, from the first on, and the entries on them, radio -> place
+-- a cell of the directory with its pages, from the first on, and the entries on them, radio -> fix
 pub record Cell : Type 0 where
   pub number : ℕ
   pub edges : Rect

@@ -16,9 +16,9 @@ isAt none p = false
 isAt (some q) p = samePlace q p
 
 -- another place or "none"
-abbrev pub staleBy : Option Line → Place → Bool
-staleBy none p = false
-staleBy (some l) p = not (isAt (l .last) p)
+abbrev pub staleBy : Option Line → Fix → Bool
+staleBy none f = false
+staleBy (some l) f = not (isAt (l .last) (f .place))
 
 -- an "entry whose radio has a memo line with another place or none"
 abbrev pub stale : Rows Line → Row Fix → Bool

@@ -4,7 +4,7 @@ use mathlib.Core.List.{List}
 use Prim.Native.Nat.{ℕ, _*_}
 use lib.Dec.{eqb, ltb}
 use lib.ListN.{length}
-use Rattle.terms.specs.Terms.{Fix}
+use Rattle.terms.specs.Terms.{Place}
 use Rattle.lists.specs.Parts.{put}
 use Rattle.lists.specs.Rows.{Rows}
 use Rattle.rules.specs.Records.{Request, signOn, report, signOff, range, requestOf}
@@ -17,15 +17,15 @@ pub record Told : Type 0 where
   pub buffer : List ℕ
 
 -- number 11 only where the bytes do not fit
-unfoldable pub toldList : Rows Fix → List ℕ → Told
+unfoldable pub toldList : Rows Place → List ℕ → Told
 toldList l buffer =
     cond (ltb (length buffer) (listBytes * length l))
     (record { number = 11; count = length l; buffer = buffer })
     (record { number = 0; count = length l; buffer = put buffer 0 (bytesOf l) })
 
 unfoldable pub toldDone : Request → Plain → List ℕ → Told
-toldDone (signOn r p) x buffer = record { number = 0; count = 0; buffer = buffer }
-toldDone (report r p) x buffer = record { number = 0; count = 0; buffer = buffer }
+toldDone (signOn r f) x buffer = record { number = 0; count = 0; buffer = buffer }
+toldDone (report r f) x buffer = record { number = 0; count = 0; buffer = buffer }
 toldDone (signOff r) x buffer = record { number = 0; count = 0; buffer = buffer }
 toldDone (range rect) x buffer = toldList (plainFound x rect) buffer
 

@@ -6,7 +6,7 @@ use mathlib.Core.Path.{_≡_}
 use Prim.Native.Nat.{ℕ, _+_, _-_, _*_, _≤_, _<_}
 use lib.Dec.{ltb}
 use lib.ListN.{length, drop}
-use Rattle.terms.specs.Terms.{Place, maxRadio, maxOn, pages}
+use Rattle.terms.specs.Terms.{Place, Fix, maxRadio, maxOn, pages}
 use Rattle.lists.specs.Rows.{Rows, Rising, UpTo, find}
 use Rattle.lists.specs.Sums.{sumBy, concat, count}
 use Rattle.lists.specs.Tests.{one-if, Each}
@@ -30,16 +30,16 @@ pub record OnCuts (cuts : List ℕ) (s : Span) : Type 0 where
   pub order : s .low ≤ s .high
 
 -- how many entries of a radio isn't stale, and how many are
-abbrev pub countIf : (Place → Bool) → Option Place → ℕ
+abbrev pub countIf : (Fix → Bool) → Option Fix → ℕ
 countIf t none = 0
-countIf t (some p) = one-if (t p)
+countIf t (some f) = one-if (t f)
 
 unfoldable pub liveOf : Rows Line → ℕ → List Cell → ℕ
-liveOf memo r cells = sumBy (λ c. countIf (λ p. not (staleBy (find memo r) p)) (find (c .entries) r)) cells
+liveOf memo r cells = sumBy (λ c. countIf (λ f. not (staleBy (find memo r) f)) (find (c .entries) r)) cells
 
 -- stale entries of one radio by a place
 unfoldable pub staleOf : Option Place → ℕ → List Cell → ℕ
-staleOf last r cells = sumBy (λ c. countIf (λ p. not (isAt last p)) (find (c .entries) r)) cells
+staleOf last r cells = sumBy (λ c. countIf (λ f. not (isAt last (f .place))) (find (c .entries) r)) cells
 
 -- stale entries of a cell
 unfoldable pub staleIn : Rows Line → Cell → ℕ
@@ -71,7 +71,7 @@ pub record GoodCell (cuts : Cuts) (c : Cell) : Type 0 where
   pub rising : Rising 0 (c .entries)
   pub radios : UpTo maxRadio (c .entries)
   -- "Entries lie in their cell's rectangle"
-  pub placed : Each (λ e. inside (c .edges) (e .val) ≡ true) (c .entries)
+  pub placed : Each (λ e. inside (c .edges) (e .val .place) ≡ true) (c .entries)
 
 -- what holds of each memo line
 pub record GoodLine (cells : List Cell) (r : ℕ) (l : Line) : Type 0 where
@@ -108,7 +108,7 @@ pub record WellFormed (s : Store) : Type 0 where
   -- "One waiting report a radio, by rising radio, at most 127, fewer than 8 a memory cell."
   pub waiting-rises : Rising 0 (s .waiting)
   pub waiting-radios : UpTo maxRadio (s .waiting)
-  pub waiting-placed : (r : ℕ) (w : Report) → find (s .waiting) r ≡ some w → InSquare (w .place)
+  pub waiting-placed : (r : ℕ) (w : Report) → find (s .waiting) r ≡ some w → InSquare (w .fix .place)
   pub few-wait : length (s .waiting) < fullMemory
   pub few-in-box : (m : Box) → waitingIn (s .cuts) (s .waiting) m < fullBox
   -- "The round names each cell once."

@@ -63,10 +63,10 @@ pub true-radios : (es : Rows Fix) → Rising 0 es → UpTo maxRadio es → radio
 unfolding radiosTest
 true-radios es r u = rows-rise maxRadio 0 es r u
 
-pub inside-true : (edges : Rect) (es : Rows Fix) → insideTest edges es ≡ true → Each (λ e. inside edges (e .val) ≡ true) es
+pub inside-true : (edges : Rect) (es : Rows Fix) → insideTest edges es ≡ true → Each (λ e. inside edges (e .val .place) ≡ true) es
 unfolding insideTest
-inside-true edges es e = all-each (λ x. inside edges (x .val)) (λ x. inside edges (x .val) ≡ true) es (λ x t. t) e
+inside-true edges es e = all-each (λ x. inside edges (x .val .place)) (λ x. inside edges (x .val .place) ≡ true) es (λ x t. t) e
 
-pub true-inside : (edges : Rect) (es : Rows Fix) → Each (λ e. inside edges (e .val) ≡ true) es → insideTest edges es ≡ true
+pub true-inside : (edges : Rect) (es : Rows Fix) → Each (λ e. inside edges (e .val .place) ≡ true) es → insideTest edges es ≡ true
 unfolding insideTest
-true-inside edges es e = each-all (λ x. inside edges (x .val)) (λ x. inside edges (x .val) ≡ true) es (λ x t. t) e
+true-inside edges es e = each-all (λ x. inside edges (x .val .place)) (λ x. inside edges (x .val .place) ≡ true) es (λ x t. t) e

@@ -47,16 +47,16 @@ abbrev pub RowsUpTo : List Cell → Type 0
 RowsUpTo cells = Each (λ c. UpTo maxRadio (c .entries)) cells
 
 -- of one cell: what is found, if it passes
-passing-cell : (t : Row Fix → Bool) (g : Place → Bool) (r : ℕ) (es : Rows Fix) → ((p : Place) → t (record { key = r; val = p }) ≡ g p) → Rising 0 es
+passing-cell : (t : Row Fix → Bool) (g : Fix → Bool) (r : ℕ) (es : Rows Fix) → ((f : Fix) → t (record { key = r; val = f }) ≡ g f) → Rising 0 es
     → countIf g (find es r) ≡ passing t r es
 passing-cell t g r es h a = same (find es r) ∙ sym (passing-found t 0 r es a)
   where
-    same : (o : Option Place) → countIf g o ≡ countFound (λ k v. one-if (t (record { key = k; val = v }))) r o
+    same : (o : Option Fix) → countIf g o ≡ countFound (λ k v. one-if (t (record { key = k; val = v }))) r o
     same none = refl
-    same (some p) = ap one-if (sym (h p))
+    same (some f) = ap one-if (sym (h f))
 
 -- of all
-passing-cells : (t : Row Fix → Bool) (g : Place → Bool) (r : ℕ) (cells : List Cell) → ((p : Place) → t (record { key = r; val = p }) ≡ g p) → RowsRise cells
+passing-cells : (t : Row Fix → Bool) (g : Fix → Bool) (r : ℕ) (cells : List Cell) → ((f : Fix) → t (record { key = r; val = f }) ≡ g f) → RowsRise cells
     → sumBy (λ c. countIf g (find (c .entries) r)) cells ≡ passing t r (concat (rowsOf cells))
 passing-cells t g r cells h a =
     sum-each (λ c. countIf g (find (c .entries) r)) (λ c. passing t r (c .entries)) cells
@@ -67,12 +67,12 @@ passing-cells t g r cells h a =
 -- entries that aren't stale
 pub live-cells : (memo : Rows Line) (r : ℕ) (cells : List Cell) → RowsRise cells → liveOf memo r cells ≡ liveAt memo r (concat (rowsOf cells))
 unfolding liveOf liveAt
-live-cells memo r cells a = passing-cells (λ e. not (stale memo e)) (λ p. not (staleBy (find memo r) p)) r cells (λ p. refl) a
+live-cells memo r cells a = passing-cells (λ e. not (stale memo e)) (λ f. not (staleBy (find memo r) f)) r cells (λ f. refl) a
 
 -- stale entries of a radio with a line, judged by the line's place
 pub stale-cells : (memo : Rows Line) (r : ℕ) (l : Line) (cells : List Cell) → find memo r ≡ some l → RowsRise cells → staleOf (l .last) r cells ≡ staleAt memo r (concat (rowsOf cells))
 unfolding staleOf staleAt
-stale-cells memo r l cells e a = passing-cells (stale memo) (λ p. not (isAt (l .last) p)) r cells (λ p. ap (λ (o : Option Line). staleBy o p) e) a
+stale-cells memo r l cells e a = passing-cells (stale memo) (λ f. not (isAt (l .last) (f .place))) r cells (λ f. ap (λ (o : Option Line). staleBy o f) e) a
 
 -- all entries of a radio
 pub stale-live : (memo : Rows Line) (r : ℕ) (es : Rows Fix) → staleAt memo r es + liveAt memo r es ≡ entriesAt r es

@@ -37,15 +37,15 @@ true-waiting ws h r u = both-intro (lt-ltb (length ws) fullMemory h) (rows-rise 
 
 -- ---- places
 
-pub places-true : (ws : Rows Report) → placesTest ws ≡ true → (r : ℕ) (w : Report) → find ws r ≡ some w → InSquare (w .place)
+pub places-true : (ws : Rows Report) → placesTest ws ≡ true → (r : ℕ) (w : Report) → find ws r ≡ some w → InSquare (w .fix .place)
 unfolding placesTest
 places-true ws e r w =
-    each-find (λ _ v. InSquare (v .place)) r w ws (all-each (λ x. placeTest (x .val .place)) (λ x. InSquare (x .val .place)) ws (λ x t. place-true (x .val .place) t) e)
+    each-find (λ _ v. InSquare (v .fix .place)) r w ws (all-each (λ x. placeTest (x .val .fix .place)) (λ x. InSquare (x .val .fix .place)) ws (λ x t. place-true (x .val .fix .place) t) e)
 
-pub true-places : (ws : Rows Report) → Rising 0 ws → ((r : ℕ) (w : Report) → find ws r ≡ some w → InSquare (w .place)) → placesTest ws ≡ true
+pub true-places : (ws : Rows Report) → Rising 0 ws → ((r : ℕ) (w : Report) → find ws r ≡ some w → InSquare (w .fix .place)) → placesTest ws ≡ true
 unfolding placesTest
 true-places ws a h =
-    each-all (λ x. placeTest (x .val .place)) (λ x. InSquare (x .val .place)) ws (λ x s. true-place (x .val .place) s) (find-each (λ _ v. InSquare (v .place)) 0 ws a h)
+    each-all (λ x. placeTest (x .val .fix .place)) (λ x. InSquare (x .val .fix .place)) ws (λ x s. true-place (x .val .fix .place) s) (find-each (λ _ v. InSquare (v .fix .place)) 0 ws a h)
 
 -- ---- fewer than 8 a memory cell
 
@@ -55,7 +55,7 @@ unfolding fewTest waitingIn
 few-true cuts ws e m =
     sum-cases (inBox cuts m) ws
     (λ z. omega arith)
-    (λ w t. subst (λ (b : Box). waitingIn cuts ws b < fullBox) (inBox-box cuts m w t) (boxes-hold (λ b. waitingIn cuts ws b < fullBox) cuts (w .val .place) each))
+    (λ w t. subst (λ (b : Box). waitingIn cuts ws b < fullBox) (inBox-box cuts m w t) (boxes-hold (λ b. waitingIn cuts ws b < fullBox) cuts (w .val .fix .place) each))
   where
     each : Each (λ b. waitingIn cuts ws b < fullBox) (boxes cuts)
     each = all-each (λ b. ltb (waitingIn cuts ws b) fullBox) (λ b. waitingIn cuts ws b < fullBox) (boxes cuts) (λ b t. ltb-true (waitingIn cuts ws b) fullBox t) e

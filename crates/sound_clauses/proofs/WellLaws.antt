@@ -58,7 +58,7 @@ pub record Passes (s : Store) : Type 0 where
 
 good-cells : (cuts : Cuts) (cells : List Cell) → Each (λ c. c .number < maxCells) cells → Each (λ c. WholeBoxes cuts (c .edges)) cells
     → Each (λ c. length (c .chain) ≡ pagesFor (length (c .entries))) cells → Each (λ c. Rising 0 (c .entries) × UpTo maxRadio (c .entries)) cells
-    → Each (λ c. Each (λ e. inside (c .edges) (e .val) ≡ true) (c .entries)) cells → Each (GoodCell cuts) cells
+    → Each (λ c. Each (λ e. inside (c .edges) (e .val .place) ≡ true) (c .entries)) cells → Each (GoodCell cuts) cells
 good-cells cuts [] n e g r i = tt
 good-cells cuts (c ∷ cs) n e g r i =
     (record { numbered = n .0; edged = e .0; paged = g .0; rising = r .0 .0; radios = r .0 .1; placed = i .0 }, good-cells cuts cs (n .1) (e .1) (g .1) (r .1) (i .1))
@@ -90,7 +90,7 @@ module _ (s : Store) (p : Passes s) where
       (each-of-map (WholeBoxes (s .cuts)) (λ c. c .edges) (s .cells) all-edged)
       (all-each (λ c. chainTest (c .chain) (c .entries)) (λ c. length (c .chain) ≡ pagesFor (length (c .entries))) (s .cells) (λ c t. chain-true (c .chain) (c .entries) t) (p .chained))
       all-rows
-      (all-each (λ c. insideTest (c .edges) (c .entries)) (λ c. Each (λ e. inside (c .edges) (e .val) ≡ true) (c .entries)) (s .cells) (λ c t. inside-true (c .edges) (c .entries) t) (p .placed))
+      (all-each (λ c. insideTest (c .edges) (c .entries)) (λ c. Each (λ e. inside (c .edges) (e .val .place) ≡ true) (c .entries)) (s .cells) (λ c t. inside-true (c .edges) (c .entries) t) (p .placed))
 
   all-tiled : (q : Place) → InSquare q → sumBy (λ c. one-if (inside (c .edges) q)) (s .cells) ≡ 1
   all-tiled q h =

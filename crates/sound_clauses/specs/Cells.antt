@@ -47,4 +47,4 @@ radiosTest es = risesTo maxRadio 0 (keys es)
 
 -- "Entries lie in their cell's rectangle"
 unfoldable pub insideTest : Rect → Rows Fix → Bool
-insideTest edges es = all (λ e. inside edges (e .val)) es
+insideTest edges es = all (λ e. inside edges (e .val .place)) es

@@ -18,7 +18,7 @@ waitingTest ws = both (ltb (length ws) fullMemory) (risesTo maxRadio 0 (keys ws)
 
 -- "A place is east and north, each 0 to 65,535 metres."
 unfoldable pub placesTest : Rows Report → Bool
-placesTest ws = all (λ w. placeTest (w .val .place)) ws
+placesTest ws = all (λ w. placeTest (w .val .fix .place)) ws
 
 -- "fewer than 8 a memory cell"
 unfoldable pub fewTest : Cuts → Rows Report → Bool

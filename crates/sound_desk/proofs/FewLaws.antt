@@ -47,7 +47,7 @@ module _ {easts norths : CutList} {w : Waiting} {at : Stripes} (seats : Seated e
   it = rowOf (getD (everyReport (w .words)) i noReport)
 
   abbrev its : Box
-  its = boxOf cuts (it .val .place)
+  its = boxOf cuts (it .val .fix .place)
 
   module _ (more : i < w .n) {k : ℕ} (said : k ≡ boxAt (record { east = getD (at .easts) i 0; north = getD (at .norths) i 0 })) where
     few-east : length (cuts .easts) ≤ maxCuts

@@ -31,7 +31,7 @@ lastRadio low [] = low
 lastRadio low (e ∷ es) = lastRadio (e .key) es
 
 abbrev pub insideOf : Slot → Row Fix → Bool
-insideOf s e = inside (edgesOf s) (e .val)
+insideOf s e = inside (edgesOf s) (e .val .place)
 
 -- a page of the cell's chain, the last radio before it being low
 unfoldable pub pageOk : Slot → ℕ → ℕ → List ℕ → Bool

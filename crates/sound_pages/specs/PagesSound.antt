@@ -26,7 +26,7 @@ pub record CellSound (c : Cell) : Type 0 where
   pub rising : Rising 0 (c .entries)
   pub radios : UpTo maxRadio (c .entries)
   -- "Entries lie in their cell's rectangle"
-  pub placed : Each (λ e. inside (c .edges) (e .val) ≡ true) (c .entries)
+  pub placed : Each (λ e. inside (c .edges) (e .val .place) ≡ true) (c .entries)
 
 pub record PagesSound (bytes : List ℕ) (directory : Directory) (free : ℕ) : Type 0 where
   -- in the order of the directory

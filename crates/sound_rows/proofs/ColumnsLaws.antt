@@ -204,8 +204,8 @@ module _ (ws : List ℕ) (size : length ws ≡ reportFields * fullMemory) (short
   placed : placesTest (reportsOf (waitingWith n ws)) ≡ true
   unfolding placesTest reportsOf
   placed =
-      all-map (λ (x : Row StoreReport). placeTest (x .val .place)) reportRow kept
-      ∙ each-all (λ x. placeTest (reportRow x .val .place)) (λ x. (x .east ≤ lastMetre) × (x .north ≤ lastMetre)) kept
+      all-map (λ (x : Row StoreReport). placeTest (x .val .fix .place)) reportRow kept
+      ∙ each-all (λ x. placeTest (reportRow x .val .fix .place)) (λ x. (x .east ≤ lastMetre) × (x .north ≤ lastMetre)) kept
       (λ x h. unfold placeTest in both-intro (le-leb (x .east) lastMetre (h .0)) (le-leb (x .north) lastMetre (h .1)))
       (getD-each (λ x. (x .east ≤ lastMetre) × (x .north ≤ lastMetre)) kept noReport (λ i h.
       let k : i < n = omega (arith, few-used n n (everyReport ws) (omega arith)) in

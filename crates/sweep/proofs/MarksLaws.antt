@@ -123,11 +123,11 @@ unfolding lowerEach
 rising-lower b [] l a r = r
 rising-lower b (e ∷ es) l a r = rising-lower (e .key) es (alter lowered (e .key) l) (a .1) (rising-alter lowered 0 (e .key) l (omega arith) r)
 
-lowered-none : (o : Option Place) → loweredIf o none ≡ none
+lowered-none : (o : Option Fix) → loweredIf o none ≡ none
 lowered-none none = refl
 lowered-none (some p) = refl
 
-lowered-some : (o : Option Place) (v : StoreLine) → lowerIf (isSome o) v ≡ loweredIf o (some v)
+lowered-some : (o : Option Fix) (v : StoreLine) → lowerIf (isSome o) v ≡ loweredIf o (some v)
 lowered-some none v = refl
 lowered-some (some p) v = refl
 

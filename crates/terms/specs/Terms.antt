@@ -34,6 +34,9 @@ pub record Place : Type 0 where
   pub east : ℕ
   pub north : ℕ
 
--- what an entry has of its radio, and what its latest report told: a place
-abbrev pub Fix : Type 0
-Fix = Place
+-- what an entry has of its radio, and what its latest report told
+pub record Fix : Type 0 where
+  pub place : Place
+
+abbrev pub fixAt : ℕ → ℕ → Fix
+fixAt east north = record { place = record { east = east; north = north } }

@@ -10,6 +10,7 @@ use native.Mathlib.Omega.{arith}
 use lib.Dec.{eqb}
 use lib.ListN.{length, getD, set, take, length-map, length-take}
 use lib.Seq.{take-suc, getD-take}
+use Rattle.terms.specs.Terms.{fixAt}
 use Rattle.lists.specs.Parts.{insertAt, removeAt}
 use Rattle.lists.specs.Rows.{Row, Rows, Rising, find, rank, alter, insert}
 use Rattle.lists.specs.Tests.{one-if}
@@ -36,7 +37,7 @@ use Rattle.waiting.proofs.SlotsLaws.{getD-mapped, length-slotted, Slots
 -- ---- the same rows, as the desk's array and as a list
 
 abbrev pub noRow : Row StoreReport
-noRow = record { key = 0; val = record { place = record { east = 0; north = 0 }; new = false } }
+noRow = record { key = 0; val = record { fix = fixAt 0 0; new = false } }
 
 -- a mark of 0 or 1 is that of its row
 mark-of : (n : ℕ) → n ≤ 1 → one-if (not (eqb n 0)) ≡ n
@@ -52,7 +53,7 @@ not-zero true = refl
 not-zero false = refl
 
 pub row-report : (x : Row StoreReport) → rowOf (reportOf x) ≡ x
-row-report x = let e = not-zero (x .val .new) in λ i. record { key = x .key; val = record { place = x .val .place; new = e i } }
+row-report x = let e = not-zero (x .val .new) in λ i. record { key = x .key; val = record { fix = x .val .fix; new = e i } }
 
 rows-reports : (l : Rows StoreReport) → map rowOf (map reportOf l) ≡ l
 rows-reports [] = refl
@@ -232,11 +233,11 @@ mark-le w r e = rw e (one-if-le (wasNew (find (reportsOf w) r)))
 
 put-keeps : (w : Waiting) (r east north : ℕ) {m : ℕ} {v : Waiting} → Rising 0 (reportsOf w) → m ≡ one-if (wasNew (find (reportsOf w) r))
     → v ≡ waitingOf (insert r (waits (record { radio = r; east = east; north = north; new = m })) (reportsOf w))
-    → v ≡ waitingOf (alter (λ x. some (record { place = record { east = east; north = north }; new = wasNew x })) r (reportsOf w))
+    → v ≡ waitingOf (alter (λ x. some (record { fix = fixAt east north; new = wasNew x })) r (reportsOf w))
 put-keeps w r east north {m} a e f =
-    let kept : Option StoreReport → Option StoreReport = λ x. some (record { place = record { east = east; north = north }; new = wasNew x }) in
+    let kept : Option StoreReport → Option StoreReport = λ x. some (record { fix = fixAt east north; new = wasNew x }) in
     let q : not (eqb m 0) ≡ wasNew (find (reportsOf w) r) = ap (λ (n : ℕ). not (eqb n 0)) e ∙ not-zero (wasNew (find (reportsOf w) r)) in
-    f ∙ ap waitingOf (alter-found _ kept 0 r (reportsOf w) a (ap (λ (b : Bool). some (record { place = record { east = east; north = north }; new = b })) q))
+    f ∙ ap waitingOf (alter-found _ kept 0 r (reportsOf w) a (ap (λ (b : Bool). some (record { fix = fixAt east north; new = b })) q))
 
 -- the mark is kept where a report of the radio waits, and else there is none
 module _ {n : ℕ} {ws : List ℕ} (r : ℕ) {k : ℕ} {o : Standing} (whole : WholeWaiting (waitingWith n ws)) (rising : Rising 0 (reportsOf (waitingWith n ws)))
@@ -249,11 +250,11 @@ module _ {n : ℕ} {ws : List ℕ} (r : ℕ) {k : ℕ} {o : Standing} (whole : W
     mark-at-le = mark-le (waitingWith n ws) r mark-at
 
     pub keep-at : (east north : ℕ) {v : Waiting} → v ≡ waitingOf (set (reportsOf (waitingWith n ws)) k (rowOf (record { radio = r; east = east; north = north; new = x .new })))
-        → v ≡ waitingOf (alter (λ x. some (record { place = record { east = east; north = north }; new = wasNew x })) r (reportsOf (waitingWith n ws)))
+        → v ≡ waitingOf (alter (λ x. some (record { fix = fixAt east north; new = wasNew x })) r (reportsOf (waitingWith n ws)))
     keep-at east north f = put-keeps (waitingWith n ws) r east north rising mark-at (put-at n ws (record { radio = r; east = east; north = north; new = x .new }) rising told here f)
 
   pub keep-before : (east north : ℕ) {v : Waiting} → o ≡ Before k → v ≡ waitingOf (insertAt (reportsOf (waitingWith n ws)) k (rowOf (record { radio = r; east = east; north = north; new = 0 })))
-      → v ≡ waitingOf (alter (λ x. some (record { place = record { east = east; north = north }; new = wasNew x })) r (reportsOf (waitingWith n ws)))
+      → v ≡ waitingOf (alter (λ x. some (record { fix = fixAt east north; new = wasNew x })) r (reportsOf (waitingWith n ws)))
   keep-before east north e f =
       put-keeps (waitingWith n ws) r east north rising (mark-none r (find (reportsOf (waitingWith n ws)) r) (report-missing r whole rising told e))
       (put-before n ws (record { radio = r; east = east; north = north; new = 0 }) rising told e f)

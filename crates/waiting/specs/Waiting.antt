@@ -6,6 +6,7 @@ use mathlib.Core.Path.{_≡_}
 use Prim.Native.Nat.{ℕ, _≤_, _<_}
 use lib.Dec.{eqb}
 use lib.ListN.{take}
+use Rattle.terms.specs.Terms.{Fix, fixAt}
 use Rattle.lists.specs.Rows.{Row, Rows, Rising}
 use Rattle.desk.specs.Views.{everyReport}
 use Rattle.rules.specs.Limits.{fullMemory}
@@ -16,9 +17,12 @@ use Rattle.desk.specs.Held.{Waiting}
 use Rattle.waiting.specs.declared.Waited.{Waited}
 use Rattle.waiting.specs.declared.Waited.the-variants.{Found, Missing}
 
--- a place with a mark
+abbrev pub fixOf : Report → Fix
+fixOf w = fixAt (w .east) (w .north)
+
+-- what it told, with a mark
 abbrev pub waits : Report → StoreReport
-waits w = record { place = record { east = w .east; north = w .north }; new = not (eqb (w .new) 0) }
+waits w = record { fix = fixOf w; new = not (eqb (w .new) 0) }
 
 -- a report as a row: its radio is the key
 abbrev pub rowOf : Report → Row StoreReport

@@ -18,8 +18,8 @@ use Rattle.reshape.proofs.chosen_cut.Tie as tie
 module _ (n : ℕ) (ws : List ℕ) where
   columns : StandIn n (eastsOf ws) (northsOf ws) (rowsOf (tableWith n ws))
   unfolding coordinates rowsOf
-  columns eastward = map-map (λ x. along eastward (x .val)) rowOf (take n (everyEntry ws)) ∙ map-take (λ e. e .east) n (everyEntry ws)
-  columns northward = map-map (λ x. along northward (x .val)) rowOf (take n (everyEntry ws)) ∙ map-take (λ e. e .north) n (everyEntry ws)
+  columns eastward = map-map (λ x. along eastward (x .val .place)) rowOf (take n (everyEntry ws)) ∙ map-take (λ e. e .east) n (everyEntry ws)
+  columns northward = map-map (λ x. along northward (x .val .place)) rowOf (take n (everyEntry ws)) ∙ map-take (λ e. e .north) n (everyEntry ws)
 
   chosen-rows : (c : Cuts) (d : Rect) {o : Option Cut} {eastings northings : List ℕ} → eastings ≡ eastsOf ws → northings ≡ northsOf ws
       → ((l : Rows Fix) → StandIn n eastings northings l → o ≡ chosenCut c d l) → o ≡ chosenCut c d (rowsOf (tableWith n ws))
