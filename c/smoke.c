@@ -57,7 +57,7 @@ static void expect_fresh(void)
     assert(parts->frame.easts.n == 0 && parts->frame.norths.n == 0 && parts->frame.cells == 1 && parts->frame.free == 1);
     assert(all((const uint8_t *)parts->frame.easts.at, sizeof parts->frame.easts.at, 0));
     assert(all((const uint8_t *)parts->frame.norths.at, sizeof parts->frame.norths.at, 0));
-    assert(parts->waiting == 0 && parts->lines == 0 && parts->on == 0 && parts->tally == 0);
+    assert(parts->waiting == 0 && parts->lines == 0 && parts->on == 0 && parts->tally == 0 && parts->highest == 0);
     assert(desk->cells[0].number == 0 && desk->cells[0].first == 0);
     assert(desk->cells[0].west == 0 && desk->cells[0].east == 65535);
     assert(desk->cells[0].south == 0 && desk->cells[0].north == 65535);
@@ -65,20 +65,31 @@ static void expect_fresh(void)
     assert(all((const uint8_t *)&desk->waiting, sizeof desk->waiting, 0));
     assert(all((const uint8_t *)desk->memo, sizeof desk->memo, 0) && all((const uint8_t *)desk->on, sizeof desk->on, 0));
     for (unsigned p = 0; p < 128; p++) {
-        const uint8_t *page = lent.pages + 200 * p;
+        const uint8_t *page = lent.pages + 328 * p;
         unsigned next = p == 0 || p == 127 ? 65535 : p + 1;
         unsigned cell = p == 0 ? 0 : 65535;
         const uint8_t head[8] = {8, 0, p == 0 ? 2 : 1, 0, next & 255, next >> 8, cell & 255, cell >> 8};
-        assert(memcmp(page, head, 8) == 0 && all(page + 8, 192, 0));
+        assert(memcmp(page, head, 8) == 0 && all(page + 8, 320, 0));
     }
 }
 
-/* Radio 7 alone is on, and waits with this place, marked new. */
-static void expect_waiting(unsigned east, unsigned north)
+/* Radio 7 alone is on, and waits with this place and minute, marked new; the minute is the highest. */
+static void expect_waiting(unsigned east, unsigned north, uint32_t minute)
 {
     const boragefile_desk *desk = &lent.desk;
     assert(desk->parts.on == 1 && desk->on[0] == 7 && desk->parts.waiting == 1 && desk->parts.lines == 0);
     assert(desk->waiting.radios[0] == 7 && desk->waiting.easts[0] == east && desk->waiting.norths[0] == north && desk->waiting.news[0] == 1);
+    assert(desk->waiting.lows[0] + 65536u * desk->waiting.highs[0] == minute && desk->parts.highest == minute);
+}
+
+/* The record with another minute, which its last four bytes are. */
+static void expect_at(uint32_t minute, const uint8_t *bytes, size_t length, unsigned number, unsigned count)
+{
+    uint8_t record[16];
+    memcpy(record, bytes, length - 4);
+    for (unsigned i = 0; i < 4; i++)
+        record[length - 4 + i] = (uint8_t)(minute >> 8 * i);
+    expect(record, length, number, count);
 }
 
 int main(void)
@@ -98,21 +109,21 @@ int main(void)
 
     /* a fresh store is sound; with a byte changed, or cut short, it is not */
     assert(is_sound(sizeof lent.pages) && !is_sound(sizeof lent.pages - 1));
-    lent.pages[199] = 1;
+    lent.pages[327] = 1;
     assert(!is_sound(sizeof lent.pages));
-    lent.pages[199] = 0;
+    lent.pages[327] = 0;
     assert(is_sound(sizeof lent.pages));
 
-    const uint8_t on[] = {10, 0, 1, 0, 7, 0, 100, 0, 200, 0};
-    const uint8_t report[] = {10, 0, 2, 0, 7, 0, 44, 1, 200, 0};
-    const uint8_t edges[] = {12, 0, 4, 0, 0, 0, 44, 1, 0, 0, 200, 0};
-    const uint8_t range[] = {12, 0, 4, 0, 0, 0, 45, 1, 0, 0, 201, 0};
-    const uint8_t off[] = {6, 0, 3, 0, 7, 0};
+    const uint8_t on[] = {14, 0, 1, 0, 7, 0, 100, 0, 200, 0, 0, 0, 0, 0};
+    const uint8_t report[] = {14, 0, 2, 0, 7, 0, 44, 1, 200, 0, 0, 0, 0, 0};
+    const uint8_t edges[] = {16, 0, 4, 0, 0, 0, 44, 1, 0, 0, 200, 0, 0, 0, 0, 0};
+    const uint8_t range[] = {16, 0, 4, 0, 0, 0, 45, 1, 0, 0, 201, 0, 0, 0, 0, 0};
+    const uint8_t off[] = {10, 0, 3, 0, 7, 0, 0, 0, 0, 0};
     const uint8_t listed[] = {7, 0, 44, 1, 200, 0};
     expect(on, sizeof on, 0, 0);
-    expect_waiting(100, 200);
+    expect_waiting(100, 200, 0);
     expect(report, sizeof report, 0, 0);
-    expect_waiting(300, 200);
+    expect_waiting(300, 200, 0);
     expect(edges, sizeof edges, 0, 0);
     assert(all(lent.buffer, sizeof lent.buffer, 0xA5));
     expect(range, sizeof range, 0, 1);
@@ -122,7 +133,19 @@ int main(void)
     expect(range, sizeof range, 0, 0);
     expect(off, sizeof off, 9, 0);
     expect(on, 0, 3, 0);
-    expect(range, 11, 3, 0);
+    expect(range, 15, 3, 0);
+
+    /* a place is kept for 720 minutes, and no minute is taken that is below the highest */
+    const uint32_t minute = 0x01020304;
+    expect_at(minute, on, sizeof on, 0, 0);
+    expect_waiting(100, 200, minute);
+    expect_at(minute + BORAGEFILE_KEPT_MINUTES, range, sizeof range, 0, 1);
+    expect_at(minute + BORAGEFILE_KEPT_MINUTES + 1, range, sizeof range, 0, 0);
+    expect_at(minute - 1, on, sizeof on, BORAGEFILE_TOO_EARLY, 0);
+    expect_at(minute - 1, report, sizeof report, BORAGEFILE_TOO_EARLY, 0);
+    expect_at(minute - 1, range, sizeof range, BORAGEFILE_TOO_EARLY, 0);
+    expect_at(minute - 1, off, sizeof off, BORAGEFILE_TOO_EARLY, 0);
+    expect_at(minute, off, sizeof off, 0, 0);
 
     /* sound after all these */
     assert(is_sound(sizeof lent.pages));
@@ -142,7 +165,7 @@ int main(void)
 
     /* a damaged store: number 2 */
     lent.desk.parts.tally = 16;
-    expect(range, sizeof range, BORAGEFILE_UNSOUND, 0);
+    expect_at(minute, range, sizeof range, BORAGEFILE_UNSOUND, 0);
     assert(!is_sound(sizeof lent.pages));
 
     printf("ok\n");

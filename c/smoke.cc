@@ -13,8 +13,8 @@ template <size_t N> static boragefile_answer call(const uint8_t (&record)[N])
 
 int main()
 {
-    const uint8_t on[] = {10, 0, BORAGEFILE_KIND_SIGN_ON, 0, 7, 0, 100, 0, 200, 0};
-    const uint8_t range[] = {12, 0, BORAGEFILE_KIND_RANGE, 0, 0, 0, 101, 0, 0, 0, 201, 0};
+    const uint8_t on[] = {14, 0, BORAGEFILE_KIND_SIGN_ON, 0, 7, 0, 100, 0, 200, 0, 0, 0, 0, 0};
+    const uint8_t range[] = {16, 0, BORAGEFILE_KIND_RANGE, 0, 0, 0, 101, 0, 0, 0, 201, 0, 0, 0, 0, 0};
     const uint8_t listed[] = {7, 0, 100, 0, 200, 0};
     if (boragefile_begin(&desk, pages, sizeof pages).number != BORAGEFILE_ACCEPTED || call(on).number != BORAGEFILE_ACCEPTED)
         return 1;

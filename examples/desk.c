@@ -2,8 +2,8 @@
  *
  *     desk FILE < LINES
  *
- * A line is one of "on RADIO EAST NORTH", "report RADIO EAST NORTH", "off RADIO" and "range WEST EAST SOUTH NORTH". For line i it prints "i ok",
- * "i found n" and then n lines "radio east north", "i refused r: words", or "i no record". What was answered with "ok" is in the file.
+ * A line is one of "on RADIO EAST NORTH MINUTE", "report RADIO EAST NORTH MINUTE", "off RADIO MINUTE" and "range WEST EAST SOUTH NORTH MINUTE". For line i
+ * it prints "i ok", "i found n" and then n lines "radio east north", "i refused r: words", or "i no record". What was answered with "ok" is in the file.
  *
  * The file: a line with the version, the desk, the pages, and a sum over all of these, so that a bit that flipped on the disk is found even where
  * the store is sound with it. A file that cannot be used is left as it is, and the program ends with 1. */
@@ -123,19 +123,19 @@ static void put_field(uint8_t *bytes, unsigned value)
     bytes[1] = value >> 8 & 255;
 }
 
-/* A number of digits, 0 to 65535, or -1. */
-static long number_of(const char *word)
+/* A number of digits, 0 to the most that is given, or -1. */
+static int64_t number_of(const char *word, int64_t most)
 {
-    long value = 0;
+    int64_t value = 0;
     for (; *word; word++) {
-        if (*word < '0' || *word > '9' || (value = 10 * value + (*word - '0')) > 65535)
+        if (*word < '0' || *word > '9' || (value = 10 * value + (*word - '0')) > most)
             return -1;
     }
     return value;
 }
 
-/* Makes the record of a line and answers its length, or 0 where the line is no record. The line is cut into its words. */
-static size_t record_of(char *line, uint8_t record[12])
+/* Makes the record of a line and answers its length, or 0 where the line is no record. The line is cut into its words; the last of them is the minute. */
+static size_t record_of(char *line, uint8_t record[16])
 {
     static const struct {
         const char *word;
@@ -153,17 +153,23 @@ static size_t record_of(char *line, uint8_t record[12])
         kind++;
     if (!word || kind > BORAGEFILE_KIND_RANGE)
         return 0;
-    size_t length = 4 + 2 * kinds[kind].numbers;
+    size_t minute_at = 4 + 2 * kinds[kind].numbers, length = minute_at + 4;
     put_field(record, (unsigned)length);
     put_field(record + 2, kind);
-    for (size_t at = 4; at < length; at += 2) {
+    for (size_t at = 4; at < minute_at; at += 2) {
         word = strtok(NULL, between);
-        long value = word ? number_of(word) : -1;
+        int64_t value = word ? number_of(word, UINT16_MAX) : -1;
         if (value < 0)
             return 0;
         put_field(record + at, (unsigned)value);
     }
-    return strtok(NULL, between) ? 0 : length;
+    word = strtok(NULL, between);
+    int64_t minute = word ? number_of(word, UINT32_MAX) : -1;
+    if (minute < 0 || strtok(NULL, between))
+        return 0;
+    put_field(record + minute_at, (unsigned)minute);
+    put_field(record + minute_at + 2, (unsigned)(minute >> 16));
+    return length;
 }
 
 int main(int count, char **arguments)
@@ -180,7 +186,7 @@ int main(int count, char **arguments)
     size_t room = 0;
     ssize_t length;
     for (unsigned long i = 1; (length = getline(&line, &room, stdin)) >= 0; i++) {
-        uint8_t record[12];
+        uint8_t record[16];
         size_t bytes = strlen(line) == (size_t)length ? record_of(line, record) : 0;
         if (bytes == 0) {
             printf("%lu no record\n", i);

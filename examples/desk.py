@@ -11,6 +11,7 @@ import struct
 import sys
 
 KINDS = {b"on": (1, 3), b"report": (2, 3), b"off": (3, 1), b"range": (4, 4)}
+LAST_MINUTE = 2**32 - 1
 
 
 class Answer(ctypes.Structure):
@@ -18,7 +19,7 @@ class Answer(ctypes.Structure):
 
 
 class Store:
-    """A fresh store: a desk of 7,201 16-bit numbers, and its pages."""
+    """A fresh store: a desk of 14,928 bytes, aligned to 4, and its pages."""
 
     def __init__(self, path):
         self.library = ctypes.CDLL(path)
@@ -30,8 +31,8 @@ class Store:
         ):
             function.restype = result
             function.argtypes = [ctypes.c_void_p, *slices * lent]
-        self.desk = (ctypes.c_uint16 * 7201)()
-        self.pages = (ctypes.c_uint8 * 25600)()
+        self.desk = (ctypes.c_uint32 * (14928 // 4))()
+        self.pages = (ctypes.c_uint8 * 41984)()
         self.buffer = (ctypes.c_uint8 * 3072)()
         if self.library.boragefile_begin(self.desk, self.pages, len(self.pages)).number != 0:
             raise ValueError("no fresh store")
@@ -46,12 +47,15 @@ class Store:
 
 
 def record_of(line):
-    """The record's bytes, or None where the line is no record."""
+    """The record's bytes, or None where the line is no record. Its last number is the minute."""
     word, *numbers = line.split() or [b""]
-    kind, wanted = KINDS.get(word, (0, -1))
-    if len(numbers) != wanted or not all(number.isdigit() and int(number) <= 65535 for number in numbers):
+    kind, wanted = KINDS.get(word, (0, -2))
+    if len(numbers) != wanted + 1 or not all(number.isdigit() for number in numbers):
         return None
-    return struct.pack(f"<{2 + wanted}H", 4 + 2 * wanted, kind, *map(int, numbers))
+    *fields, minute = map(int, numbers)
+    if minute > LAST_MINUTE or any(field > 65535 for field in fields):
+        return None
+    return struct.pack(f"<{2 + wanted}HI", 4 + 2 * wanted + 4, kind, *fields, minute)
 
 
 def main():

@@ -3,9 +3,9 @@
 //!
 //!     desk FILE < LINES
 //!
-//! A line is one of `on RADIO EAST NORTH`, `report RADIO EAST NORTH`, `off RADIO` and `range WEST EAST SOUTH NORTH`. For line i
-//! it prints `i ok`, `i found n` and then n lines `radio east north`, `i refused r: words`, or `i no record`. What was answered
-//! with `ok` is in the file.
+//! A line is one of `on RADIO EAST NORTH MINUTE`, `report RADIO EAST NORTH MINUTE`, `off RADIO MINUTE` and
+//! `range WEST EAST SOUTH NORTH MINUTE`. For line i it prints `i ok`, `i found n` and then n lines `radio east north`,
+//! `i refused r: words`, or `i no record`. What was answered with `ok` is in the file.
 //!
 //! The file: a line with the version, the desk, the pages, and a sum over all of these, so that a bit that flipped on the disk
 //! is found even where the store is sound with it. A file that cannot be used is left as it is, and the program ends with 1.
@@ -112,29 +112,43 @@ fn save(store: &Store, path: &Path) -> io::Result<()> {
     File::open(folder.unwrap_or(Path::new(".")))?.sync_all()
 }
 
-/// The record of a line, if it is one.
+/// The record of a line, if it is one. Its last number is the minute.
 fn record_of(line: &[u8]) -> Option<Record> {
     let mut words = line
         .split(u8::is_ascii_whitespace)
         .filter(|word| !word.is_empty());
     let kind = words.next()?;
-    let numbers = words.map(number_of).collect::<Option<Vec<u16>>>()?;
-    Some(match (kind, numbers.as_slice()) {
-        (b"on", &[radio, east, north]) => Record::SignOn { radio, east, north },
-        (b"report", &[radio, east, north]) => Record::Report { radio, east, north },
-        (b"off", &[radio]) => Record::SignOff { radio },
+    let numbers = words.map(number_of).collect::<Option<Vec<u32>>>()?;
+    let (&minute, fields) = numbers.split_last()?;
+    let fields = fields.iter().map(|field| u16::try_from(*field).ok());
+    let fields = fields.collect::<Option<Vec<u16>>>()?;
+    Some(match (kind, fields.as_slice()) {
+        (b"on", &[radio, east, north]) => Record::SignOn {
+            radio,
+            east,
+            north,
+            minute,
+        },
+        (b"report", &[radio, east, north]) => Record::Report {
+            radio,
+            east,
+            north,
+            minute,
+        },
+        (b"off", &[radio]) => Record::SignOff { radio, minute },
         (b"range", &[west, east, south, north]) => Record::Range {
             west,
             east,
             south,
             north,
+            minute,
         },
         _ => return None,
     })
 }
 
-/// A number of digits, 0 to 65535.
-fn number_of(word: &[u8]) -> Option<u16> {
+/// A number of digits, 0 to 4294967295.
+fn number_of(word: &[u8]) -> Option<u32> {
     if !word.iter().all(u8::is_ascii_digit) {
         return None;
     }

@@ -8,14 +8,15 @@
 
 /* The layout of the desk is part of the version: a desk that another version saved is not for this one. */
 #define BORAGEFILE_VERSION_MAJOR 0
-#define BORAGEFILE_VERSION_MINOR 4
+#define BORAGEFILE_VERSION_MINOR 5
 #define BORAGEFILE_VERSION_PATCH 0
-#define BORAGEFILE_VERSION "0.4.0"
+#define BORAGEFILE_VERSION "0.5.0"
 
-#define BORAGEFILE_PAGES_BYTES 25600 /* 128 pages of 200 bytes */
-#define BORAGEFILE_DESK_BYTES 14402
-#define BORAGEFILE_ENTRY_BYTES 6   /* radio, east, north */
+#define BORAGEFILE_PAGES_BYTES 41984 /* 128 pages of 328 bytes */
+#define BORAGEFILE_DESK_BYTES 14928
+#define BORAGEFILE_ENTRY_BYTES 6   /* radio, east, north: what a range lists of a radio */
 #define BORAGEFILE_LIST_BYTES 3072 /* an answer buffer that takes 512 radios, all that may be on */
+#define BORAGEFILE_KEPT_MINUTES 720 /* a range leaves out a radio whose minute is more than this before its own */
 
 /* the kinds of records */
 enum {
@@ -25,7 +26,7 @@ enum {
     BORAGEFILE_KIND_RANGE = 4
 };
 
-/* an answer's number: 0, or that of the first check that turned the call down. They are checked in this order, but 12 after 6 and before 7. */
+/* an answer's number: 0, or that of the first check that turned the call down. They are checked in this order, but 12 and then 13 after 6 and before 7. */
 enum {
     BORAGEFILE_ACCEPTED = 0,
     BORAGEFILE_PAGE_BUFFER = 1,
@@ -39,7 +40,8 @@ enum {
     BORAGEFILE_NOT_ON = 9,
     BORAGEFILE_FULL = 10,
     BORAGEFILE_ANSWER_BUFFER = 11,
-    BORAGEFILE_NO_FIX = 12
+    BORAGEFILE_NO_FIX = 12,
+    BORAGEFILE_TOO_EARLY = 13
 };
 
 /* An answer's number in words. The text is constant; it is never null. */
@@ -47,7 +49,7 @@ static inline const char *boragefile_words(uint16_t number)
 {
     switch (number) {
     case BORAGEFILE_ACCEPTED: return "accepted";
-    case BORAGEFILE_PAGE_BUFFER: return "the page buffer isn't 25,600 bytes";
+    case BORAGEFILE_PAGE_BUFFER: return "the page buffer isn't 41,984 bytes";
     case BORAGEFILE_UNSOUND: return "the store isn't sound";
     case BORAGEFILE_LENGTH: return "fewer than 4 bytes are at hand, or the length is below 4 or above what is at hand";
     case BORAGEFILE_KIND: return "the kind isn't 1 to 4";
@@ -59,13 +61,14 @@ static inline const char *boragefile_words(uint16_t number)
     case BORAGEFILE_FULL: return "a sign-on comes while 512 are on";
     case BORAGEFILE_ANSWER_BUFFER: return "the answer buffer is too small for the radios found";
     case BORAGEFILE_NO_FIX: return "a sign-on or report has the place (0,0): the radio has no fix";
+    case BORAGEFILE_TOO_EARLY: return "the minute is below the store's highest";
     default: return "no number of this version";
     }
 }
 
-/* The desk, field by field as the proved code has it: first its parts, with every count, then four arrays. Every field is a 16-bit number, with nothing
- * between the fields and nothing after the last: two desks with equal fields are equal byte by byte, and a desk may be saved and compared as bytes. Slots past
- * a count are zero. */
+/* The desk, field by field as the proved code has it: first its parts, with every count, then four arrays. Every field is a 16-bit number but the highest
+ * minute, which has 32 bits, with nothing between the fields and nothing after the last: two desks with equal fields are equal byte by byte, and a desk may be
+ * saved and compared as bytes. Slots past a count are zero. */
 
 /* the cuts of one direction, rising: n of them */
 typedef struct {
@@ -87,6 +90,7 @@ typedef struct {
     uint16_t lines;   /* how many lines the memo has */
     uint16_t on;      /* how many radios are on */
     uint16_t tally;   /* accepted sign-ons, reports and sign-offs since the last sweep of the round */
+    uint32_t highest; /* the highest minute of an accepted sign-on, report or sign-off; 0 in a fresh store */
 } boragefile_parts;
 
 /* a cell: its number, its edges and the first page of its chain */
@@ -94,10 +98,10 @@ typedef struct {
     uint16_t number, west, east, south, north, first;
 } boragefile_slot;
 
-/* the waiting reports, by rising radio, field by field: report i has number i of each, and news[i] is 1 where it is marked new, else 0. There is room for one
- * more than may wait between two calls. */
+/* the waiting reports, by rising radio, field by field: report i has number i of each, and news[i] is 1 where it is marked new, else 0. Its minute is
+ * lows[i] + 65536 * highs[i]. There is room for one more than may wait between two calls. */
 typedef struct {
-    uint16_t radios[128], easts[128], norths[128], news[128];
+    uint16_t radios[128], easts[128], norths[128], news[128], lows[128], highs[128];
 } boragefile_waiting;
 
 /* a memo line; placed is 1 where it has a place, and 0, with the place zero, where it has none */
@@ -109,7 +113,7 @@ typedef struct {
     boragefile_parts parts;
     boragefile_slot cells[64];  /* in the order of the round, its front first; parts.frame.cells of them */
     boragefile_waiting waiting; /* parts.waiting of them */
-    boragefile_line memo[1151]; /* by rising radio, parts.lines of them: room for one more than there may be between two calls */
+    boragefile_line memo[1152]; /* by rising radio, parts.lines of them: room for two more than there may be between two calls */
     uint16_t on[512];           /* the radios on, rising; parts.on of them */
 } boragefile_desk;
 
@@ -129,22 +133,25 @@ BORAGEFILE_STATIC_ASSERT(sizeof(boragefile_frame) == 68, "frame");
 BORAGEFILE_STATIC_ASSERT(offsetof(boragefile_frame, norths) == 32, "north cuts");
 BORAGEFILE_STATIC_ASSERT(offsetof(boragefile_frame, cells) == 64, "how many cells");
 BORAGEFILE_STATIC_ASSERT(offsetof(boragefile_frame, free) == 66, "front of the free chain");
-BORAGEFILE_STATIC_ASSERT(sizeof(boragefile_parts) == 76, "parts");
+BORAGEFILE_STATIC_ASSERT(sizeof(boragefile_parts) == 80, "parts");
 BORAGEFILE_STATIC_ASSERT(offsetof(boragefile_parts, waiting) == 68, "how many wait");
 BORAGEFILE_STATIC_ASSERT(offsetof(boragefile_parts, lines) == 70, "how many lines");
 BORAGEFILE_STATIC_ASSERT(offsetof(boragefile_parts, on) == 72, "how many are on");
 BORAGEFILE_STATIC_ASSERT(offsetof(boragefile_parts, tally) == 74, "tally");
+BORAGEFILE_STATIC_ASSERT(offsetof(boragefile_parts, highest) == 76, "highest minute");
 BORAGEFILE_STATIC_ASSERT(sizeof(boragefile_slot) == 12, "slot");
-BORAGEFILE_STATIC_ASSERT(sizeof(boragefile_waiting) == 1024, "waiting");
+BORAGEFILE_STATIC_ASSERT(sizeof(boragefile_waiting) == 1536, "waiting");
 BORAGEFILE_STATIC_ASSERT(offsetof(boragefile_waiting, easts) == 256, "easts of the waiting");
 BORAGEFILE_STATIC_ASSERT(offsetof(boragefile_waiting, norths) == 512, "norths of the waiting");
 BORAGEFILE_STATIC_ASSERT(offsetof(boragefile_waiting, news) == 768, "marks of the waiting");
+BORAGEFILE_STATIC_ASSERT(offsetof(boragefile_waiting, lows) == 1024, "lower halves of the minutes");
+BORAGEFILE_STATIC_ASSERT(offsetof(boragefile_waiting, highs) == 1280, "higher halves of the minutes");
 BORAGEFILE_STATIC_ASSERT(sizeof(boragefile_line) == 10, "line");
 BORAGEFILE_STATIC_ASSERT(sizeof(boragefile_desk) == BORAGEFILE_DESK_BYTES, "desk");
-BORAGEFILE_STATIC_ASSERT(offsetof(boragefile_desk, cells) == 76, "cells in the desk");
-BORAGEFILE_STATIC_ASSERT(offsetof(boragefile_desk, waiting) == 844, "waiting in the desk");
-BORAGEFILE_STATIC_ASSERT(offsetof(boragefile_desk, memo) == 1868, "memo in the desk");
-BORAGEFILE_STATIC_ASSERT(offsetof(boragefile_desk, on) == 13378, "on in the desk");
+BORAGEFILE_STATIC_ASSERT(offsetof(boragefile_desk, cells) == 80, "cells in the desk");
+BORAGEFILE_STATIC_ASSERT(offsetof(boragefile_desk, waiting) == 848, "waiting in the desk");
+BORAGEFILE_STATIC_ASSERT(offsetof(boragefile_desk, memo) == 2384, "memo in the desk");
+BORAGEFILE_STATIC_ASSERT(offsetof(boragefile_desk, on) == 13904, "on in the desk");
 BORAGEFILE_STATIC_ASSERT(sizeof(boragefile_answer) == 4, "answer");
 
 #undef BORAGEFILE_STATIC_ASSERT
@@ -161,7 +168,7 @@ boragefile_answer boragefile_begin(boragefile_desk *desk, uint8_t *pages, size_t
 
 /* Hands in one record. A turned-down call keeps every byte. An accepted range lists its radios at the buffer's start, count of them; after any
  * other answer, number 11 among them, what stands in the buffer is no list. A range's west and south edges are inside, its east and north edges
- * outside; but an east or north edge of 65,535 takes in that last line. */
+ * outside; but an east or north edge of 65,535 takes in that last line. It leaves out a radio whose minute is more than 720 before its own. */
 boragefile_answer boragefile_call(boragefile_desk *desk, uint8_t *pages, size_t pages_length,
                                   const uint8_t *bytes, size_t bytes_length,
                                   uint8_t *buffer, size_t buffer_length);

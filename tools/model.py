@@ -12,6 +12,7 @@ import hashlib
 import json
 import struct
 import sys
+from typing import NamedTuple
 
 # ---- the numbers of the contract
 
@@ -21,9 +22,10 @@ PAGES = 128                 # "One store has 128 pages,"
 MOST_CELLS = 64             # "at most 64 cells,"
 MOST_CUTS = 15              # "at most 15 east cuts and 15 north cuts,"
 MOST_ON = 512               # "and at most 512 radios signed on."
-PAGE_BYTES = 200            # "A page has 200 bytes"
-PAGE_HEAD = 8               # "used bytes (8 + 6 × entries)"
-ENTRY_BYTES = 6             # "radio, east, north", in an entry and in an answer
+PAGE_BYTES = 328            # "pages become 328 bytes" (02, Job 3)
+PAGE_HEAD = 8               # "used bytes are 8 + 10 × entries" (02, Job 3)
+ENTRY_BYTES = 10            # "radio, east, north", and "in an entry after north" the minute
+LISTED_BYTES = 6            # "An accepted range writes 6 × n bytes (radio, east, north)"
 PAGE_ENTRIES = 32           # "then up to 32 entries"
 NONE = 65535                # "65,535 for none", "65,535 if free"
 FREE, FIRST, FURTHER = 1, 2, 3  # "kind (1 free, 2 first of a cell, 3 further)"
@@ -33,10 +35,13 @@ SPLIT_ABOVE = 32            # "when d has more than 32 entries"
 SIDE_MOST = 32              # "existing cuts through d that leave at most 32 on each side"
 JOIN_MOST = 24              # "the two have at most 24 entries together"
 SWEEP_EVERY = 16            # "At 16, sweep the cell at the front of the round"
+KEPT_MINUTES = 720          # "more than 720 before the range's own; exactly 720 stays in" (02, Job 3)
+LAST_MINUTE = 2**32 - 1     # "a 32-bit minute"
 
 RECORD_HEAD = 4             # "its length in bytes, its kind"
+MINUTE_BYTES = 4            # "Every record ends with a 32-bit minute"
 SIGN_ON, REPORT, SIGN_OFF, RANGE = 1, 2, 3, 4
-LENGTHS = {SIGN_ON: 10, REPORT: 10, SIGN_OFF: 6, RANGE: 12}
+LENGTHS = {SIGN_ON: 14, REPORT: 14, SIGN_OFF: 10, RANGE: 16}
 
 EAST, NORTH = 0, 1          # the two directions; a place is (east, north)
 STRANGE = ("page_bytes", "damage")  # what a journal's line may say of the page buffer (tools/replay-vectors)
@@ -48,20 +53,43 @@ def fields(*numbers):
     return struct.pack(f"<{len(numbers)}H", *numbers)
 
 
-def record(kind, *body):
-    """A record: its length in bytes, its kind, its body."""
-    return fields(LENGTHS[kind], kind, *body)
+def minute_bytes(minute):
+    """A minute, little-endian, 32 bits."""
+    return struct.pack("<I", minute)
+
+
+def record(kind, *body, minute):
+    """A record: its length in bytes, its kind, its body, its minute."""
+    return fields(LENGTHS[kind], kind, *body) + minute_bytes(minute)
 
 
 def parsed(given):
-    """Kind and body of a record that has the length for its kind."""
+    """Kind, body and minute of a record that has the length for its kind."""
     length, kind = struct.unpack("<2H", given[:RECORD_HEAD])
-    return kind, struct.unpack(f"<{(length - RECORD_HEAD) // 2}H", given[RECORD_HEAD:length])
+    end = length - MINUTE_BYTES
+    [minute] = struct.unpack("<I", given[end:length])
+    return kind, struct.unpack(f"<{(end - RECORD_HEAD) // 2}H", given[RECORD_HEAD:end]), minute
 
 
-def entry_bytes(radio, place):
-    """An entry of a page; in an answer it looks the same."""
-    return fields(radio, *place)
+class Fix(NamedTuple):
+    """What a waiting report and an entry carry: the place, and the minute of the report."""
+    place: tuple
+    minute: int
+
+
+def entry_bytes(radio, fix):
+    """An entry of a page."""
+    return fields(radio, *fix.place) + minute_bytes(fix.minute)
+
+
+def listed_bytes(radio, fix):
+    """A radio in the list of a range."""
+    return fields(radio, *fix.place)
+
+
+def too_old(fix, minute):
+    # "a radio whose minute is more than 720 before the range's own"
+    return minute - fix.minute > KEPT_MINUTES
 
 
 def takes_in(low, high, coordinate):
@@ -83,7 +111,7 @@ class Cell:
         self.number = number
         self.edges = edges      # west, east, south, north: the least and greatest coordinates, all inside
         self.chain = chain      # page numbers, the first page first
-        self.entries = {}       # radio: place
+        self.entries = {}       # radio: fix
 
     def low(self, way):
         return self.edges[2 * way]
@@ -92,7 +120,7 @@ class Cell:
         return self.edges[2 * way + 1]
 
     def coordinates(self, way):
-        return sorted(place[way] for place in self.entries.values())
+        return sorted(fix.place[way] for fix in self.entries.values())
 
 
 class Model:
@@ -101,10 +129,11 @@ class Model:
         self.cuts = ([], [])    # of each direction, rising
         self.round = [Cell(0, (0, LAST_METRE, 0, LAST_METRE), [0])]  # the cells, the front of the round first
         self.free = list(range(1, PAGES))
-        self.waiting = {}       # radio: (place, marked new)
+        self.waiting = {}       # radio: (fix, marked new)
         self.memo = {}          # radio: [missed count, place or None for "none"]
         self.on = set()
         self.tally = 0
+        self.highest = 0        # "the highest minute of an accepted sign-on, report or sign-off, 0 when fresh"
         self.seen = []          # what the last call went through, in words, for those who write journals
 
     # ---- one call
@@ -115,20 +144,22 @@ class Model:
         number = self.pages_refusal(lent) or self.refusal(given)
         if number:
             return number, 0, b""
-        kind, body = parsed(given)
+        kind, body, minute = parsed(given)
         if kind == RANGE:
-            found = [(radio, place) for radio in sorted(self.on) for place in [self.latest(radio)] if in_range(place, *body)]
-            if buffer < ENTRY_BYTES * len(found):
+            found = [(radio, fix) for radio in sorted(self.on) for fix in [self.latest(radio)]
+                     if in_range(fix.place, *body) and not too_old(fix, minute)]
+            if buffer < LISTED_BYTES * len(found):
                 return 11, len(found), b""
-            return 0, len(found), b"".join(entry_bytes(radio, place) for radio, place in found)
-        radio, place = body[0], tuple(body[1:3])
+            return 0, len(found), b"".join(listed_bytes(radio, fix) for radio, fix in found)
+        radio, fix = body[0], Fix(tuple(body[1:3]), minute)
+        self.highest = max(self.highest, minute)
         if kind == SIGN_OFF:
             self.sign_off(radio)
         else:
             self.on.add(radio)
-            marked = kind == SIGN_ON or self.waiting.get(radio, (place, False))[1]
-            self.waiting[radio] = (place, marked)
-            self.flush_if_due(place)
+            marked = kind == SIGN_ON or self.waiting.get(radio, (fix, False))[1]
+            self.waiting[radio] = (fix, marked)
+            self.flush_if_due(fix.place)
         self.tick()
         return 0, 0, b""
 
@@ -139,7 +170,7 @@ class Model:
         return 1 if len(lent) != PAGES * PAGE_BYTES else 2
 
     def refusal(self, given):
-        # "Turned down, in checking order": 3 to 10 and 12 of Job 2, or 0
+        # "Turned down, in checking order": 3 to 10, 12 of Job 2 and 13 of Job 3, or 0
         if len(given) < RECORD_HEAD:
             return 3
         length, kind = struct.unpack("<2H", given[:RECORD_HEAD])
@@ -149,15 +180,17 @@ class Model:
             return 4
         if length != LENGTHS[kind]:
             return 5
-        kind, body = parsed(given)
-        if kind == RANGE:
-            west, east, south, north = body
-            return 7 if west > east or south > north else 0
+        kind, body, minute = parsed(given)
         radio = body[0]
-        if radio == 0 or radio > LAST_RADIO:
+        if kind != RANGE and (radio == 0 or radio > LAST_RADIO):
             return 6
         if kind in (SIGN_ON, REPORT) and tuple(body[1:3]) == (0, 0):
             return 12
+        if minute < self.highest:
+            return 13
+        if kind == RANGE:
+            west, east, south, north = body
+            return 7 if west > east or south > north else 0
         if kind == SIGN_ON and radio in self.on:
             return 8
         if kind in (REPORT, SIGN_OFF) and radio not in self.on:
@@ -170,12 +203,12 @@ class Model:
         # "a waiting report's before a stored one's"
         if radio in self.waiting:
             return self.waiting[radio][0]
-        [place] = [cell.entries[radio] for cell in self.round if radio in cell.entries and not self.stale(radio, cell.entries[radio])]
-        return place
+        [fix] = [cell.entries[radio] for cell in self.round if radio in cell.entries and not self.stale(radio, cell.entries[radio])]
+        return fix
 
-    def stale(self, radio, place):
+    def stale(self, radio, fix):
         # "whose radio has a memo line with another place or none"
-        return radio in self.memo and self.memo[radio][1] != place
+        return radio in self.memo and self.memo[radio][1] != fix.place
 
     def miss(self, radio):
         # "the missed count grows by 1 (made as 1 if absent)"
@@ -208,7 +241,7 @@ class Model:
     def flush_if_due(self, place):
         boxes = {}
         for radio in sorted(self.waiting):
-            boxes.setdefault(self.box(self.waiting[radio][0]), []).append(radio)
+            boxes.setdefault(self.box(self.waiting[radio][0].place), []).append(radio)
         if len(boxes[self.box(place)]) == BOX_FULL:
             self.flush(boxes[self.box(place)])
         elif len(self.waiting) == ALL_FULL:
@@ -217,16 +250,16 @@ class Model:
 
     def flush(self, radios):
         """Flushes a memory cell, given the radios that wait in it, rising."""
-        first = self.waiting[radios[0]][0]
+        first = self.waiting[radios[0]][0].place
         [d] = [cell for cell in self.round if in_cell(first, *cell.edges)]
         self.sweep(d)
         for radio in radios:
-            place, marked = self.waiting.pop(radio)
+            fix, marked = self.waiting.pop(radio)
             if radio not in d.entries and not marked:
                 self.miss(radio)
-            d.entries[radio] = place
+            d.entries[radio] = fix
             if radio in self.memo:
-                self.memo[radio][1] = place
+                self.memo[radio][1] = fix.place
         self.goes_last(d)
         self.seen.append(f"flush of {len(radios)} into {d.number}, {len(d.entries)} entries")
         if len(d.entries) > SPLIT_ABOVE:
@@ -272,8 +305,8 @@ class Model:
         low[2 * way + 1] = cut - 1
         high[2 * way] = cut
         new = Cell(number, tuple(high), [])
-        new.entries = {radio: place for radio, place in d.entries.items() if place[way] >= cut}
-        d.entries = {radio: place for radio, place in d.entries.items() if place[way] < cut}
+        new.entries = {radio: fix for radio, fix in d.entries.items() if fix.place[way] >= cut}
+        d.entries = {radio: fix for radio, fix in d.entries.items() if fix.place[way] < cut}
         d.edges = tuple(low)
         self.settle(d)
         self.settle(new)
@@ -356,7 +389,7 @@ class Model:
 
     def page_bytes(self, kind, following, cell, entries):
         head = fields(PAGE_HEAD + ENTRY_BYTES * len(entries), kind, following, cell)
-        return (head + b"".join(entry_bytes(radio, place) for radio, place in entries)).ljust(PAGE_BYTES, b"\0")
+        return (head + b"".join(entry_bytes(radio, fix) for radio, fix in entries)).ljust(PAGE_BYTES, b"\0")
 
     def store(self):
         """The whole state as the journals write it."""
@@ -367,13 +400,14 @@ class Model:
                 "number": cell.number,
                 "edges": list(cell.edges),
                 "chain": list(cell.chain),
-                "entries": [[radio, *place] for radio, place in sorted(cell.entries.items())],
+                "entries": [[radio, *fix.place, fix.minute] for radio, fix in sorted(cell.entries.items())],
             } for cell in self.round],
             "free": list(self.free),
-            "waiting": [[radio, *place, marked] for radio, (place, marked) in sorted(self.waiting.items())],
+            "waiting": [[radio, *fix.place, fix.minute, marked] for radio, (fix, marked) in sorted(self.waiting.items())],
             "memo": [[radio, missed, place and list(place)] for radio, (missed, place) in sorted(self.memo.items())],
             "on": sorted(self.on),
             "tally": self.tally,
+            "highest": self.highest,
         }
 
     def lent(self, page_bytes=None, damage=()):

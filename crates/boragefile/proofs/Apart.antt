@@ -34,25 +34,25 @@ abbrev pub cell-words : ℕ
 cell-words = 384
 
 abbrev pub waiting-words : ℕ
-waiting-words = 512
+waiting-words = 768
 
 abbrev pub memo-words : ℕ
-memo-words = 5755
+memo-words = 5760
 
 abbrev pub on-words : ℕ
 on-words = 512
 
 abbrev pub cells-at : ℕ
-cells-at = 76
+cells-at = 80
 
 abbrev pub waiting-at : ℕ
-waiting-at = 844
+waiting-at = 848
 
 abbrev pub memo-at : ℕ
-memo-at = 1868
+memo-at = 2384
 
 abbrev pub on-at : ℕ
-on-at = 13378
+on-at = 13904
 
 pub parts-field : fieldOf D′.mir 0 ≡ just (P′.mir, 0)
 parts-field = refl

@@ -94,6 +94,8 @@ fn no_report() -> Report
         east: 0,
         north: 0,
         new: 0,
+        low: 0,
+        high: 0,
     }
 }
 

@@ -31,11 +31,12 @@ use Rattle.waiting.proofs.OnLaws.{whole-on-laid}
 use Rattle.records.specs.Asked.{onIn, Checked, asks, fails, checked}
 use Rattle.records.proofs.AskedLaws.{on-few, on-rises, refused-carry, taken-carry, asks-on, asks-report, asks-off}
 use Rattle.desk.specs.declared.Rectangle.{Rectangle}
+use Rattle.range_places.specs.Places.{sought}
 use Rattle.range.specs.declared.Listed.{Listed}
 use Rattle.range.specs.Range.{foundIn}
 use Rattle.range.proofs.StoreLaws.{range-gives}
 use Rattle.effects.specs.Effects.{BeforeSignOn, BeforeReport, BeforeSignOff, AfterRequest}
-use Rattle.effects.proofs.EffectLaws.{on-held, desk-laid, laid-desk}
+use Rattle.effects.proofs.EffectLaws.{on-held, highest-held, desk-laid, laid-desk}
 use Rattle.carry.specs.declared.Told.{Told}
 use Rattle.carry.specs.Carry.{AfterRange}
 
@@ -59,11 +60,14 @@ module _ (parts : Parts) (cs ws ms os : List ℕ) {b : List ℕ} (x : Sound (des
   abbrev on-laid : deskOn desk ≡ onOf (s .on)
   on-laid = on-held s (x .held)
 
+  abbrev highest-laid : desk .parts .highest ≡ s .highest
+  highest-laid = highest-held s (x .held)
+
   -- what the check of the record asks
   pub record-asks : (deskOn desk .n ≤ maxOn) × WholeOn (deskOn desk) × Rising 0 (radiosOf (deskOn desk))
   record-asks = (on-few s (deskOn desk) on-laid (x .well), whole-on-laid (deskOn desk) (s .on) on-laid, on-rises s (deskOn desk) on-laid (x .well))
 
-  module _ (bytes buffer : List ℕ) (small : Bytes bytes) {k : Checked} (told : k ≡ checked (refusal (onIn (deskOn desk)) (length (radiosOf (deskOn desk))) bytes) (requestOf bytes)) where
+  module _ (bytes buffer : List ℕ) (small : Bytes bytes) {k : Checked} (told : k ≡ checked (refusal (desk .parts .highest) (onIn (deskOn desk)) (length (radiosOf (deskOn desk))) bytes) (requestOf bytes)) where
     abbrev before : Before
     before = record { desk = desk; pages = b; bytes = bytes; buffer = buffer }
 
@@ -71,22 +75,22 @@ module _ (parts : Parts) (cs ws ms os : List ℕ) {b : List ℕ} (x : Sound (des
 
     pub refused-answers : (n : ℕ) → k ≡ fails n → CarriedOut before x (record { number = n; count = 0; desk = desk; pages = b; buffer = buffer })
     refused-answers n e =
-        laid-out (record { number = n; count = 0; buffer = buffer; store = s }) (x .well) (desk-laid s (x .held) (x .laid)) ∙ ap laidOut (sym (refused-carry s (deskOn desk) bytes on-laid told e buffer))
+        laid-out (record { number = n; count = 0; buffer = buffer; store = s }) (x .well) (desk-laid s (x .held) (x .laid)) ∙ ap laidOut (sym (refused-carry s (deskOn desk) bytes on-laid highest-laid told e buffer))
 
     -- ---- carried out
 
     taken : (q : Request) → k ≡ asks q → (y : Outcome) → carriedOut q s buffer ≡ y → {d : Desk} {b′ : List ℕ} → LaidDesk (y .store) d b′
         → CarriedOut before x (record { number = y .number; count = y .count; desk = d; pages = b′; buffer = y .buffer })
     taken q e y g h =
-        let c : carry s bytes buffer ≡ y = taken-carry s (deskOn desk) bytes on-laid told q e buffer ∙ g in
+        let c : carry s bytes buffer ≡ y = taken-carry s (deskOn desk) bytes on-laid highest-laid told q e buffer ∙ g in
         laid-out y (subst (λ (z : Outcome). WellFormed (z .store)) c (step-well s bytes buffer small (x .well))) h ∙ ap laidOut (sym c)
 
     module _ (r : ℕ) (f : Fix) where
       pub on-asked : k ≡ asks (signOn r f) → BeforeSignOn desk r f b
-      on-asked e = record { sound = x; signs = asks-on s (deskOn desk) bytes on-laid told small r f e }
+      on-asked e = record { sound = x; signs = asks-on s (deskOn desk) bytes on-laid highest-laid told small r f e }
 
       pub report-asked : k ≡ asks (report r f) → BeforeReport desk r f b
-      report-asked e = record { sound = x; reports = asks-report s (deskOn desk) bytes on-laid told small r f e }
+      report-asked e = record { sound = x; reports = asks-report s (deskOn desk) bytes on-laid highest-laid told small r f e }
 
       pub on-answers : {d : Desk} {b′ : List ℕ} → k ≡ asks (signOn r f) → AfterRequest s (signOn r f) d b′ → CarriedOut before x (record { number = 0; count = 0; desk = d; pages = b′; buffer = buffer })
       unfolding carriedOut
@@ -96,18 +100,18 @@ module _ (parts : Parts) (cs ws ms os : List ℕ) {b : List ℕ} (x : Sound (des
       unfolding carriedOut
       report-answers e c = taken (report r f) e _ refl c
 
-    pub off-asked : (r : ℕ) → k ≡ asks (signOff r) → BeforeSignOff desk r b
-    off-asked r e = record { sound = x; signs = asks-off s (deskOn desk) bytes on-laid told small r e }
+    pub off-asked : (r minute : ℕ) → k ≡ asks (signOff r minute) → BeforeSignOff desk r minute b
+    off-asked r minute e = record { sound = x; signs = asks-off s (deskOn desk) bytes on-laid highest-laid told small r minute e }
 
-    pub off-answers : (r : ℕ) {d : Desk} {b′ : List ℕ} → k ≡ asks (signOff r) → AfterRequest s (signOff r) d b′ → CarriedOut before x (record { number = 0; count = 0; desk = d; pages = b′; buffer = buffer })
+    pub off-answers : (r minute : ℕ) {d : Desk} {b′ : List ℕ} → k ≡ asks (signOff r minute) → AfterRequest s (signOff r minute) d b′ → CarriedOut before x (record { number = 0; count = 0; desk = d; pages = b′; buffer = buffer })
     unfolding carriedOut
-    off-answers r e c = taken (signOff r) e _ refl c
+    off-answers r minute e c = taken (signOff r minute) e _ refl c
 
-    range-answers : (rect : Rect) {r : Told} {after : List ℕ} → k ≡ asks (range rect) → AfterRange s rect parts buffer r after
+    range-answers : (rect : Rect) (minute : ℕ) {r : Told} {after : List ℕ} → k ≡ asks (range rect minute) → AfterRange s rect minute parts buffer r after
         → CarriedOut before x (record { number = r .answer .number; count = r .answer .count; desk = deskWith (r .parts) cs ws ms os; pages = b; buffer = after })
     unfolding carriedOut
-    range-answers rect {r = r} {after = after} e l =
-        taken (range rect) e (record { number = r .answer .number; count = r .answer .count; buffer = after; store = s }) (sym (l .told)) (desk-laid s (ap (λ (p : Parts). deskWith p cs ws ms os) (l .kept) ∙ x .held) (x .laid))
+    range-answers rect minute {r = r} {after = after} e l =
+        taken (range rect minute) e (record { number = r .answer .number; count = r .answer .count; buffer = after; store = s }) (sym (l .told)) (desk-laid s (ap (λ (p : Parts). deskWith p cs ws ms os) (l .kept) ∙ x .held) (x .laid))
 
     -- ---- the same, in the words of the calls
 
@@ -130,14 +134,14 @@ module _ (parts : Parts) (cs ws ms os : List ℕ) {b : List ℕ} (x : Sound (des
     unfolding report-asked
     report-returns r f e l g = by-result g (report-answers r f e (l (report-asked r f e)))
 
-    pub off-returns : (r : ℕ) {d : Parts} {cs′ ws′ ms′ os′ b′ : List ℕ} {c : Told} → k ≡ asks (signOff r) → ((y : BeforeSignOff desk r b) → AfterRequest (y .sound .store) (signOff r) (deskWith d cs′ ws′ ms′ os′) b′)
+    pub off-returns : (r minute : ℕ) {d : Parts} {cs′ ws′ ms′ os′ b′ : List ℕ} {c : Told} → k ≡ asks (signOff r minute) → ((y : BeforeSignOff desk r minute b) → AfterRequest (y .sound .store) (signOff r minute) (deskWith d cs′ ws′ ms′ os′) b′)
         → c ≡ record { parts = d; answer = record { number = 0; count = 0 } } → CarriedOut before x (leaves c cs′ ws′ ms′ os′ b′ buffer)
     unfolding off-asked
-    off-returns r e l g = by-result g (off-answers r e (l (off-asked r e)))
+    off-returns r minute e l g = by-result g (off-answers r minute e (l (off-asked r minute e)))
 
-    pub range-returns : (rect : Rect) {c : Told} {after : List ℕ} → k ≡ asks (range rect) → ((y : Sound desk b) → AfterRange (y .store) rect parts buffer c after)
+    pub range-returns : (rect : Rect) (minute : ℕ) {c : Told} {after : List ℕ} → k ≡ asks (range rect minute) → ((y : Sound desk b) → AfterRange (y .store) rect minute parts buffer c after)
         → CarriedOut before x (leaves c cs ws ms os b after)
-    range-returns rect g l = range-answers rect g (l x)
+    range-returns rect minute g l = range-answers rect minute g (l x)
 
 -- ---- numbers 1 and 2
 
@@ -164,15 +168,15 @@ module _ (parts : Parts) (cs ws ms os pages bytes buffer : List ℕ) where
 
 -- ---- the list
 
-pub lists-returns : (parts : Parts) (cs ws ms os : List ℕ) {b : List ℕ} (x : Sound (deskWith parts cs ws ms os) b) (area : Rectangle) (buffer : List ℕ) {told : Listed} {after : List ℕ} {r : Told}
-    → record { number = told .number; count = told .count; buffer = after } ≡ toldList (foundIn b (rectOf area) (directoryIn (parts .frame .cells) cs) (waitingWith (parts .waiting) ws) (memoIn (parts .lines) ms) (onWith (parts .on) os)) buffer
+pub lists-returns : (parts : Parts) (cs ws ms os : List ℕ) {b : List ℕ} (x : Sound (deskWith parts cs ws ms os) b) (area : Rectangle) (minute : ℕ) (buffer : List ℕ) {told : Listed} {after : List ℕ} {r : Told}
+    → record { number = told .number; count = told .count; buffer = after } ≡ toldList (foundIn b (sought (rectOf area) minute) (directoryIn (parts .frame .cells) cs) (waitingWith (parts .waiting) ws) (memoIn (parts .lines) ms) (onWith (parts .on) os)) buffer
     → r ≡ record { parts = parts; answer = record { number = told .number; count = told .count } }
-    → AfterRange (x .store) (rectOf area) parts buffer r after
-lists-returns parts cs ws ms os {b = b} x area buffer {told = told} {after = after} e g = record {
+    → AfterRange (x .store) (rectOf area) minute parts buffer r after
+lists-returns parts cs ws ms os {b = b} x area minute buffer {told = told} {after = after} e g = record {
   kept = ap (λ (c : Told). c .parts) g;
   told =
       ap (λ (c : Told). record { number = c .answer .number; count = c .answer .count; buffer = after; store = x .store }) g
-      ∙ range-gives (x .store) b (deskWith parts cs ws ms os) (x .well) (x .laid) (x .held) (rectOf area) buffer e;
+      ∙ range-gives (x .store) b (deskWith parts cs ws ms os) (x .well) (x .laid) (x .held) (rectOf area) minute buffer e;
 }
 
 -- the test passed

@@ -18,6 +18,6 @@ DeskArrays cells waiting memo on =
     (length cells ≡ slotFields * maxCells) × (length waiting ≡ reportFields * fullMemory) × (length memo ≡ lineFields * lineSlots) × (length on ≡ maxOn)
 
 -- the list of a rectangle is answered; the desk stays
-pub record AfterRange (s : Store) (rect : Rect) (parts : Parts) (before : List ℕ) (r : Told) (after : List ℕ) : Type 0 where
+pub record AfterRange (s : Store) (rect : Rect) (minute : ℕ) (parts : Parts) (before : List ℕ) (r : Told) (after : List ℕ) : Type 0 where
   pub kept : r .parts ≡ parts
-  pub told : record { number = r .answer .number; count = r .answer .count; buffer = after; store = s } ≡ answered (found s rect) s before
+  pub told : record { number = r .answer .number; count = r .answer .count; buffer = after; store = s } ≡ answered (found s rect minute) s before

@@ -12,7 +12,7 @@ use desk::Rectangle;
 use page::BUFFER_BYTES;
 use records::Asked;
 
-// 1: "The page buffer isn't 25,600 bytes."
+// 1: "The page buffer isn't 25,600 bytes.", which Job 3 makes 41,984
 const WRONG_SIZE: u16 = 1;
 
 // 2: "The store isn't sound."
@@ -52,19 +52,20 @@ fn listed(
     on: &[u16; Desk::MAX_ON],
     pages: &[u8],
     area: Rectangle,
+    minute: u32,
     buffer: &mut [u8],
 ) -> Told
     requires { ⌜ DeskArrays (now cells) (now waiting) (now memo) (now on) × Sound (deskWith parts (now cells) (now waiting) (now memo) (now on)) (now pages) ⌝ }
     ensures { λ r. ⌜ ((s : Sound (deskWith parts (now (cells .entry)) (now (waiting .entry)) (now (memo .entry)) (now (on .entry))) (now (pages .entry)))
-        → AfterRange (s .store) (rectOf area) parts (now (buffer .entry)) r (now (buffer .exit))) ⌝ }
+        → AfterRange (s .store) (rectOf area) minute parts (now (buffer .entry)) r (now (buffer .exit))) ⌝ }
 {
-    let told = range::list(pages, area, parts, cells, waiting, memo, on, buffer);
+    let told = range::list(pages, area, minute, parts, cells, waiting, memo, on, buffer);
     answered(parts, told.number, told.count)
 }
 
 // ---- a record
 
-// One record on a sound store: carried out, or turned down under 3 to 12.
+// One record on a sound store: carried out, or turned down under 3 to 13.
 fn carry_sound<'a>(
     parts: Parts,
     cells: &'a mut [u16; Desk::CELL_WORDS],
@@ -84,9 +85,9 @@ fn carry_sound<'a>(
         (left (r .answer .number) (r .answer .count) (deskWith (r .parts) (now (cells .exit)) (now (waiting .exit)) (now (memo .exit)) (now (on .exit)))
         (now (pages .exit)) (now (buffer .exit)))) ⌝ }
 {
-    match records::asked_by(bytes, on, parts.on as usize) {
+    match records::asked_by(bytes, parts.highest, on, parts.on as usize) {
         Asked::Refused(number) => answered(parts, number, 0),
-        Asked::SignOn(radio, east, north) => accepted(effects::sign_on(
+        Asked::SignOn(radio, east, north, minute) => accepted(effects::sign_on(
             parts,
             cells,
             waiting,
@@ -96,8 +97,9 @@ fn carry_sound<'a>(
             radio,
             east,
             north,
+            minute,
         )),
-        Asked::Report(radio, east, north) => accepted(effects::reported(
+        Asked::Report(radio, east, north, minute) => accepted(effects::reported(
             parts,
             cells,
             waiting,
@@ -107,8 +109,9 @@ fn carry_sound<'a>(
             radio,
             east,
             north,
+            minute,
         )),
-        Asked::SignOff(radio) => accepted(effects::sign_off(
+        Asked::SignOff(radio, minute) => accepted(effects::sign_off(
             parts,
             cells,
             waiting,
@@ -116,20 +119,21 @@ fn carry_sound<'a>(
             on,
             pages,
             radio,
+            minute,
         )),
-        Asked::Range(west, east, south, north) => {
+        Asked::Range(west, east, south, north, minute) => {
             let area = Rectangle {
                 west,
                 east,
                 south,
                 north,
             };
-            listed(parts, cells, waiting, memo, on, pages, area, buffer)
+            listed(parts, cells, waiting, memo, on, pages, area, minute, buffer)
         }
     }
 }
 
-// One record, well formed or not, with a store in any condition: carried out, or turned down under one of twelve numbers with every byte kept.
+// One record, well formed or not, with a store in any condition: carried out, or turned down under one of thirteen numbers with every byte kept.
 pub fn carry_lent<'a>(
     parts: Parts,
     cells: &'a mut [u16; Desk::CELL_WORDS],

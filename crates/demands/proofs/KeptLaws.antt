@@ -19,6 +19,7 @@ use Rattle.lists.proofs.ChainsLaws.{walk-linked}
 use Rattle.lists.proofs.RowsLaws.{sum-at-key, find-within}
 use Rattle.lists.proofs.SumsLaws.{sum-nil, sum-append, sum-le, sum-const, sum-each, sumTo-ext, sum-concat-map, sum-each-once}
 use Rattle.lists.proofs.TestsLaws.{each-map, each-zip, one-if-le}
+use Rattle.lists.proofs.WordsLaws.{wide-halves}
 use Rattle.page.specs.Page.{entries}
 use Rattle.page.specs.Buffer.{pageAt}
 use Rattle.page.proofs.ChainLaws.{following}
@@ -90,7 +91,7 @@ one-line s w r =
 waiting-found : (l : Rows StoreReport) (r : ℕ) → waitingFix (map reportOf l) r ≡ fixOf (find l r)
 unfolding waitingFix find
 waiting-found [] r = refl
-waiting-found (x ∷ xs) r = by-cases (eqb r (x .key)) (λ t. rw t) (λ t. rw t (waiting-found xs r))
+waiting-found (x ∷ xs) r = by-cases (eqb r (x .key)) (λ t. rw (t, wide-halves (x .val .fix .minute))) (λ t. rw t (waiting-found xs r))
 
 pub waiting-place : (s : Store) (r : ℕ) → waitingFix (take (deskOf s .parts .waiting) (everyReport (deskOf s .waiting))) r ≡ fixOf (find (s .waiting) r)
 unfolding deskOf

@@ -11,6 +11,7 @@ use Rattle.lists.specs.Chains.{walk}
 use Rattle.lists.specs.Rows.{Row}
 use Rattle.lists.specs.Sums.{sumBy, sumTo, concat, count}
 use Rattle.lists.specs.Tests.{one-if, both, either}
+use Rattle.lists.specs.Words.{wide}
 use Rattle.page.specs.Page.{next, entries}
 use Rattle.page.specs.Buffer.{pageAt}
 use Rattle.rules.specs.Records.{kindField, kindSignOn, kindReport}
@@ -75,7 +76,7 @@ isRadio r = both (ltb 0 r) (ltb r (suc maxRadio))
 -- what the report of a radio that waits in the desk told
 unfoldable pub waitingFix : List Report → ℕ → Option Fix
 waitingFix [] r = none
-waitingFix (w ∷ ws) r = cond (eqb r (w .radio)) (some (fixAt (w .east) (w .north))) (waitingFix ws r)
+waitingFix (w ∷ ws) r = cond (eqb r (w .radio)) (some (fixAt (w .east) (w .north) (wide (w .low) (w .high)))) (waitingFix ws r)
 
 abbrev pub fixIf : Bool → Option Fix → Option Fix
 fixIf b o = cond b o none

@@ -119,6 +119,8 @@ fresh-well = record {
   few-in-box = λ m. omega arith;
   round = tiling-fresh .round;
   tallied = omega arith;
+  entries-dated = (tt, tt);
+  waiting-dated = tt;
   bounded = λ k h. omega (arith, sum-zero (staleIn []) (drop k (freshCell ∷ [])) none-stale);
 }
 
@@ -136,6 +138,7 @@ freshWith cells = record {
     lines = 0;
     on = 0;
     tally = 0;
+    highest = 0;
   };
   cells = cells;
   waiting = replicate (reportFields * fullMemory) 0;

@@ -2,7 +2,7 @@
 use mathlib.Core.List.{List, [], _∷_, _++_, map}
 use mathlib.Core.Logic.{_≢_}
 use mathlib.Core.Path.{_≡_, refl, sym, ap, _∙_}
-use Prim.Native.Nat.{ℕ, zero, suc, _+_, _-_, _*_, _/_, _<_, _≤_}
+use Prim.Native.Nat.{ℕ, _+_, _-_, _*_, _/_, _<_}
 use native.Mathlib.Omega.{arith}
 use lib.ListN.{length, getD, set, length-set, length-map, length-append, List·getD-append, List·getD-map}
 use lib.Dec.{ltb, eqb}
@@ -10,7 +10,7 @@ use lib.Seq.{getD-set-same, getD-set-other, getD-append-add, ext-getD}
 use borrow.Author.Tests.{ltb-true, ltb-false, eqb-true, eqb-false}
 use Rattle.lists.specs.Parts.{tab}
 use Rattle.lists.proofs.Cases.{by-cases}
-use Rattle.lists.proofs.PartsLaws.{length-tab, getD-tab, tab-of, tab-ext, set-tab}
+use Rattle.lists.proofs.PartsLaws.{length-tab, getD-tab, tab-of}
 use Rattle.lists.specs.Rows.{Rows}
 use Rattle.rules.specs.Limits.{fullMemory}
 use Rattle.rules.specs.Store.{Report as StoreReport}
@@ -55,10 +55,33 @@ module _ (l : List Report) (i : ℕ) (h : i < length l) where
       (behind (λ w. w .radio) l _ (length l + (length l + i))
       ∙ behind (λ w. w .east) l _ (length l + i)
       ∙ behind (λ w. w .north) l _ i
-      ∙ List·getD-map (λ w. w .new) l i noReport)
+      ∙ column (λ w. w .new) l _ i h)
+
+  low-there : getD (reportWords l) (4 * length l + i) 0 ≡ getD l i noReport .low
+  unfolding reportWords
+  low-there =
+      let e : 4 * length l + i ≡ length l + (length l + (length l + (length l + i))) = omega arith in
+      rw e
+      (behind (λ w. w .radio) l _ (length l + (length l + (length l + i)))
+      ∙ behind (λ w. w .east) l _ (length l + (length l + i))
+      ∙ behind (λ w. w .north) l _ (length l + i)
+      ∙ behind (λ w. w .new) l _ i
+      ∙ column (λ w. w .low) l _ i h)
+
+  high-there : getD (reportWords l) (5 * length l + i) 0 ≡ getD l i noReport .high
+  unfolding reportWords
+  high-there =
+      let e : 5 * length l + i ≡ length l + (length l + (length l + (length l + (length l + i)))) = omega arith in
+      rw e
+      (behind (λ w. w .radio) l _ (length l + (length l + (length l + (length l + i))))
+      ∙ behind (λ w. w .east) l _ (length l + (length l + (length l + i)))
+      ∙ behind (λ w. w .north) l _ (length l + (length l + i))
+      ∙ behind (λ w. w .new) l _ (length l + i)
+      ∙ behind (λ w. w .low) l _ i
+      ∙ List·getD-map (λ w. w .high) l i noReport)
 
   report-there : reportIn (length l) (reportWords l) i ≡ getD l i noReport
-  report-there = λ t. record { radio = radio-there t; east = east-there t; north = north-there t; new = new-there t }
+  report-there = λ t. record { radio = radio-there t; east = east-there t; north = north-there t; new = new-there t; low = low-there t; high = high-there t }
 
 pub reports-of-words : (l : List Report) → everyReport (reportWords l) ≡ l
 unfolding everyReport
@@ -102,7 +125,11 @@ module _ (ws : List ℕ) (k : ℕ) (l : length ws ≡ reportFields * k) where
       (ap (λ (m : ℕ). getD ws m 0) (sym (o k (p - k)))))
       (λ u. let b = ltb-false p (2 * k) u in by-cases (ltb p (3 * k))
       (λ v. let c = ltb-true p (3 * k) v in same-in 2 (λ w. w .north) p (p - 2 * k) (omega arith) (omega arith) (north-there (everyReport ws) (p - 2 * k)) refl)
-      (λ v. let c = ltb-false p (3 * k) v in same-in 3 (λ w. w .new) p (p - 3 * k) (omega arith) (omega arith) (new-there (everyReport ws) (p - 3 * k)) refl)))
+      (λ v. let c = ltb-false p (3 * k) v in by-cases (ltb p (4 * k))
+      (λ x. let d = ltb-true p (4 * k) x in same-in 3 (λ w. w .new) p (p - 3 * k) (omega arith) (omega arith) (new-there (everyReport ws) (p - 3 * k)) refl)
+      (λ x. let d = ltb-false p (4 * k) x in by-cases (ltb p (5 * k))
+      (λ y. let f = ltb-true p (5 * k) y in same-in 4 (λ w. w .low) p (p - 4 * k) (omega arith) (omega arith) (low-there (everyReport ws) (p - 4 * k)) refl)
+      (λ y. let f = ltb-false p (5 * k) y in same-in 5 (λ w. w .high) p (p - 5 * k) (omega arith) (omega arith) (high-there (everyReport ws) (p - 5 * k)) refl)))))
 
   pub words-of-reports : reportWords (everyReport ws) ≡ ws
   words-of-reports =
@@ -124,14 +151,22 @@ with₂ ws i x = set (with₁ ws i x) (fullMemory + i) (x .east)
 abbrev with₃ : List ℕ → ℕ → Report → List ℕ
 with₃ ws i x = set (with₂ ws i x) (2 * fullMemory + i) (x .north)
 
+abbrev with₄ : List ℕ → ℕ → Report → List ℕ
+with₄ ws i x = set (with₃ ws i x) (3 * fullMemory + i) (x .new)
+
+abbrev with₅ : List ℕ → ℕ → Report → List ℕ
+with₅ ws i x = set (with₄ ws i x) (4 * fullMemory + i) (x .low)
+
 abbrev withReport : List ℕ → ℕ → Report → List ℕ
-withReport ws i x = set (with₃ ws i x) (3 * fullMemory + i) (x .new)
+withReport ws i x = set (with₅ ws i x) (5 * fullMemory + i) (x .high)
 
 -- any other place keeps its number
-other-word : (ws : List ℕ) (i : ℕ) (x : Report) (p : ℕ) → p ≢ i → p ≢ fullMemory + i → p ≢ 2 * fullMemory + i → p ≢ 3 * fullMemory + i
+other-word : (ws : List ℕ) (i : ℕ) (x : Report) (p : ℕ) → p ≢ i → p ≢ fullMemory + i → p ≢ 2 * fullMemory + i → p ≢ 3 * fullMemory + i → p ≢ 4 * fullMemory + i → p ≢ 5 * fullMemory + i
     → getD (withReport ws i x) p 0 ≡ getD ws p 0
-other-word ws i x p a b c d =
-    getD-set-other (with₃ ws i x) (3 * fullMemory + i) p (x .new) 0 d
+other-word ws i x p a b c d e f =
+    getD-set-other (with₅ ws i x) (5 * fullMemory + i) p (x .high) 0 f
+    ∙ getD-set-other (with₄ ws i x) (4 * fullMemory + i) p (x .low) 0 e
+    ∙ getD-set-other (with₃ ws i x) (3 * fullMemory + i) p (x .new) 0 d
     ∙ getD-set-other (with₂ ws i x) (2 * fullMemory + i) p (x .north) 0 c
     ∙ getD-set-other (with₁ ws i x) (fullMemory + i) p (x .east) 0 b
     ∙ getD-set-other ws i p (x .radio) 0 a
@@ -146,27 +181,42 @@ module _ (ws : List ℕ) (i : ℕ) (x : Report) (h : i < fullMemory) (l : length
   report-itself : reportIn fullMemory written i ≡ x
   report-itself =
       let a : getD written i 0 ≡ x .radio =
-      getD-set-other (with₃ ws i x) (3 * fullMemory + i) i (x .new) 0 (omega arith)
+      getD-set-other (with₅ ws i x) (5 * fullMemory + i) i (x .high) 0 (omega arith)
+      ∙ getD-set-other (with₄ ws i x) (4 * fullMemory + i) i (x .low) 0 (omega arith)
+      ∙ getD-set-other (with₃ ws i x) (3 * fullMemory + i) i (x .new) 0 (omega arith)
       ∙ getD-set-other (with₂ ws i x) (2 * fullMemory + i) i (x .north) 0 (omega arith)
       ∙ getD-set-other (with₁ ws i x) (fullMemory + i) i (x .east) 0 (omega arith)
       ∙ getD-set-same ws i (x .radio) 0 (omega arith) in
       let b : getD written (fullMemory + i) 0 ≡ x .east =
-      getD-set-other (with₃ ws i x) (3 * fullMemory + i) (fullMemory + i) (x .new) 0 (omega arith)
+      getD-set-other (with₅ ws i x) (5 * fullMemory + i) (fullMemory + i) (x .high) 0 (omega arith)
+      ∙ getD-set-other (with₄ ws i x) (4 * fullMemory + i) (fullMemory + i) (x .low) 0 (omega arith)
+      ∙ getD-set-other (with₃ ws i x) (3 * fullMemory + i) (fullMemory + i) (x .new) 0 (omega arith)
       ∙ getD-set-other (with₂ ws i x) (2 * fullMemory + i) (fullMemory + i) (x .north) 0 (omega arith)
       ∙ getD-set-same (with₁ ws i x) (fullMemory + i) (x .east) 0 (simp length-set (omega arith)) in
       let c : getD written (2 * fullMemory + i) 0 ≡ x .north =
-      getD-set-other (with₃ ws i x) (3 * fullMemory + i) (2 * fullMemory + i) (x .new) 0 (omega arith)
+      getD-set-other (with₅ ws i x) (5 * fullMemory + i) (2 * fullMemory + i) (x .high) 0 (omega arith)
+      ∙ getD-set-other (with₄ ws i x) (4 * fullMemory + i) (2 * fullMemory + i) (x .low) 0 (omega arith)
+      ∙ getD-set-other (with₃ ws i x) (3 * fullMemory + i) (2 * fullMemory + i) (x .new) 0 (omega arith)
       ∙ getD-set-same (with₂ ws i x) (2 * fullMemory + i) (x .north) 0 (simp length-set (omega arith)) in
-      let d : getD written (3 * fullMemory + i) 0 ≡ x .new = getD-set-same (with₃ ws i x) (3 * fullMemory + i) (x .new) 0 (simp length-set (omega arith)) in
-      λ t. record { radio = a t; east = b t; north = c t; new = d t }
+      let d : getD written (3 * fullMemory + i) 0 ≡ x .new =
+      getD-set-other (with₅ ws i x) (5 * fullMemory + i) (3 * fullMemory + i) (x .high) 0 (omega arith)
+      ∙ getD-set-other (with₄ ws i x) (4 * fullMemory + i) (3 * fullMemory + i) (x .low) 0 (omega arith)
+      ∙ getD-set-same (with₃ ws i x) (3 * fullMemory + i) (x .new) 0 (simp length-set (omega arith)) in
+      let e : getD written (4 * fullMemory + i) 0 ≡ x .low =
+      getD-set-other (with₅ ws i x) (5 * fullMemory + i) (4 * fullMemory + i) (x .high) 0 (omega arith)
+      ∙ getD-set-same (with₄ ws i x) (4 * fullMemory + i) (x .low) 0 (simp length-set (omega arith)) in
+      let f : getD written (5 * fullMemory + i) 0 ≡ x .high = getD-set-same (with₅ ws i x) (5 * fullMemory + i) (x .high) 0 (simp length-set (omega arith)) in
+      λ t. record { radio = a t; east = b t; north = c t; new = d t; low = e t; high = f t }
 
   report-other : (j : ℕ) → j < fullMemory → j ≢ i → reportIn fullMemory written j ≡ reportIn fullMemory ws j
   report-other j m n =
-      let a = other-word ws i x j n (omega arith) (omega arith) (omega arith) in
-      let b = other-word ws i x (fullMemory + j) (omega arith) (omega (arith, n)) (omega arith) (omega arith) in
-      let c = other-word ws i x (2 * fullMemory + j) (omega arith) (omega arith) (omega (arith, n)) (omega arith) in
-      let d = other-word ws i x (3 * fullMemory + j) (omega arith) (omega arith) (omega arith) (omega (arith, n)) in
-      λ t. record { radio = a t; east = b t; north = c t; new = d t }
+      let a = other-word ws i x j n (omega arith) (omega arith) (omega arith) (omega arith) (omega arith) in
+      let b = other-word ws i x (fullMemory + j) (omega arith) (omega (arith, n)) (omega arith) (omega arith) (omega arith) (omega arith) in
+      let c = other-word ws i x (2 * fullMemory + j) (omega arith) (omega arith) (omega (arith, n)) (omega arith) (omega arith) (omega arith) in
+      let d = other-word ws i x (3 * fullMemory + j) (omega arith) (omega arith) (omega arith) (omega (arith, n)) (omega arith) (omega arith) in
+      let e = other-word ws i x (4 * fullMemory + j) (omega arith) (omega arith) (omega arith) (omega arith) (omega (arith, n)) (omega arith) in
+      let f = other-word ws i x (5 * fullMemory + j) (omega arith) (omega arith) (omega arith) (omega arith) (omega arith) (omega (arith, n)) in
+      λ t. record { radio = a t; east = b t; north = c t; new = d t; low = e t; high = f t }
 
   at-any : (j : ℕ) → j < fullMemory → getD (everyReport written) j noReport ≡ getD (set (everyReport ws) i x) j noReport
   at-any j m =

@@ -11,7 +11,9 @@ use Rattle.lists.specs.Chains.{firstOf}
 use Rattle.lists.specs.Rows.{Row, Rows}
 use Rattle.lists.specs.Sums.{concat}
 use Rattle.lists.specs.Tests.{Each}
+use Rattle.lists.specs.Words.{wide}
 use Rattle.lists.proofs.TestsLaws.{each-map, one-if-injective}
+use Rattle.lists.proofs.WordsLaws.{wide-halves}
 use Rattle.lists.proofs.MapLaws.{map-injective}
 use Rattle.page.specs.Page.{entries}
 use Rattle.page.specs.Buffer.{pageAt, chainFrom}
@@ -65,7 +67,8 @@ report-injective x y e =
     let a = ap (λ w. w .east) e in
     let o = ap (λ w. w .north) e in
     let n = one-if-injective (x .val .new) (y .val .new) (ap (λ w. w .new) e) in
-    λ i. record { key = r i; val = record { fix = record { place = record { east = a i; north = o i } }; new = n i } }
+    let m : x .val .fix .minute ≡ y .val .fix .minute = sym (wide-halves (x .val .fix .minute)) ∙ ap₂ wide (ap (λ w. w .low) e) (ap (λ w. w .high) e) ∙ wide-halves (y .val .fix .minute) in
+    λ i. record { key = r i; val = record { fix = record { place = record { east = a i; north = o i }; minute = m i }; new = n i } }
 
 lineWith-injective : (r q m k : ℕ) (o u : Option Place) → lineWith r m o ≡ lineWith q k u → (r ≡ q) × (m ≡ k) × (o ≡ u)
 lineWith-injective r q m k none none e = (ap (λ l. l .radio) e, ap (λ l. l .missed) e, refl)
@@ -119,6 +122,10 @@ module _ (s t : Store) (e : deskOf s ≡ deskOf t) where
   unfolding deskOf
   same-tally = ap (λ d. d .parts .tally) e
 
+  same-highest : s .highest ≡ t .highest
+  unfolding deskOf
+  same-highest = ap (λ d. d .parts .highest) e
+
 -- ---- cells, with the bytes
 
 module _ (b : List ℕ) where
@@ -153,7 +160,8 @@ same-store s t b os ot ps pt e ls lt =
     let me = same-memo s t e in
     let on = same-on s t e in
     let ta = same-tally s t e in
-    λ i. record { cuts = cu i; cells = ce i; free = fr i; waiting = wa i; memo = me i; on = on i; tally = ta i }
+    let hi = same-highest s t e in
+    λ i. record { cuts = cu i; cells = ce i; free = fr i; waiting = wa i; memo = me i; on = on i; tally = ta i; highest = hi i }
 
 paged-cells : (s : Store) → WellFormed s → Each Paged (s .cells)
 paged-cells s w = each-map _ Paged (s .cells) (λ c g. g .paged) (w .cells)

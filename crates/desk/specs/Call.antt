@@ -39,15 +39,15 @@ turnedDown n x = record { number = n; count = 0; desk = x .desk; pages = x .page
 unfoldable pub laidOut : Outcome → After
 laidOut o = record { number = o .number; count = o .count; desk = deskOf (o .store); pages = pagesOf (o .store); buffer = o .buffer }
 
--- on a sound store: carried out, or turned down under 3 to 12
+-- on a sound store: carried out, or turned down under 3 to 13
 abbrev pub CarriedOut : (x : Before) → Sound (x .desk) (x .pages) → After → Type 0
 CarriedOut x s y = y ≡ laidOut (carry (s .store) (x .bytes) (x .buffer))
 
 -- which case a call is, and its result outright: what it is handed settles what it answers and leaves
 pub data Answers (x : Before) (y : After) : Type 0 where
-  -- 1: "The page buffer isn't 25,600 bytes."
+  -- 1: "The page buffer isn't 25,600 bytes.", which Job 3 makes 41,984
   wrong-size : (length (x .pages) ≡ bufferBytes → ⊥) → y ≡ turnedDown 1 x → Answers x y
   -- 2: "The store isn't sound."
   unsound : length (x .pages) ≡ bufferBytes → (Sound (x .desk) (x .pages) → ⊥) → y ≡ turnedDown 2 x → Answers x y
-  -- 3 to 12, or 0
+  -- 3 to 13, or 0
   carried : (s : Sound (x .desk) (x .pages)) → CarriedOut x s y → Answers x y

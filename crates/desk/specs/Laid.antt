@@ -23,8 +23,9 @@ pub record LaidWaiting (s : Store) (grid : Grid) (waiting : Waiting) (memo : Mem
   pub in-memo : LaidMemo s grid memo bytes
   pub waiting-is : waiting ≡ waitingOf (s .waiting)
 
--- the whole desk: who is on, and the tally
+-- the whole desk: who is on, the tally, and the highest minute
 pub record LaidDesk (s : Store) (desk : Desk) (bytes : List ℕ) : Type 0 where
   pub in-waiting : LaidWaiting s (deskGrid desk) (deskWaiting desk) (deskMemo desk) bytes
   pub on-is : deskOn desk ≡ onOf (s .on)
   pub tally-is : desk .parts .tally ≡ s .tally
+  pub highest-is : desk .parts .highest ≡ s .highest

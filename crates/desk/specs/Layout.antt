@@ -12,6 +12,7 @@ use Rattle.lists.specs.Parts.{tab}
 use Rattle.lists.specs.Rows.{Row, Rows, find}
 use Rattle.lists.specs.Sums.{concat}
 use Rattle.lists.specs.Tests.{Each, one-if}
+use Rattle.lists.specs.Words.{lowHalf, highHalf}
 use Rattle.page.specs.Page.{pageBytes, kindFirst, kindFurther, pageOf, freePageOf}
 use Rattle.page.specs.Buffer.{bufferBytes, pageAt}
 use Rattle.rules.specs.Limits.{maxCells, maxCuts, fullMemory}
@@ -25,9 +26,9 @@ use Rattle.desk.specs.Held.{Directory, Grid, Waiting, Memo, On}
 
 -- ---- the desk
 
--- one line more than there may be between two calls: a sign-off adds one before the tally sweeps
+-- two lines more than there may be between two calls: a sign-off adds one before the tally sweeps, and with another no byte of the desk is no field's
 abbrev pub lineSlots : ℕ
-lineSlots = 1151
+lineSlots = 1152
 
 -- the list in so many slots, the unused ones holding z
 unfoldable pub slotted : {A : Type 0} → ℕ → A → List A → List A
@@ -72,17 +73,26 @@ gridOf s = record {
 }
 
 abbrev pub reportOf : Row StoreReport → Report
-reportOf w = record { radio = w .key; east = w .val .fix .place .east; north = w .val .fix .place .north; new = one-if (w .val .new) }
+reportOf w = record {
+  radio = w .key;
+  east = w .val .fix .place .east;
+  north = w .val .fix .place .north;
+  new = one-if (w .val .new);
+  low = lowHalf (w .val .fix .minute);
+  high = highHalf (w .val .fix .minute);
+}
 
 abbrev pub noReport : Report
-noReport = record { radio = 0; east = 0; north = 0; new = 0 }
+noReport = record { radio = 0; east = 0; north = 0; new = 0; low = 0; high = 0 }
 
 abbrev pub reportFields : ℕ
-reportFields = 4
+reportFields = 6
 
--- an array's numbers, from what its slots hold: all radios, then all easts, all norths and all marks
+-- an array's numbers, from what its slots hold: all radios, then all easts, all norths, all marks, and the minutes' lower and higher halves
 unfoldable pub reportWords : List Report → List ℕ
-reportWords l = map (λ w. w .radio) l ++ (map (λ w. w .east) l ++ (map (λ w. w .north) l ++ map (λ w. w .new) l))
+reportWords l =
+    map (λ w. w .radio) l
+    ++ (map (λ w. w .east) l ++ (map (λ w. w .north) l ++ (map (λ w. w .new) l ++ (map (λ w. w .low) l ++ map (λ w. w .high) l))))
 
 unfoldable pub waitingOf : Rows StoreReport → Waiting
 waitingOf l = record { n = length l; words = reportWords (slotted fullMemory noReport (map reportOf l)) }
@@ -112,14 +122,15 @@ unfoldable pub onOf : Rows (Unit {0}) → On
 onOf l = record { n = length l; radios = slotted maxOn 0 (map (λ x. x .key) l) }
 
 -- the desk that holds these
-abbrev pub deskHolding : Grid → Waiting → Memo → On → ℕ → Desk
-deskHolding grid waiting memo on tally = record {
+abbrev pub deskHolding : Grid → Waiting → Memo → On → ℕ → ℕ → Desk
+deskHolding grid waiting memo on tally highest = record {
   parts = record {
     frame = record { easts = grid .easts; norths = grid .norths; cells = grid .cells .n; free = grid .free };
     waiting = waiting .n;
     lines = memo .n;
     on = on .n;
     tally = tally;
+    highest = highest;
   };
   cells = grid .cells .words;
   waiting = waiting .words;
@@ -127,9 +138,10 @@ deskHolding grid waiting memo on tally = record {
   on = on .radios;
 }
 
--- "The desk has cuts, directory, the front of the free chain, waiting reports, memo, who is signed on, the round, and the tally c."
+-- "The desk has cuts, directory, the front of the free chain, waiting reports, memo, who is signed on, the round, and the tally c."; 02, Job 3: "The store
+-- remembers the highest minute"
 unfoldable pub deskOf : Store → Desk
-deskOf s = deskHolding (gridOf s) (waitingOf (s .waiting)) (memoOf (s .memo)) (onOf (s .on)) (s .tally)
+deskOf s = deskHolding (gridOf s) (waitingOf (s .waiting)) (memoOf (s .memo)) (onOf (s .on)) (s .tally) (s .highest)
 
 -- ---- the pages
 

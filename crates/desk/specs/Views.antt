@@ -64,6 +64,8 @@ reportIn slots ws i = record {
   east = getD ws (slots + i) 0;
   north = getD ws (2 * slots + i) 0;
   new = getD ws (3 * slots + i) 0;
+  low = getD ws (4 * slots + i) 0;
+  high = getD ws (5 * slots + i) 0;
 }
 
 -- all reports whose fields the array has column after column, waiting or not

@@ -24,12 +24,14 @@ pub struct Slot {
     pub first: u16,
 }
 
-// A waiting report; `new` is 1 where it is marked new, else 0.
+// A waiting report; `new` is 1 where it is marked new, else 0; `low` and `high` are the halves of its minute.
 pub struct Report {
     pub radio: u16,
     pub east: u16,
     pub north: u16,
     pub new: u16,
+    pub low: u16,
+    pub high: u16,
 }
 
 // A memo line; `placed` is 1 where it has a place, and 0, with the place zero, where it has none.
@@ -50,7 +52,8 @@ pub struct Frame {
     pub free: u16,
 }
 
-// The desk but for its arrays: the grid's frame, how many reports wait, memo lines there are and radios are on, and the tally.
+// The desk but for its arrays: the grid's frame, how many reports wait, memo lines there are and radios are on, the tally, and the highest minute of an accepted
+// sign-on, report or sign-off.
 #[repr(C)]
 pub struct Parts {
     pub frame: Frame,
@@ -58,6 +61,7 @@ pub struct Parts {
     pub lines: u16,
     pub on: u16,
     pub tally: u16,
+    pub highest: u32,
 }
 
 // Whoever gets a struct by value copies it, and an array of structs cannot be lent: so what is small goes by value, and the rest is arrays of numbers.
@@ -66,7 +70,8 @@ pub struct Desk {
     pub parts: Parts,
     // the directory, in the order of the round, its front first: the fields of one cell after the other
     pub cells: [u16; Desk::CELL_WORDS],
-    // the waiting reports, by rising radio: all radios, then all easts, all norths and all marks, so that a test of places reads these alone
+    // the waiting reports, by rising radio: all radios, then all easts, all norths, all marks, and the minutes' lower and higher halves, so that a test of
+    // places reads these alone
     pub waiting: [u16; Desk::WAITING_WORDS],
     // the memo, by rising radio: the fields of one line after the other
     pub memo: [u16; Desk::MEMO_WORDS],
@@ -112,7 +117,7 @@ impl Desk {
     // One more than may wait between two calls: the report that a call brings.
     pub const WAITING_SLOTS: usize = Desk::MAX_WAITING + 1;
 
-    pub const REPORT_FIELDS: usize = 4;
+    pub const REPORT_FIELDS: usize = 6;
 
     pub const WAITING_WORDS: usize = Desk::REPORT_FIELDS * Desk::WAITING_SLOTS;
 
@@ -120,8 +125,10 @@ impl Desk {
 
     pub const LINE_FIELDS: usize = 5;
 
-    // The fields of one line more than that.
-    pub const MEMO_WORDS: usize = Desk::LINE_FIELDS * (Desk::MAX_LINES + 1);
+    // One line more than that is needed in the middle of a call; with two the desk fills its alignment, and no byte of it is no field's.
+    pub const LINE_SLOTS: usize = Desk::MAX_LINES + 2;
+
+    pub const MEMO_WORDS: usize = Desk::LINE_FIELDS * Desk::LINE_SLOTS;
 
     pub const FULL_BOX: usize = 8;
 
@@ -166,6 +173,7 @@ impl Desk {
                 lines: 0,
                 on: 0,
                 tally: 0,
+                highest: 0,
             },
             cells,
             waiting: [0; Desk::WAITING_WORDS],
@@ -218,6 +226,8 @@ pub fn report_at<'a>(waiting: &'a [u16; Desk::WAITING_WORDS], i: usize) -> Repor
         east: waiting[Desk::WAITING_SLOTS + i],
         north: waiting[2 * Desk::WAITING_SLOTS + i],
         new: waiting[3 * Desk::WAITING_SLOTS + i],
+        low: waiting[4 * Desk::WAITING_SLOTS + i],
+        high: waiting[5 * Desk::WAITING_SLOTS + i],
     }
 }
 
@@ -231,6 +241,8 @@ pub fn put_report<'a>(waiting: &'a mut [u16; Desk::WAITING_WORDS], i: usize, rep
     waiting[Desk::WAITING_SLOTS + i] = report.east;
     waiting[2 * Desk::WAITING_SLOTS + i] = report.north;
     waiting[3 * Desk::WAITING_SLOTS + i] = report.new;
+    waiting[4 * Desk::WAITING_SLOTS + i] = report.low;
+    waiting[5 * Desk::WAITING_SLOTS + i] = report.high;
 }
 
 // ---- a line in the memo's array

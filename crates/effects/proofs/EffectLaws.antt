@@ -1,17 +1,15 @@
 -- What follows a record's own effect, in the words of the calls: the flush that is due, and the tally.
-use mathlib.Core.Bool.{Bool, true}
 use mathlib.Core.Path.{_≡_, refl, sym, ap, _∙_}
 use mathlib.Core.List.{List, [], _∷_}
-use Prim.Native.Nat.{ℕ, _+_, _≤_, _<_}
-use native.Mathlib.Omega.{arith}
+use Prim.Native.Nat.{ℕ, _+_}
 use lib.Dec.{ltb}
-use lib.ListN.{length}
 use Rattle.terms.specs.Terms.{Place}
 use Rattle.lists.proofs.Cases.{by-cases, option-cases}
 use Rattle.rules.specs.Store.{Cell, Store}
 use Rattle.rules.specs.Limits.{sweepEvery}
 use Rattle.rules.specs.Grid.{Box}
 use Rattle.rules.specs.Sweep.{sweepFront, counted, tick}
+use Rattle.rules.specs.Cut.{Cut}
 use Rattle.rules.specs.Flush.{Flushed, flushedInto, grown, splitAt, joinedWith, reshaped}
 use Rattle.rules.specs.Carry.{flushDue, afterReport}
 use Rattle.rules.proofs.CutLaws.{flush-cases, reshaped-cases}
@@ -47,12 +45,17 @@ module _ {desk : Desk} (s : Store) (held : desk ≡ deskOf s) where
   unfolding deskOf
   tally-held = ap (λ (d : Desk). d .parts .tally) held
 
+  pub highest-held : desk .parts .highest ≡ s .highest
+  unfolding deskOf
+  highest-held = ap (λ (d : Desk). d .parts .highest) held
+
 -- the same as one equation
 pub desk-laid : {desk : Desk} {b : List ℕ} (s : Store) → desk ≡ deskOf s → Laid s b → LaidDesk s desk b
 desk-laid s held laid = record {
   in-waiting = record { in-memo = record { in-grid = record { grid-is = grid-held s held; laid = laid }; memo-is = memo-held s held }; waiting-is = waiting-held s held };
   on-is = on-held s held;
   tally-is = tally-held s held;
+  highest-is = highest-held s held;
 }
 
 pub laid-desk : {desk : Desk} {b : List ℕ} (s : Store) → LaidDesk s desk b → (desk ≡ deskOf s) × Laid s b
@@ -60,7 +63,7 @@ unfolding deskOf
 laid-desk s x =
     let w = x .in-waiting in
     let m = w .in-memo in
-    (λ i. deskHolding (m .in-grid .grid-is i) (w .waiting-is i) (m .memo-is i) (x .on-is i) (x .tally-is i), m .in-grid .laid)
+    (λ i. deskHolding (m .in-grid .grid-is i) (w .waiting-is i) (m .memo-is i) (x .on-is i) (x .tally-is i) (x .highest-is i), m .in-grid .laid)
 
 -- ---- the tally
 
@@ -82,9 +85,13 @@ tick-on : (s : Store) → tick s .on ≡ s .on
 unfolding sweepFront
 tick-on s = tick-leaves (λ t. t .on) s (λ c cs. refl) refl
 
+tick-highest : (s : Store) → tick s .highest ≡ s .highest
+unfolding sweepFront
+tick-highest s = tick-leaves (λ t. t .highest) s (λ c cs. refl) refl
+
 module _ {desk : Desk} {b : List ℕ} (x : BeforeTallyDesk desk b) where
   pub tally-returns : {g : Grid} {m : Memo} {t : ℕ} {b′ : List ℕ} → ((y : BeforeTally (deskGrid desk) (deskMemo desk) (desk .parts .tally) b) → AfterTally (y .store) g m t b′)
-      → LaidDesk (tick (x .before .store)) (deskHolding g (deskWaiting desk) m (deskOn desk) t) b′
+      → LaidDesk (tick (x .before .store)) (deskHolding g (deskWaiting desk) m (deskOn desk) t (desk .parts .highest)) b′
   tally-returns l =
       let t = l (x .before) in
       let s = x .before .store in
@@ -92,23 +99,26 @@ module _ {desk : Desk} {b : List ℕ} (x : BeforeTallyDesk desk b) where
         in-waiting = record { in-memo = t .laid; waiting-is = x .waiting-is ∙ ap waitingOf (sym (tick-waiting s)) };
         on-is = x .on-is ∙ ap onOf (sym (tick-on s));
         tally-is = t .tally-is;
+        highest-is = x .highest-is ∙ sym (tick-highest s);
       }
 
 -- ---- the flush
 
-reshaped-on : (f : Flushed) → reshaped f .on ≡ f .store .on
-unfolding grown splitAt joinedWith
-reshaped-on f = reshaped-cases (λ x. x .on ≡ f .store .on) f refl (λ c _ _ _. refl) (λ n _ _. refl)
+-- a flush leaves who is on, and the highest minute
+reshaped-leaves : {A : Type 0} (part : Store → A) (f : Flushed) → part (grown f) ≡ part (f .store) → ((c : Cut) → part (splitAt c f) ≡ part (f .store))
+    → ((n : Cell) → part (joinedWith f n) ≡ part (f .store)) → part (reshaped f) ≡ part (f .store)
+reshaped-leaves part f whole split join = reshaped-cases (λ x. part x ≡ part (f .store)) f whole (λ c _ _ _. split c) (λ n _ _. join n)
 
-flushed-on : (m : Box) (s : Store) (d : Cell) → flushedInto m s d .store .on ≡ s .on
-unfolding flushedInto
-flushed-on m s d = refl
+after-leaves : {A : Type 0} (part : Store → A) (p : Place) (s : Store) → ((m : Box) (d : Cell) → part (reshaped (flushedInto m s d)) ≡ part s) → part (afterReport p s) ≡ part s
+unfolding afterReport
+after-leaves part p s flushed = option-cases (flushDue s p) (λ e. rw e) (λ m e. rw e (flush-cases (λ t. part t ≡ part s) m s (λ n. refl) (λ d n. flushed m d)))
 
 pub after-on : (p : Place) (s : Store) → afterReport p s .on ≡ s .on
-unfolding afterReport
-after-on p s =
-    option-cases (flushDue s p) (λ e. rw e)
-    (λ m e. rw e (flush-cases (λ t. t .on ≡ s .on) m s (λ n. refl) (λ d n. reshaped-on (flushedInto m s d) ∙ flushed-on m s d)))
+after-on p s = after-leaves (λ t. t .on) p s (λ m d. unfold grown splitAt joinedWith flushedInto in reshaped-leaves (λ t. t .on) (flushedInto m s d) refl (λ c. refl) (λ n. refl))
+
+pub after-highest : (p : Place) (s : Store) → afterReport p s .highest ≡ s .highest
+after-highest p s =
+    after-leaves (λ t. t .highest) p s (λ m d. unfold grown splitAt joinedWith flushedInto in reshaped-leaves (λ t. t .highest) (flushedInto m s d) refl (λ c. refl) (λ n. refl))
 
 module _ {desk : Desk} {p : Place} {b : List ℕ} (x : BeforeFlushDesk desk p b) where
   abbrev store : Store
@@ -119,14 +129,15 @@ module _ {desk : Desk} {p : Place} {b : List ℕ} (x : BeforeFlushDesk desk p b)
     after = l (x .before)
 
     -- what is tallied then
-    abbrev pub flushed-tallies : BeforeTallyDesk (deskHolding g w m (deskOn desk) (desk .parts .tally)) b′
+    abbrev pub flushed-tallies : BeforeTallyDesk (deskHolding g w m (deskOn desk) (desk .parts .tally) (desk .parts .highest)) b′
     flushed-tallies = record {
       before = after-tallied (x .before) p (desk .parts .tally) (x .others-few) after (x .tally-is);
       waiting-is = after .waiting-is;
       on-is = x .on-is ∙ ap onOf (sym (after-on p store));
+      highest-is = x .highest-is ∙ sym (after-highest p store);
     }
 
     pub flush-returns : {r : Desk} {b″ : List ℕ}
-        → ((y : BeforeTallyDesk (deskHolding g w m (deskOn desk) (desk .parts .tally)) b′) → LaidDesk (tick (y .before .store)) r b″)
+        → ((y : BeforeTallyDesk (deskHolding g w m (deskOn desk) (desk .parts .tally) (desk .parts .highest)) b′) → LaidDesk (tick (y .before .store)) r b″)
         → LaidDesk (tick (afterReport p store)) r b″
     flush-returns k = k flushed-tallies

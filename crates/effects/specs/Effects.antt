@@ -24,12 +24,14 @@ pub record BeforeFlushDesk (desk : Desk) (p : Place) (bytes : List ℕ) : Type 0
   pub others-few : (n : Box) → sameBox n (boxOf (before .store .cuts) p) ≡ false → waitingIn (before .store .cuts) (before .store .waiting) n < fullBox
   pub on-is : deskOn desk ≡ onOf (before .store .on)
   pub tally-is : desk .parts .tally ≡ before .store .tally
+  pub highest-is : desk .parts .highest ≡ before .store .highest
 
 -- the whole desk before the tally
 pub record BeforeTallyDesk (desk : Desk) (bytes : List ℕ) : Type 0 where
   pub before : BeforeTally (deskGrid desk) (deskMemo desk) (desk .parts .tally) bytes
   pub waiting-is : deskWaiting desk ≡ waitingOf (before .store .waiting)
   pub on-is : deskOn desk ≡ onOf (before .store .on)
+  pub highest-is : desk .parts .highest ≡ before .store .highest
 
 -- ---- a record on a sound store, once the checks have passed it
 
@@ -41,9 +43,9 @@ pub record BeforeReport (desk : Desk) (r : ℕ) (f : Fix) (bytes : List ℕ) : T
   pub sound : Sound desk bytes
   pub reports : Reports (sound .store) r f
 
-pub record BeforeSignOff (desk : Desk) (r : ℕ) (bytes : List ℕ) : Type 0 where
+pub record BeforeSignOff (desk : Desk) (r minute : ℕ) (bytes : List ℕ) : Type 0 where
   pub sound : Sound desk bytes
-  pub signs : SignsOff (sound .store) r
+  pub signs : SignsOff (sound .store) r minute
 
 -- the request is carried out
 abbrev pub AfterRequest : Store → Request → Desk → List ℕ → Type 0

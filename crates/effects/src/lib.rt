@@ -84,17 +84,28 @@ pub fn sign_on<'a>(
     radio: u16,
     east: u16,
     north: u16,
+    minute: u32,
 ) -> Parts
-    requires { ⌜ BeforeSignOn (deskWith parts (now cells) (now waiting) (now memo) (now on)) radio (fixAt east north) (now pages) ⌝ }
+    requires { ⌜ BeforeSignOn (deskWith parts (now cells) (now waiting) (now memo) (now on)) radio (fixAt east north minute) (now pages) ⌝ }
     ensures { λ r. ⌜ ((x : BeforeSignOn (deskWith parts (now (cells .entry)) (now (waiting .entry)) (now (memo .entry)) (now (on .entry))) radio
-        (fixAt east north) (now (pages .entry)))
-        → AfterRequest (x .sound .store) (signOn radio (fixAt east north))
+        (fixAt east north minute) (now (pages .entry)))
+        → AfterRequest (x .sound .store) (signOn radio (fixAt east north minute))
         (deskWith r (now (cells .exit)) (now (waiting .exit)) (now (memo .exit)) (now (on .exit))) (now (pages .exit))) ⌝ }
 {
-    let own = own_effect::signed_on(waiting, parts.waiting, on, parts.on, radio, east, north);
+    let own = own_effect::signed_on(
+        waiting,
+        parts.waiting,
+        on,
+        parts.on,
+        radio,
+        east,
+        north,
+        minute,
+    );
     let mut signed = parts;
     signed.waiting = own.waiting;
     signed.on = own.on;
+    signed.highest = minute;
     followed(signed, cells, waiting, memo, on, pages, east, north)
 }
 
@@ -109,15 +120,17 @@ pub fn reported<'a>(
     radio: u16,
     east: u16,
     north: u16,
+    minute: u32,
 ) -> Parts
-    requires { ⌜ BeforeReport (deskWith parts (now cells) (now waiting) (now memo) (now on)) radio (fixAt east north) (now pages) ⌝ }
+    requires { ⌜ BeforeReport (deskWith parts (now cells) (now waiting) (now memo) (now on)) radio (fixAt east north minute) (now pages) ⌝ }
     ensures { λ r. ⌜ ((x : BeforeReport (deskWith parts (now (cells .entry)) (now (waiting .entry)) (now (memo .entry)) (now (on .entry))) radio
-        (fixAt east north) (now (pages .entry)))
-        → AfterRequest (x .sound .store) (report radio (fixAt east north))
+        (fixAt east north minute) (now (pages .entry)))
+        → AfterRequest (x .sound .store) (report radio (fixAt east north minute))
         (deskWith r (now (cells .exit)) (now (waiting .exit)) (now (memo .exit)) (now (on .entry))) (now (pages .exit))) ⌝ }
 {
     let mut told = parts;
-    told.waiting = own_effect::reported(waiting, parts.waiting, radio, east, north);
+    told.highest = minute;
+    told.waiting = own_effect::reported(waiting, parts.waiting, radio, east, north, minute);
     followed(told, cells, waiting, memo, on, pages, east, north)
 }
 
@@ -130,11 +143,12 @@ pub fn sign_off<'a>(
     on: &'a mut [u16; Desk::MAX_ON],
     pages: &mut [u8],
     radio: u16,
+    minute: u32,
 ) -> Parts
-    requires { ⌜ BeforeSignOff (deskWith parts (now cells) (now waiting) (now memo) (now on)) radio (now pages) ⌝ }
-    ensures { λ r. ⌜ ((x : BeforeSignOff (deskWith parts (now (cells .entry)) (now (waiting .entry)) (now (memo .entry)) (now (on .entry))) radio
+    requires { ⌜ BeforeSignOff (deskWith parts (now cells) (now waiting) (now memo) (now on)) radio minute (now pages) ⌝ }
+    ensures { λ r. ⌜ ((x : BeforeSignOff (deskWith parts (now (cells .entry)) (now (waiting .entry)) (now (memo .entry)) (now (on .entry))) radio minute
         (now (pages .entry)))
-        → AfterRequest (x .sound .store) (signOff radio)
+        → AfterRequest (x .sound .store) (signOff radio minute)
         (deskWith r (now (cells .exit)) (now (waiting .exit)) (now (memo .exit)) (now (on .exit))) (now (pages .exit))) ⌝ }
 {
     let own = own_effect::signed_off(
@@ -150,5 +164,6 @@ pub fn sign_off<'a>(
     signed.waiting = own.waiting;
     signed.lines = own.lines;
     signed.on = own.on;
+    signed.highest = minute;
     ticked(signed, cells, waiting, memo, on, pages)
 }

@@ -16,6 +16,7 @@ use Rattle.lists.specs.Tests.{one-if, isSome, firstAt}
 use Rattle.lists.proofs.Cases.{by-cases, option-cases}
 use Rattle.lists.proofs.RowsLaws.{rising-less, rising-alter, rising-above, length-alter, length-alter-le, find-alter-other, countFound-one}
 use Rattle.lists.proofs.TestsLaws.{each-zip, firstAt-some, one-if-le}
+use Rattle.lists.specs.Words.{wide}
 use Rattle.entries.specs.declared.Entry.{Entry}
 use Rattle.entries.specs.declared.Lookup.the-variants.{Found}
 use Rattle.entries.specs.Entries.{fixOf, tableWith, tableWords, rowsOf, standsAt, noRow, rowOf as entryRow}
@@ -144,10 +145,10 @@ module _ (n : ℕ) (table : List ℕ) (lines : ℕ) (words : List ℕ) (e : Repo
   rows = rowsOf (tableWith n table)
 
   abbrev entry : Entry
-  entry = record { radio = e .radio; east = e .east; north = e .north }
+  entry = record { radio = e .radio; east = e .east; north = e .north; minute = wide (e .low) (e .high) }
 
   abbrev fix : Fix
-  fix = fixAt (e .east) (e .north)
+  fix = fixAt (e .east) (e .north) (wide (e .low) (e .high))
 
   module _ (lacks : standsAt (e .radio) rows ≡ none) where
     grows : length (insert (e .radio) fix rows) ≡ length rows + 1

@@ -8,6 +8,7 @@ ghost use Prim.Native.Nat.{_*_, _≤_};
 ghost use lib.ListN.{length};
 ghost use Rattle.lists.specs.Rows.{alter};
 ghost use Rattle.entries.specs.Entries.{tableWith, rowsOf, standsAt};
+ghost use Rattle.lists.specs.Words.{wide};
 ghost use Rattle.rules.specs.Limits.{fullMemory};
 ghost use Rattle.rules.specs.Flush.{entered};
 ghost use Rattle.desk.specs.Held.{memoIn, waitingWith};
@@ -24,12 +25,13 @@ use sweep::Swept;
 
 // A report as an entry.
 fn entry_of(report: Report) -> Entry
-    ensures { λ r. ⌜ r ≡ record { radio = report .radio; east = report .east; north = report .north } ⌝ }
+    ensures { λ r. ⌜ r ≡ record { radio = report .radio; east = report .east; north = report .north; minute = wide (report .low) (report .high) } ⌝ }
 {
     Entry {
         radio: report.radio,
         east: report.east,
         north: report.north,
+        minute: fields::wide_of(report.low, report.high),
     }
 }
 

@@ -1,7 +1,7 @@
 -- The table's array: what is read of it, what is lent of it, and what an entry written in it makes of the others.
 use mathlib.Core.List.{List, map}
 use mathlib.Core.Logic.{_≢_}
-use mathlib.Core.Path.{_≡_, refl, sym, ap, _∙_}
+use mathlib.Core.Path.{_≡_, refl, sym, ap, _∙_, ap₂}
 use Prim.Native.Nat.{ℕ, _+_, _*_, _/_, _≤_, _<_}
 use native.Mathlib.Omega.{arith}
 use lib.Dec.{eqb}
@@ -13,6 +13,8 @@ use Rattle.lists.specs.Parts.{part, tab}
 use Rattle.lists.proofs.Cases.{by-cases}
 use Rattle.lists.proofs.PartsLaws.{length-part, getD-part, length-tab, getD-tab}
 use Rattle.entries.specs.declared.Entry.{Entry}
+use Rattle.lists.specs.Words.{wide, lowHalf, highHalf}
+use Rattle.lists.proofs.WordsLaws.{wide-halves}
 use Rattle.entries.specs.Entries.{noEntry, tableWords, entryFields, entryIn, everyEntry, eastsOf, northsOf}
 
 -- ---- what is read
@@ -30,6 +32,11 @@ module _ (ws : List ℕ) (size : length ws ≡ tableWords) where
 
 pub entry-read : (ws : List ℕ) (i : ℕ) → i < maxOn → length ws ≡ tableWords → entryIn maxOn ws i ≡ getD (everyEntry ws) i noEntry
 entry-read ws i h l = sym (read-every ws l i h)
+
+-- the same, with the minute put together beforehand
+pub entry-made : (ws : List ℕ) (i : ℕ) {minute : ℕ} → i < maxOn → length ws ≡ tableWords → minute ≡ wide (getD ws (3 * maxOn + i) 0) (getD ws (4 * maxOn + i) 0)
+    → record { radio = getD ws i 0; east = getD ws (maxOn + i) 0; north = getD ws (2 * maxOn + i) 0; minute = minute } ≡ getD (everyEntry ws) i noEntry
+entry-made ws i h l e = (λ t. record { radio = getD ws i 0; east = getD ws (maxOn + i) 0; north = getD ws (2 * maxOn + i) 0; minute = e t }) ∙ entry-read ws i h l
 
 -- the first column has the radios
 pub radio-read : (ws : List ℕ) (i : ℕ) → i < maxOn → length ws ≡ tableWords → getD ws i 0 ≡ getD (everyEntry ws) i noEntry .radio
@@ -68,13 +75,21 @@ with₁ ws i x = set ws i (x .radio)
 abbrev with₂ : List ℕ → ℕ → Entry → List ℕ
 with₂ ws i x = set (with₁ ws i x) (maxOn + i) (x .east)
 
+abbrev with₃ : List ℕ → ℕ → Entry → List ℕ
+with₃ ws i x = set (with₂ ws i x) (2 * maxOn + i) (x .north)
+
+abbrev with₄ : List ℕ → ℕ → Entry → List ℕ
+with₄ ws i x = set (with₃ ws i x) (3 * maxOn + i) (lowHalf (x .minute))
+
 abbrev withEntry : List ℕ → ℕ → Entry → List ℕ
-withEntry ws i x = set (with₂ ws i x) (2 * maxOn + i) (x .north)
+withEntry ws i x = set (with₄ ws i x) (4 * maxOn + i) (highHalf (x .minute))
 
 -- any other place keeps its number
-other-word : (ws : List ℕ) (i : ℕ) (x : Entry) (p : ℕ) → p ≢ i → p ≢ maxOn + i → p ≢ 2 * maxOn + i → getD (withEntry ws i x) p 0 ≡ getD ws p 0
-other-word ws i x p a b c =
-    getD-set-other (with₂ ws i x) (2 * maxOn + i) p (x .north) 0 c
+other-word : (ws : List ℕ) (i : ℕ) (x : Entry) (p : ℕ) → p ≢ i → p ≢ maxOn + i → p ≢ 2 * maxOn + i → p ≢ 3 * maxOn + i → p ≢ 4 * maxOn + i → getD (withEntry ws i x) p 0 ≡ getD ws p 0
+other-word ws i x p a b c d e =
+    getD-set-other (with₄ ws i x) (4 * maxOn + i) p (highHalf (x .minute)) 0 e
+    ∙ getD-set-other (with₃ ws i x) (3 * maxOn + i) p (lowHalf (x .minute)) 0 d
+    ∙ getD-set-other (with₂ ws i x) (2 * maxOn + i) p (x .north) 0 c
     ∙ getD-set-other (with₁ ws i x) (maxOn + i) p (x .east) 0 b
     ∙ getD-set-other ws i p (x .radio) 0 a
 
@@ -88,21 +103,36 @@ module _ (ws : List ℕ) (i : ℕ) (x : Entry) (h : i < maxOn) (size : length ws
   entry-itself : entryIn maxOn written i ≡ x
   entry-itself =
       let a : getD written i 0 ≡ x .radio =
-      getD-set-other (with₂ ws i x) (2 * maxOn + i) i (x .north) 0 (omega arith)
+      getD-set-other (with₄ ws i x) (4 * maxOn + i) i (highHalf (x .minute)) 0 (omega arith)
+      ∙ getD-set-other (with₃ ws i x) (3 * maxOn + i) i (lowHalf (x .minute)) 0 (omega arith)
+      ∙ getD-set-other (with₂ ws i x) (2 * maxOn + i) i (x .north) 0 (omega arith)
       ∙ getD-set-other (with₁ ws i x) (maxOn + i) i (x .east) 0 (omega arith)
       ∙ getD-set-same ws i (x .radio) 0 (omega arith) in
       let b : getD written (maxOn + i) 0 ≡ x .east =
-      getD-set-other (with₂ ws i x) (2 * maxOn + i) (maxOn + i) (x .north) 0 (omega arith)
+      getD-set-other (with₄ ws i x) (4 * maxOn + i) (maxOn + i) (highHalf (x .minute)) 0 (omega arith)
+      ∙ getD-set-other (with₃ ws i x) (3 * maxOn + i) (maxOn + i) (lowHalf (x .minute)) 0 (omega arith)
+      ∙ getD-set-other (with₂ ws i x) (2 * maxOn + i) (maxOn + i) (x .north) 0 (omega arith)
       ∙ getD-set-same (with₁ ws i x) (maxOn + i) (x .east) 0 (simp length-set (omega arith)) in
-      let c : getD written (2 * maxOn + i) 0 ≡ x .north = getD-set-same (with₂ ws i x) (2 * maxOn + i) (x .north) 0 (simp length-set (omega arith)) in
-      λ t. record { radio = a t; east = b t; north = c t }
+      let c : getD written (2 * maxOn + i) 0 ≡ x .north =
+      getD-set-other (with₄ ws i x) (4 * maxOn + i) (2 * maxOn + i) (highHalf (x .minute)) 0 (omega arith)
+      ∙ getD-set-other (with₃ ws i x) (3 * maxOn + i) (2 * maxOn + i) (lowHalf (x .minute)) 0 (omega arith)
+      ∙ getD-set-same (with₂ ws i x) (2 * maxOn + i) (x .north) 0 (simp length-set (omega arith)) in
+      let d : getD written (3 * maxOn + i) 0 ≡ lowHalf (x .minute) =
+      getD-set-other (with₄ ws i x) (4 * maxOn + i) (3 * maxOn + i) (highHalf (x .minute)) 0 (omega arith)
+      ∙ getD-set-same (with₃ ws i x) (3 * maxOn + i) (lowHalf (x .minute)) 0 (simp length-set (omega arith)) in
+      let e : getD written (4 * maxOn + i) 0 ≡ highHalf (x .minute) =
+      getD-set-same (with₄ ws i x) (4 * maxOn + i) (highHalf (x .minute)) 0 (simp length-set (omega arith)) in
+      let m : wide (getD written (3 * maxOn + i) 0) (getD written (4 * maxOn + i) 0) ≡ x .minute = ap₂ wide d e ∙ wide-halves (x .minute) in
+      λ t. record { radio = a t; east = b t; north = c t; minute = m t }
 
   entry-other : (j : ℕ) → j < maxOn → j ≢ i → entryIn maxOn written j ≡ entryIn maxOn ws j
   entry-other j m n =
-      let a = other-word ws i x j n (omega arith) (omega arith) in
-      let b = other-word ws i x (maxOn + j) (omega arith) (omega (arith, n)) (omega arith) in
-      let c = other-word ws i x (2 * maxOn + j) (omega arith) (omega arith) (omega (arith, n)) in
-      λ t. record { radio = a t; east = b t; north = c t }
+      let a = other-word ws i x j n (omega arith) (omega arith) (omega arith) (omega arith) in
+      let b = other-word ws i x (maxOn + j) (omega arith) (omega (arith, n)) (omega arith) (omega arith) (omega arith) in
+      let c = other-word ws i x (2 * maxOn + j) (omega arith) (omega arith) (omega (arith, n)) (omega arith) (omega arith) in
+      let d = other-word ws i x (3 * maxOn + j) (omega arith) (omega arith) (omega arith) (omega (arith, n)) (omega arith) in
+      let e = other-word ws i x (4 * maxOn + j) (omega arith) (omega arith) (omega arith) (omega arith) (omega (arith, n)) in
+      λ t. record { radio = a t; east = b t; north = c t; minute = wide (d t) (e t) }
 
   at-any : (j : ℕ) → j < maxOn → getD (everyEntry written) j noEntry ≡ getD (set (everyEntry ws) i x) j noEntry
   at-any j m =
@@ -114,9 +144,14 @@ module _ (ws : List ℕ) (i : ℕ) (x : Entry) (h : i < maxOn) (size : length ws
       (λ t. let n = eqb-false j i t in
       entry-other j m n ∙ sym (getD-set-other (everyEntry ws) i j x noEntry n ∙ read-every ws size j m))
 
-  pub entry-written : everyEntry written ≡ set (everyEntry ws) i x
+  entry-written : everyEntry written ≡ set (everyEntry ws) i x
   entry-written =
       let n = length-every written (length-written ∙ size) in
       ext-getD noEntry (everyEntry written) (set (everyEntry ws) i x)
       (n ∙ sym (length-set (everyEntry ws) i x ∙ length-every ws size))
       (λ j m. at-any j (omega (arith, n)))
+
+-- the same, with the halves of the minute parted beforehand
+pub entry-put : (ws : List ℕ) (i : ℕ) (x : Entry) {low high : ℕ} → i < maxOn → length ws ≡ tableWords → low ≡ lowHalf (x .minute) → high ≡ highHalf (x .minute)
+    → everyEntry (set (set (with₃ ws i x) (3 * maxOn + i) low) (4 * maxOn + i) high) ≡ set (everyEntry ws) i x
+entry-put ws i x h l e f = rw (e, f) (entry-written ws i x h l)

@@ -1,4 +1,4 @@
--- The work table as rows by rising radio (01, "Records and pages": "entries of radio, east, north", "entries by rising radio").
+-- The work table as rows by rising radio (01, "Records and pages": "entries of radio, east, north", "entries by rising radio"; 02, Job 3: "in an entry after north").
 use mathlib.Core.List.{List, map}
 use mathlib.Core.Option.{Option, none, some}
 use Prim.Native.Nat.{ℕ, _+_, _*_, _/_}
@@ -8,6 +8,7 @@ use Rattle.terms.specs.Terms.{Place, Fix, fixAt, maxOn}
 use Rattle.lists.specs.Parts.{tab}
 use Rattle.lists.specs.Tests.{firstAt}
 use Rattle.lists.specs.Rows.{Row, Rows}
+use Rattle.lists.specs.Words.{wide}
 use Rattle.entries.specs.declared.Entry.{Entry}
 use Rattle.entries.specs.declared.Lookup.{Lookup}
 use Rattle.entries.specs.declared.Lookup.the-variants.{Found, Missing}
@@ -16,7 +17,7 @@ abbrev pub placeOf : Entry → Place
 placeOf e = record { east = e .east; north = e .north }
 
 abbrev pub fixOf : Entry → Fix
-fixOf e = record { place = placeOf e }
+fixOf e = record { place = placeOf e; minute = e .minute }
 
 -- an entry as a row: its radio is the key
 abbrev pub rowOf : Entry → Row Fix
@@ -24,10 +25,10 @@ rowOf e = record { key = e .radio; val = fixOf e }
 
 -- what stands past the end of a list of entries, and of rows
 abbrev pub noEntry : Entry
-noEntry = record { radio = 0; east = 0; north = 0 }
+noEntry = record { radio = 0; east = 0; north = 0; minute = 0 }
 
 abbrev pub noRow : Row Fix
-noRow = record { key = 0; val = fixAt 0 0 }
+noRow = record { key = 0; val = fixAt 0 0 0 }
 
 -- ---- the table
 
@@ -41,7 +42,7 @@ abbrev pub tableWith : ℕ → List ℕ → Entries
 tableWith n words = record { n = n; words = words }
 
 abbrev pub entryFields : ℕ
-entryFields = 3
+entryFields = 5
 
 abbrev pub tableWords : ℕ
 tableWords = entryFields * maxOn
@@ -52,6 +53,7 @@ entryIn slots ws i = record {
   radio = getD ws i 0;
   east = getD ws (slots + i) 0;
   north = getD ws (2 * slots + i) 0;
+  minute = wide (getD ws (3 * slots + i) 0) (getD ws (4 * slots + i) 0);
 }
 
 -- all entries whose fields the array has column after column, in use or not

@@ -8,14 +8,13 @@ use native.Mathlib.Omega.{arith}
 use lib.ListN.{length, length-map}
 use lib.Seq.{length-take-le}
 use Rattle.terms.specs.Terms.{Place}
-use Rattle.lists.specs.Rows.{Rows}
 use Rattle.lists.specs.Sums.{filter}
 use Rattle.lists.specs.Among.{Among}
-use Rattle.entries.specs.Entries.{tableWith, tableWords, rowsOf}
+use Rattle.entries.specs.Entries.{tableWith, rowsOf}
 use Rattle.page.specs.Buffer.{pagesOf}
 use Rattle.rules.specs.Limits.{maxCells, maxCuts, fullMemory}
 use Rattle.rules.specs.Grid.{eastward, northward, inside, Cuts, Box, cornerOf}
-use Rattle.rules.specs.Store.{Report, Cell, Store, cellAt}
+use Rattle.rules.specs.Store.{Cell, Store, cellAt}
 use Rattle.rules.specs.Sweep.{sweptMemo, swept}
 use Rattle.rules.specs.Flush.{Flushed, flushedInto, inBox, reshaped, cellOfBox, flush}
 use Rattle.rules.specs.Midway.{MidFlush}
@@ -32,7 +31,7 @@ use Rattle.waiting.specs.Waiting.{reportsOf, WholeWaiting}
 use Rattle.desk.proofs.SlotsLaws.{length-slot-words}
 use Rattle.desk.proofs.UniqueLaws.{cuts-laid}
 use Rattle.waiting.proofs.SlotsLaws.{length-slotted}
-use Rattle.waiting.proofs.WaitingLaws.{reports-laid, whole-laid, count-laid}
+use Rattle.waiting.proofs.WaitingLaws.{whole-laid, count-laid}
 use Rattle.directory.specs.declared.FoundCell.{FoundCell}
 use Rattle.directory.specs.declared.FoundCell.the-variants.{At, Nowhere}
 use Rattle.directory.specs.declared.Corner.{Corner}

@@ -21,7 +21,7 @@ pub record Made : Type 0 where
   pub pages : List ℕ
 
 pub record Begins (x : Found) (y : Made) : Type 0 where
-  -- 1: "The page buffer isn't 25,600 bytes." "The answer carries the number and 0 .. Desk, pages .. keep every byte."
+  -- 1: "The page buffer isn't 25,600 bytes.", which Job 3 makes 41,984. "The answer carries the number and 0 .. Desk, pages .. keep every byte."
   pub size : (length (x .pages) ≡ bufferBytes → ⊥) → y ≡ record { number = 1; count = 0; desk = x .desk; pages = x .pages }
   -- the fresh store, laid out
   pub made : length (x .pages) ≡ bufferBytes → y ≡ record { number = 0; count = 0; desk = deskOf fresh; pages = pagesOf fresh }

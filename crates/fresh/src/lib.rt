@@ -18,7 +18,7 @@ use page::BUFFER_BYTES;
 use terms::NO_PAGE;
 use terms::PAGES;
 
-// "The page buffer isn't 25,600 bytes."
+// 1: "The page buffer isn't 25,600 bytes.", which Job 3 makes 41,984
 const WRONG_SIZE: u16 = 1;
 
 pub struct Begun {

@@ -71,8 +71,8 @@ told-done : (q : Request) (x : Plain) (buffer : List ℕ) → Lists (toldDone q 
 unfolding toldDone listedBytes
 told-done (signOn r f) x buffer = (omega arith, refl, refl)
 told-done (report r f) x buffer = (omega arith, refl, refl)
-told-done (signOff r) x buffer = (omega arith, refl, refl)
-told-done (range rect) x buffer = told-list (plainFound x rect) buffer
+told-done (signOff r minute) x buffer = (omega arith, refl, refl)
+told-done (range rect minute) x buffer = told-list (plainFound x rect minute) buffer
 
 told-lists : (x : Plain) (bytes buffer : List ℕ) → Lists (told x bytes buffer .number) (told x bytes buffer .count) buffer (told x bytes buffer .buffer)
 unfolding told listedBytes

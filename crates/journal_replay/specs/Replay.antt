@@ -77,7 +77,7 @@ abbrev pub left : ℕ → Desk → List ℕ → ℕ → ℕ → List ℕ → Hel
 left number desk pages read written out = record { number = number; desk = desk; pages = pages; read = read; written = written; out = out }
 
 pub record Replays (journal : List ℕ) (x : Found) (y : Held) : Type 0 where
-  -- 1: "The page buffer isn't 25,600 bytes."
+  -- 1: "The page buffer isn't 25,600 bytes.", which Job 3 makes 41,984
   pub size : (length (x .pages) ≡ bufferBytes → ⊥) → y ≡ record { number = 1; desk = x .desk; pages = x .pages; read = 0; written = 0; out = x .out }
   -- else a run from the fresh store
   pub accepted : length (x .pages) ≡ bufferBytes → y .number ≡ 0

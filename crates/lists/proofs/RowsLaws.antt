@@ -1,5 +1,5 @@
 -- Laws of rows by rising key.
-use mathlib.Core.Path.{_≡_, refl, sym, ap, ap₂, _∙_}
+use mathlib.Core.Path.{_≡_, refl, sym, ap, ap₂, _∙_, subst}
 use mathlib.Core.Bool.{Bool, true, false, cond}
 use mathlib.Core.List.{[], _∷_, map}
 use mathlib.Core.Option.{Option, none, some, Option·map}
@@ -12,7 +12,7 @@ use Rattle.lists.specs.Parts.{tab}
 use Rattle.lists.specs.Tests.{one-if, isSome, orElse, Each}
 use Rattle.lists.specs.Sums.{sumBy, sumTo, filter, keep}
 use Rattle.lists.specs.Rows.{Row, Rows, Rising, UpTo, find, putRow, alter, insert, merge, countFound, passed}
-use Rattle.lists.proofs.Cases.{by-cases, none-some, false-true}
+use Rattle.lists.proofs.Cases.{by-cases, none-some, false-true, some-injective}
 use Rattle.lists.proofs.SumsLaws.{sum-const, sumTo-zero, sumTo-but, sumTo-ext}
 use Rattle.lists.proofs.TestsLaws.{each-map, one-if-le}
 
@@ -86,19 +86,27 @@ module _ {Val : Type 0} where
       (λ t. same (eqb-true q r t) (rw (find-alter f b r q l h a, t, eqb-true q r t) at e))
       (λ t. other (eqb-false q r t) (rw (find-alter f b r q l h a, t) at e))
 
-  upTo-putRow : (n r : ℕ) (o : Option Val) (l : Rows Val) → r ≤ n → UpTo n l → UpTo n (putRow r o l)
-  upTo-putRow n r none l h u = u
-  upTo-putRow n r (some v) l h u = (h, u)
+  -- what holds of each row, and of the row that f makes
+  module _ (P : Row Val → Type 0) where
+    each-putRow : (r : ℕ) (o : Option Val) (l : Rows Val) → ((v : Val) → o ≡ some v → P (record { key = r; val = v })) → Each P l → Each P (putRow r o l)
+    each-putRow r none l h u = u
+    each-putRow r (some v) l h u = (h v refl, u)
+
+    pub each-alter : (f : Option Val → Option Val) (r : ℕ) (l : Rows Val) → ((o : Option Val) (v : Val) → f o ≡ some v → P (record { key = r; val = v })) → Each P l → Each P (alter f r l)
+    unfolding alter
+    each-alter f r [] h u = each-putRow r (f none) [] (h none) tt
+    each-alter f r (x ∷ xs) h u =
+        by-cases (eqb r (x .key))
+        (λ e. rw e (each-putRow r (f (some (x .val))) xs (h (some (x .val))) (u .1)))
+        (λ e. by-cases (ltb r (x .key))
+        (λ t. rw (e, t) (each-putRow r (f none) (x ∷ xs) (h none) u))
+        (λ t. rw (e, t) (u .0, each-alter f r xs h (u .1))))
+
+    pub each-insert : (r : ℕ) (v : Val) (l : Rows Val) → P (record { key = r; val = v }) → Each P l → Each P (insert r v l)
+    each-insert r v l h u = each-alter (λ _. some v) r l (λ o w e. subst (λ (y : Val). P (record { key = r; val = y })) (some-injective e) h) u
 
   pub upTo-alter : (f : Option Val → Option Val) (n r : ℕ) (l : Rows Val) → r ≤ n → UpTo n l → UpTo n (alter f r l)
-  unfolding alter
-  upTo-alter f n r [] h u = upTo-putRow n r (f none) [] h tt
-  upTo-alter f n r (x ∷ xs) h u =
-      by-cases (eqb r (x .key))
-      (λ e. rw e (upTo-putRow n r (f (some (x .val))) xs h (u .1)))
-      (λ e. by-cases (ltb r (x .key))
-      (λ t. rw (e, t) (upTo-putRow n r (f none) (x ∷ xs) h u))
-      (λ t. rw (e, t) (u .0, upTo-alter f n r xs h (u .1))))
+  upTo-alter f n r l h u = each-alter (λ x. x .key ≤ n) f r l (λ o v e. h) u
 
   sum-putRow : (f : ℕ → Val → ℕ) (r : ℕ) (o : Option Val) (l : Rows Val) → sumBy (λ x. f (x .key) (x .val)) (putRow r o l) ≡ countFound f r o + sumBy (λ x. f (x .key) (x .val)) l
   unfolding sumBy
@@ -285,10 +293,13 @@ module _ {Val : Type 0} where
         length-alter-le (λ _. some (x .val)) 0 (x .key) m pos k,
       )
 
-  pub upTo-merge : (n : ℕ) (l m : Rows Val) → UpTo n l → UpTo n m → UpTo n (merge l m)
+  pub each-merge : (P : Row Val → Type 0) (l m : Rows Val) → Each P l → Each P m → Each P (merge l m)
   unfolding merge
-  upTo-merge n [] m u v = v
-  upTo-merge n (x ∷ xs) m u v = upTo-merge n xs (insert (x .key) (x .val) m) (u .1) (upTo-alter (λ _. some (x .val)) n (x .key) m (u .0) v)
+  each-merge P [] m u v = v
+  each-merge P (x ∷ xs) m u v = each-merge P xs (insert (x .key) (x .val) m) (u .1) (each-insert P (x .key) (x .val) m (u .0) v)
+
+  pub upTo-merge : (n : ℕ) (l m : Rows Val) → UpTo n l → UpTo n m → UpTo n (merge l m)
+  upTo-merge n = each-merge (λ x. x .key ≤ n)
 
   -- rising keys up to n are at most n
   pub length-rising : (b n : ℕ) (l : Rows Val) → Rising b l → UpTo n l → b ≤ n → b + length l ≤ n

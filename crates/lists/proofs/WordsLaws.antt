@@ -2,13 +2,13 @@
 use mathlib.Core.Path.{_≡_, refl, sym, ap, ap₂, _∙_}
 use mathlib.Core.List.{List, [], _∷_, _++_}
 use Prim.Native.Nat.{ℕ, zero, suc, _+_, _*_, _/_, _%_, _≤_, _<_}
-use native.Mathlib.Nat.{add-assoc, not-suc-le-zero}
+use native.Mathlib.Nat.{add-assoc, not-suc-le-zero, div-div-eq-div-mul, mod-mod-of-dvd, dvd-mul-right}
 use native.Mathlib.Omega.{arith}
 use lib.ListN.{length, List·getD-append}
 use lib.Seq.{getD-append-add}
-use Rattle.lists.specs.Parts.{part}
-use Rattle.lists.specs.Words.{le, word, Bytes}
-use Rattle.lists.proofs.PartsLaws.{getD-part, part-zero, part-cons}
+use Rattle.lists.specs.Parts.{part, put}
+use Rattle.lists.specs.Words.{le, word, wide, lowHalf, highHalf, Bytes}
+use Rattle.lists.proofs.PartsLaws.{getD-part, part-zero, part-cons, put-then}
 
 pub length-le : (n v : ℕ) → length (le n v) ≡ n
 unfolding le
@@ -57,3 +57,33 @@ le-word (suc (suc n)) b at small h =
 pub word-small : (b : List ℕ) (at : ℕ) → Bytes b → word 2 b at < 65536
 unfolding word
 word-small b at small = let x = small at in let y = small (at + 1) in omega arith
+
+-- ---- halves
+
+pub wide-halves : (v : ℕ) → wide (lowHalf v) (highHalf v) ≡ v
+wide-halves v = omega arith
+
+pub low-wide : (low high : ℕ) → low < 65536 → lowHalf (wide low high) ≡ low
+low-wide low high h = omega arith
+
+pub high-wide : (low high : ℕ) → low < 65536 → highHalf (wide low high) ≡ high
+high-wide low high h = omega arith
+
+-- four bytes are two halves of two
+pub word-wide : (xs : List ℕ) (at : ℕ) {low high : ℕ} → low ≡ word 2 xs at → high ≡ word 2 xs (at + 2) → wide low high ≡ word 4 xs at
+unfolding word
+word-wide xs at e f = let z : at + 2 ≡ at + 1 + 1 = omega arith in omega (arith, e, rw z at f)
+
+pub le-wide : (v : ℕ) → le 2 (lowHalf v) ++ le 2 (highHalf v) ≡ le 4 v
+unfolding le
+le-wide v =
+    let d : v / 256 / 256 ≡ v / 65536 = div-div-eq-div-mul v 256 256 in
+    let e₀ : v % 65536 % 256 ≡ v % 256 = mod-mod-of-dvd 256 v (dvd-mul-right 256 256) in
+    let e₁ : v % 65536 / 256 ≡ v / 256 % 256 = omega arith in
+    rw (e₀, e₁, ← d)
+
+-- two writes side by side
+pub put-wide : (xs : List ℕ) {ys zs : List ℕ} (at v : ℕ) {low high : ℕ} → at + 4 ≤ length xs → low ≡ lowHalf v → ys ≡ put xs at (le 2 low) → high ≡ highHalf v
+    → zs ≡ put ys (at + 2) (le 2 high) → zs ≡ put xs at (le 4 v)
+put-wide xs at v {low} {high} h l e u f =
+    rw (← le-wide v, ← l, ← u) (put-then xs at (le 2 low) (le 2 high) e f (unfold le in refl) (omega arith))

@@ -14,7 +14,7 @@ use desk::Desk;
 use desk::Line;
 
 // As many lines as the memo has slots.
-const LINES: usize = Desk::MAX_LINES + 1;
+const LINES: usize = Desk::LINE_SLOTS;
 
 // A number for each line, and one for the place past the last.
 pub const PLACES: usize = LINES + 1;

@@ -8,7 +8,7 @@ use native.Mathlib.Omega.{arith}
 use Rattle.terms.specs.Terms.{Fix, maxOn}
 use Rattle.lists.specs.Rows.{Rows, Rising, find, alter, insert}
 use Rattle.rules.specs.Limits.{maxCells, fullMemory}
-use Rattle.rules.specs.Store.{Report as StoreReport, Line as StoreLine, Store, withWaiting, withMemo, withOn, missedOf}
+use Rattle.rules.specs.Store.{Report as StoreReport, Line as StoreLine, Store, withWaiting, withMemo, withOn, missedOf, withHighest}
 use Rattle.rules.specs.Flush.{raised}
 use Rattle.rules.specs.Carry.{onCount, wasNew, signedOn, reported, signedOff}
 use Rattle.rules.specs.WellFormed.{WellFormed}
@@ -85,54 +85,54 @@ module _ (s : Store) (d : Desk) (held : d ≡ deskOf s) where
   -- ---- what is given
 
   -- the desk with other parts
-  abbrev withParts : Waiting → Memo → On → Desk
-  withParts waiting memo on = deskHolding (deskGrid d) waiting memo on (d .parts .tally)
+  abbrev withParts : Waiting → Memo → On → ℕ → Desk
+  withParts waiting memo on minute = deskHolding (deskGrid d) waiting memo on (d .parts .tally) minute
 
-  given : (l : Rows StoreReport) (m : Rows StoreLine) (o : Rows (Unit {0})) → withParts (waitingOf l) (memoOf m) (onOf o) ≡ deskOf (withRows s l m o)
+  given : (l : Rows StoreReport) (m : Rows StoreLine) (o : Rows (Unit {0})) (minute : ℕ) → withParts (waitingOf l) (memoOf m) (onOf o) minute ≡ deskOf (withRows (withHighest minute s) l m o)
   unfolding deskOf gridOf
-  given l m o = ap (λ (x : Desk). deskHolding (deskGrid x) (waitingOf l) (memoOf m) (onOf o) (x .parts .tally)) held
+  given l m o minute = ap (λ (x : Desk). deskHolding (deskGrid x) (waitingOf l) (memoOf m) (onOf o) (x .parts .tally) minute) held
 
   module _ (r : ℕ) where
     module _ (f : Fix) where
       pub on-gives : {waiting : Waiting} {on : On}
           → (waiting ≡ waitingOf (insert r (record { fix = f; new = true }) (reportsOf (deskWaiting d)))) × (on ≡ onOf (insert r tt (radiosOf (deskOn d))))
-          → deskHolding (deskGrid d) waiting (deskMemo d) on (d .parts .tally) ≡ deskOf (signedOn r f s)
+          → deskHolding (deskGrid d) waiting (deskMemo d) on (d .parts .tally) (f .minute) ≡ deskOf (signedOn r f (withHighest (f .minute) s))
       unfolding signedOn
       on-gives said =
-          (λ i. withParts (said .0 i) (memo-held i) (said .1 i))
-          ∙ rw (reports-laid waiting-held, radios-laid on-held) (given (insert r (record { fix = f; new = true }) (s .waiting)) (s .memo) (insert r tt (s .on)))
+          (λ i. withParts (said .0 i) (memo-held i) (said .1 i) (f .minute))
+          ∙ rw (reports-laid waiting-held, radios-laid on-held) (given (insert r (record { fix = f; new = true }) (s .waiting)) (s .memo) (insert r tt (s .on)) (f .minute))
 
       pub report-gives : {waiting : Waiting} → waiting ≡ waitingOf (alter (λ x. some (record { fix = f; new = wasNew x })) r (reportsOf (deskWaiting d)))
-          → deskHolding (deskGrid d) waiting (deskMemo d) (deskOn d) (d .parts .tally) ≡ deskOf (reported r f s)
+          → deskHolding (deskGrid d) waiting (deskMemo d) (deskOn d) (d .parts .tally) (f .minute) ≡ deskOf (reported r f (withHighest (f .minute) s))
       unfolding reported
       report-gives said =
-          (λ i. withParts (said i) (memo-held i) (on-held i))
-          ∙ rw (reports-laid waiting-held) (given (alter (λ x. some (record { fix = f; new = wasNew x })) r (s .waiting)) (s .memo) (s .on))
+          (λ i. withParts (said i) (memo-held i) (on-held i) (f .minute))
+          ∙ rw (reports-laid waiting-held) (given (alter (λ x. some (record { fix = f; new = wasNew x })) r (s .waiting)) (s .memo) (s .on) (f .minute))
 
-    pub off-gives : {waiting : Waiting} {memo : Memo} {on : On}
+    pub off-gives : (minute : ℕ) {waiting : Waiting} {memo : Memo} {on : On}
         → (waiting ≡ waitingOf (alter (λ _. none) r (reportsOf (deskWaiting d)))) × (memo ≡ memoOf (cond (wasNew (find (reportsOf (deskWaiting d)) r)) (linesOf (deskMemo d)) (alter (raised none) r (linesOf (deskMemo d))))) × (on ≡ onOf (alter (λ _. none) r (radiosOf (deskOn d))))
-        → deskHolding (deskGrid d) waiting memo on (d .parts .tally) ≡ deskOf (signedOff r s)
+        → deskHolding (deskGrid d) waiting memo on (d .parts .tally) minute ≡ deskOf (signedOff r (withHighest minute s))
     unfolding signedOff
-    off-gives said =
-        (λ i. withParts (said .0 i) (said .1 i) (said .2 i))
+    off-gives minute said =
+        (λ i. withParts (said .0 i) (said .1 i) (said .2 i) minute)
         ∙ rw (reports-laid waiting-held, radios-laid on-held, lines-are (s .memo) memo-held)
-        (given (alter (λ _. none) r (s .waiting)) (cond (wasNew (find (s .waiting) r)) (s .memo) (alter (raised none) r (s .memo))) (alter (λ _. none) r (s .on)))
+        (given (alter (λ _. none) r (s .waiting)) (cond (wasNew (find (s .waiting) r)) (s .memo) (alter (raised none) r (s .memo))) (alter (λ _. none) r (s .on)) minute)
 
 -- ---- the pages, which no record's own effect changes
 
 module _ (s : Store) (b : List ℕ) (laid : Laid s b) where
-  rows-laid : (l : Rows StoreReport) (m : Rows StoreLine) (o : Rows (Unit {0})) → Laid (withRows s l m o) b
+  rows-laid : (l : Rows StoreReport) (m : Rows StoreLine) (o : Rows (Unit {0})) (minute : ℕ) → Laid (withRows (withHighest minute s) l m o) b
   unfolding storeLeaves
-  rows-laid l m o = record { size = laid .size; leaf = laid .leaf }
+  rows-laid l m o minute = record { size = laid .size; leaf = laid .leaf }
 
-  pub on-laid : (r : ℕ) (f : Fix) → Laid (signedOn r f s) b
+  pub on-laid : (r : ℕ) (f : Fix) → Laid (signedOn r f (withHighest (f .minute) s)) b
   unfolding signedOn
-  on-laid r f = rows-laid _ _ _
+  on-laid r f = rows-laid _ _ _ _
 
-  pub report-laid : (r : ℕ) (f : Fix) → Laid (reported r f s) b
+  pub report-laid : (r : ℕ) (f : Fix) → Laid (reported r f (withHighest (f .minute) s)) b
   unfolding reported
-  report-laid r f = rows-laid _ _ _
+  report-laid r f = rows-laid _ _ _ _
 
-  pub off-laid : (r : ℕ) → Laid (signedOff r s) b
+  pub off-laid : (r minute : ℕ) → Laid (signedOff r (withHighest minute s)) b
   unfolding signedOff
-  off-laid r = rows-laid _ _ _
+  off-laid r minute = rows-laid _ _ _ _

@@ -38,15 +38,16 @@ pub fn signed_on<'a>(
     radio: u16,
     east: u16,
     north: u16,
+    minute: u32,
 ) -> SignedOn
     requires { ⌜ RoomyWaiting (waitingWith reports (now waiting)) × RoomyOn (onWith radios (now on)) ⌝ }
     ensures { λ r. ⌜ (waitingWith (r .waiting) (now (waiting .exit))
-        ≡ waitingOf (insert radio (record { fix = fixAt east north; new = true }) (reportsOf (waitingWith reports
+        ≡ waitingOf (insert radio (record { fix = fixAt east north minute; new = true }) (reportsOf (waitingWith reports
         (now (waiting .entry))))))
         × (onWith (r .on) (now (on .exit)) ≡ onOf (insert radio tt (radiosOf (onWith radios (now (on .entry)))))) ⌝ }
 {
     SignedOn {
-        waiting: waiting::put_new(waiting, reports, radio, east, north),
+        waiting: waiting::put_new(waiting, reports, radio, east, north, minute),
         on: waiting::signed_on(on, radios, radio),
     }
 }
@@ -58,13 +59,14 @@ pub fn reported<'a>(
     radio: u16,
     east: u16,
     north: u16,
+    minute: u32,
 ) -> u16
     requires { ⌜ RoomyWaiting (waitingWith reports (now waiting)) ⌝ }
     ensures { λ r. ⌜ waitingWith r (now (waiting .exit))
-        ≡ waitingOf (alter (λ w. some (record { fix = fixAt east north; new = wasNew w })) radio
+        ≡ waitingOf (alter (λ w. some (record { fix = fixAt east north minute; new = wasNew w })) radio
         (reportsOf (waitingWith reports (now (waiting .entry))))) ⌝ }
 {
-    waiting::put_report(waiting, reports, radio, east, north)
+    waiting::put_report(waiting, reports, radio, east, north, minute)
 }
 
 // Whether a report of `radio` waits and is marked new.

@@ -5,7 +5,7 @@ use Prim.Native.Nat.{ℕ, zero, suc, _+_, _-_, _*_, _≤_, _<_}
 use native.Mathlib.Nat.{add-assoc, add-zero, zero-add, not-suc-le-zero, le-of-suc-le-suc}
 use native.Mathlib.Omega.{arith}
 use lib.ListN.{length, getD, length-append, length-replicate, replicate}
-use Rattle.terms.specs.Terms.{Fix, fieldBytes, pageEntries}
+use Rattle.terms.specs.Terms.{Fix, fieldBytes, minuteBytes, pageEntries}
 use Rattle.lists.specs.Rows.{Row, Rows}
 use Rattle.lists.specs.Words.{le, word}
 use Rattle.lists.proofs.PartsLaws.{tab-of, length-tab}
@@ -69,35 +69,38 @@ unfolding entries
 length-entries b = length-tab (count b) (entryAt b)
 
 entry-fields : (e : Row Fix) → (word fieldBytes (entryOf e) 0 ≡ e .key) × (word fieldBytes (entryOf e) 2 ≡ e .val .place .east) × (word fieldBytes (entryOf e) 4 ≡ e .val .place .north)
+    × (word minuteBytes (entryOf e) 6 ≡ e .val .minute)
 unfolding entryOf le word
-entry-fields e = (omega arith, omega arith, omega arith)
+entry-fields e = (omega arith, omega arith, omega arith, omega arith)
 
--- a field of an entry stands at six times its index
-entries-field : (es : Rows Fix) (z : List ℕ) (i k : ℕ) → i < length es → k + fieldBytes ≤ entryBytes
-    → word fieldBytes (entriesOf es ++ z) (entryBytes * i + k) ≡ word fieldBytes (entryOf (getD es i noRow)) k
-unfolding entriesOf
-entries-field [] z i k h b = absurd (not-suc-le-zero h)
-entries-field (e ∷ es) z zero k h b =
-    let l : length (entryOf e) ≡ entryBytes = length-entryOf e in
-    rw (append-assoc, zero-add) (word-append-le fieldBytes (entryOf e) _ k (omega arith))
-entries-field (e ∷ es) z (suc i) k h b =
-    let q : entryBytes * suc i + k ≡ entryBytes + (entryBytes * i + k) = omega arith in
-    rw (append-assoc, q) (word-append fieldBytes (entryOf e) _ entryBytes (entryBytes * i + k) (length-entryOf e) ∙ entries-field es z i k (le-of-suc-le-suc h) b)
+-- a field of an entry, of any width, stands at ten times its index
+module _ (width : ℕ) where
+  entries-field : (es : Rows Fix) (z : List ℕ) (i k : ℕ) → i < length es → k + width ≤ entryBytes
+      → word width (entriesOf es ++ z) (entryBytes * i + k) ≡ word width (entryOf (getD es i noRow)) k
+  unfolding entriesOf
+  entries-field [] z i k h b = absurd (not-suc-le-zero h)
+  entries-field (e ∷ es) z zero k h b =
+      let l : length (entryOf e) ≡ entryBytes = length-entryOf e in
+      rw (append-assoc, zero-add) (word-append-le width (entryOf e) _ k (omega arith))
+  entries-field (e ∷ es) z (suc i) k h b =
+      let q : entryBytes * suc i + k ≡ entryBytes + (entryBytes * i + k) = omega arith in
+      rw (append-assoc, q) (word-append width (entryOf e) _ entryBytes (entryBytes * i + k) (length-entryOf e) ∙ entries-field es z i k (le-of-suc-le-suc h) b)
 
-page-field : (k n c : ℕ) (es : Rows Fix) (i j : ℕ) → i < length es → j + fieldBytes ≤ entryBytes
-    → word fieldBytes (pageOf k n c es) (headBytes + entryBytes * i + j) ≡ word fieldBytes (entryOf (getD es i noRow)) j
-unfolding pageOf
-page-field k n c es i j h b =
-    rw add-assoc (word-append fieldBytes (headOf _ k n c) _ headBytes _ (length-headOf _ k n c) ∙ entries-field es _ i j h b)
+  page-field : (k n c : ℕ) (es : Rows Fix) (i j : ℕ) → i < length es → j + width ≤ entryBytes
+      → word width (pageOf k n c es) (headBytes + entryBytes * i + j) ≡ word width (entryOf (getD es i noRow)) j
+  unfolding pageOf
+  page-field k n c es i j h b =
+      rw add-assoc (word-append width (headOf _ k n c) _ headBytes _ (length-headOf _ k n c) ∙ entries-field es _ i j h b)
 
 pub entryAt-pageOf : (k n c : ℕ) (es : Rows Fix) (i : ℕ) → i < length es → entryAt (pageOf k n c es) i ≡ getD es i noRow
 unfolding entryAt
 entryAt-pageOf k n c es i h =
     let w = entry-fields (getD es i noRow) in
-    let r = rw add-zero at (page-field k n c es i 0 h (omega arith)) ∙ w .0 in
-    let e = page-field k n c es i 2 h (omega arith) ∙ w .1 in
-    let o = page-field k n c es i 4 h (omega arith) ∙ w .2 in
-    λ x. record { key = r x; val = record { place = record { east = e x; north = o x } } }
+    let r = rw add-zero at (page-field fieldBytes k n c es i 0 h (omega arith)) ∙ w .0 in
+    let e = page-field fieldBytes k n c es i 2 h (omega arith) ∙ w .1 in
+    let o = page-field fieldBytes k n c es i 4 h (omega arith) ∙ w .2 in
+    let m = page-field minuteBytes k n c es i 6 h (omega arith) ∙ w .3 in
+    λ x. record { key = r x; val = record { place = record { east = e x; north = o x }; minute = m x } }
 
 pub count-pageOf : (k n c : ℕ) (es : Rows Fix) → length es ≤ pageEntries → count (pageOf k n c es) ≡ length es
 unfolding count

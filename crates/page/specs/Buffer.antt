@@ -14,7 +14,7 @@ use Rattle.page.specs.declared.Chain.{Chain}
 use Rattle.page.specs.declared.ChainEnd.{ChainEnd}
 use Rattle.page.specs.declared.ChainEnd.the-variants.{Ended, PastBound, NotThere}
 
--- "The page buffer isn't 25,600 bytes."
+-- "The page buffer isn't 25,600 bytes.", which Job 3 makes 41,984
 abbrev pub bufferBytes : ℕ
 bufferBytes = pageBytes * pages
 

@@ -2,21 +2,21 @@
 use mathlib.Core.List.{List, [], _∷_, _++_}
 use Prim.Native.Nat.{ℕ, _+_, _*_, _-_, _/_, min}
 use lib.ListN.{length, replicate}
-use Rattle.terms.specs.Terms.{Fix, fieldBytes, pageEntries, noCell}
+use Rattle.terms.specs.Terms.{Fix, fieldBytes, minuteBytes, pageEntries, noCell}
 use Rattle.lists.specs.Parts.{tab}
 use Rattle.lists.specs.Rows.{Row, Rows}
 use Rattle.lists.specs.Words.{le, word}
 
--- "A page has 200 bytes"
+-- "pages become 328 bytes"
 abbrev pub pageBytes : ℕ
-pageBytes = 200
+pageBytes = 328
 
--- "used bytes (8 + 6 × entries)"
+-- "used bytes are 8 + 10 × entries"
 abbrev pub headBytes : ℕ
 headBytes = 8
 
 abbrev pub entryBytes : ℕ
-entryBytes = 6
+entryBytes = 10
 
 -- "kind (1 free, 2 first of a cell, 3 further)"
 abbrev pub kindFree : ℕ
@@ -30,9 +30,9 @@ kindFurther = 3
 
 -- ---- bytes
 
--- "entries of radio, east, north"
+-- "entries of radio, east, north", and the minute "in an entry after north"
 unfoldable pub entryOf : Row Fix → List ℕ
-entryOf e = le fieldBytes (e .key) ++ (le fieldBytes (e .val .place .east) ++ le fieldBytes (e .val .place .north))
+entryOf e = le fieldBytes (e .key) ++ (le fieldBytes (e .val .place .east) ++ (le fieldBytes (e .val .place .north) ++ le minuteBytes (e .val .minute)))
 
 unfoldable pub entriesOf : Rows Fix → List ℕ
 entriesOf [] = []
@@ -78,6 +78,7 @@ entryAt b i = record {
   key = word fieldBytes b (headBytes + entryBytes * i);
   val = record {
     place = record { east = word fieldBytes b (headBytes + entryBytes * i + 2); north = word fieldBytes b (headBytes + entryBytes * i + 4) };
+    minute = word minuteBytes b (headBytes + entryBytes * i + 6);
   };
 }
 

@@ -11,13 +11,13 @@ use entries::Entry;
 use terms::PAGE_ENTRIES;
 use terms::PAGES;
 
-pub const PAGE_BYTES: usize = 200;
+pub const PAGE_BYTES: usize = 328;
 
 pub const BUFFER_BYTES: usize = PAGE_BYTES * PAGES;
 
 pub const HEAD_BYTES: usize = 8;
 
-pub const ENTRY_BYTES: usize = 6;
+pub const ENTRY_BYTES: usize = 10;
 
 pub const KIND_FREE: u16 = 1;
 
@@ -89,7 +89,13 @@ pub fn read_entry(page: &[u8], i: usize) -> Entry
     let radio = fields::read(page, at);
     let east = fields::read(page, at + 2);
     let north = fields::read(page, at + 4);
-    Entry { radio, east, north }
+    let minute = fields::read_wide(page, at + 6);
+    Entry {
+        radio,
+        east,
+        north,
+        minute,
+    }
 }
 
 // ---- chains

@@ -74,7 +74,18 @@ unfolding entryOf entryAt
 entry-back b i small h =
     let a : ℕ = headBytes + entryBytes * i in
     let q : a + 4 ≡ a + 2 + 2 = omega arith in
-    rw (q, le-word 2 b a small (omega arith), le-word 2 b (a + 2) small (omega arith), le-word 2 b (a + 2 + 2) small (omega arith), part-append, part-append)
+    let s : a + 6 ≡ a + 2 + 2 + 2 = omega arith in
+    rw (
+      q,
+      s,
+      le-word 2 b a small (omega arith),
+      le-word 2 b (a + 2) small (omega arith),
+      le-word 2 b (a + 2 + 2) small (omega arith),
+      le-word 4 b (a + 2 + 2 + 2) small (omega arith),
+      part-append,
+      part-append,
+      part-append,
+    )
 
 no-entries : (b : List ℕ) → entriesOf (tab 0 (entryAt b)) ≡ part b headBytes (entryBytes * 0)
 unfolding tab entriesOf

@@ -4,9 +4,9 @@ use mathlib.Core.Path.{_≡_, refl, sym, ap, _∙_}
 use Prim.Native.Nat.{ℕ, _+_, _-_, _*_, _≤_, _<_}
 use native.Mathlib.Omega.{arith}
 use lib.ListN.{length, getD, take, drop, replicate, length-append, length-replicate, length-take}
-use Rattle.terms.specs.Terms.{Fix, fieldBytes, maxOn, pageEntries, noCell}
+use Rattle.terms.specs.Terms.{Fix, fieldBytes, minuteBytes, maxOn, pageEntries, noCell}
 use Rattle.lists.specs.Parts.{part, put}
-use Rattle.lists.specs.Rows.{Row, Rows}
+use Rattle.lists.specs.Rows.{Rows}
 use Rattle.lists.specs.Words.{le}
 use Rattle.lists.proofs.PartsLaws.{length-part, length-put, part-suc, part-zero, put-nil, put-then, put-whole, lent}
 use Rattle.entries.specs.Entries.{rowOf, noEntry, noRow, tableWith, tableWords, everyEntry, rowsOf}
@@ -18,11 +18,12 @@ use Rattle.page.proofs.PageLaws.{length-headOf, length-entriesOf, length-pageOf
 
 -- ---- fields in a row
 
-pub put-entry : (p : List ℕ) {q r s : List ℕ} (at : ℕ) (e : Entry) → at + entryBytes ≤ length p
+pub put-entry : (p : List ℕ) {q r s t : List ℕ} (at : ℕ) (e : Entry) → at + entryBytes ≤ length p
     → q ≡ put p at (le fieldBytes (e .radio)) → r ≡ put q (at + 2) (le fieldBytes (e .east)) → s ≡ put r (at + 4) (le fieldBytes (e .north))
-    → s ≡ put p at (entryOf (rowOf e))
+    → t ≡ put s (at + 6) (le minuteBytes (e .minute)) → t ≡ put p at (entryOf (rowOf e))
 unfolding entryOf le
-put-entry p at e h f g k = put-then p at _ _ (put-then p at _ _ f g (omega arith) (omega arith)) k (omega arith) (omega arith)
+put-entry p at e h f g k m =
+    put-then p at _ _ (put-then p at _ _ (put-then p at _ _ f g (omega arith) (omega arith)) k (omega arith) (omega arith)) m (omega arith) (omega arith)
 
 pub put-head : (p : List ℕ) {q r s t : List ℕ} (u k n c : ℕ) → headBytes ≤ length p
     → q ≡ put p 0 (le fieldBytes u) → r ≡ put q 2 (le fieldBytes k) → s ≡ put r 4 (le fieldBytes n) → t ≡ put s 6 (le fieldBytes c)

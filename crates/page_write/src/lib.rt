@@ -23,6 +23,7 @@ fn write_entry(page: &mut [u8], at: usize, e: Entry)
     fields::write(page, at, e.radio);
     fields::write(page, at + 2, e.east);
     fields::write(page, at + 4, e.north);
+    fields::write_wide(page, at + 6, e.minute);
 }
 
 fn write_header(page: &mut [u8], h: Header)

@@ -5,10 +5,10 @@ use mathlib.Core.Path.{_≡_, refl, sym, ap, ap₂, _∙_, fun-ext}
 use mathlib.Core.Bool.{Bool, true, false, not, cond}
 use mathlib.Core.List.{List, [], _∷_}
 use mathlib.Core.Option.{Option, none, some}
-use Prim.Native.Nat.{ℕ, _+_, _≤_}
+use Prim.Native.Nat.{ℕ, _+_, _-_, _≤_}
 use native.Mathlib.Omega.{arith}
-use lib.Dec.{eqb}
-use borrow.Author.Tests.{eqb-true}
+use lib.Dec.{eqb, leb}
+use borrow.Author.Tests.{eqb-true, ltb-true, ltb-false, le-leb, lt-leb}
 use Rattle.terms.specs.Terms.{Place, Fix}
 use Rattle.lists.specs.Rows.{Row, Rows, Rising, find, putRow, passed}
 use Rattle.lists.specs.Sums.{sumBy}
@@ -17,14 +17,15 @@ use Rattle.lists.proofs.Cases.{by-cases, option-cases, false-true, none-some}
 use Rattle.lists.proofs.RowsLaws.{find-below, each-find, find-each}
 use Rattle.lists.proofs.SumsLaws.{sum-nil, sum-cons, sum-ext}
 use Rattle.lists.proofs.TestsLaws.{both-left, both-right, both-intro, one-if-false, each-map}
-use Rattle.rules.specs.Grid.{Rect, inside, samePlace}
+use Rattle.rules.specs.Limits.{keptMinutes}
+use Rattle.rules.specs.Grid.{Rect, inside, covers, samePlace}
 use Rattle.rules.specs.Store.{Report, Line, Cell, Store}
 use Rattle.rules.specs.Sweep.{staleBy, stale}
-use Rattle.rules.specs.Carry.{isOn, wasNew, liveIn, storedIn, fixOf, latest, listed, listIf, listOf, found}
+use Rattle.rules.specs.Carry.{isOn, wasNew, liveIn, storedIn, fixOf, latest, tooOld, listed, listIf, listOf, found}
 use Rattle.rules.specs.Plain.{putAt}
 use Rattle.rules.specs.WellFormed.{WellFormed, GoodCell, countIf, liveOf}
 use Rattle.rules.proofs.PlaceLaws.{samePlace-refl, samePlace-true}
-use Rattle.range_places.specs.Places.{Places, noPlaces, over, seen, entryOver, entriesOver, reportsOver, touches}
+use Rattle.range_places.specs.Places.{Sought, isSought, sought, Places, noPlaces, over, seen, entryOver, entriesOver, reportsOver, touches}
 use Rattle.range_places.proofs.TouchLaws.{covered-touches}
 use Rattle.range.specs.Range.{listHeld}
 
@@ -110,14 +111,14 @@ module _ (memo : Rows Line) (r : ℕ) where
 -- ---- the cells that the rectangle touches
 
 -- a cell's entries that are not stale, listed or not
-abbrev cellAny : Rows Line → Rect → Cell → Fixes → Fixes
-cellAny memo rect c f = cond (touches rect (c .edges)) (over (entryAny (stale memo)) (c .entries) f) f
+abbrev cellAny : Rows Line → Sought → Cell → Fixes → Fixes
+cellAny memo look c f = cond (touches (look .rect) (c .edges)) (over (entryAny (stale memo)) (c .entries) f) f
 
 pub record Placed (c : Cell) : Type 0 where
   pub rising : Rising 0 (c .entries)
   pub placed : Each (λ e. inside (c .edges) (e .val .place) ≡ true) (c .entries)
 
-module _ (memo : Rows Line) (rect : Rect) (r : ℕ) where
+module _ (memo : Rows Line) (look : Sought) (r : ℕ) where
   entries-live : (c : Cell) (f : Fixes) → Placed c → over (entryAny (stale memo)) (c .entries) f r ≡ orElse (liveIn memo r c) (f r)
   unfolding liveIn
   entries-live c f k = over-live (stale memo) 0 (c .entries) f r (k .rising)
@@ -127,26 +128,26 @@ module _ (memo : Rows Line) (rect : Rect) (r : ℕ) where
   live-inside c v k e = each-find (λ _ (q : Fix). inside (c .edges) (q .place) ≡ true) r v (c .entries) (k .placed) (passed-some (λ e. not (stale memo e)) r (find (c .entries) r) v e)
 
   module _ (c : Cell) (f : Fixes) (k : Placed c) (few : countIf anyFix (f r) + countIf anyFix (liveIn memo r c) ≤ 1) where
-    count-touched : (t : Fix → Bool) → touches rect (c .edges) ≡ true → countIf t (cellAny memo rect c f r) ≡ countIf t (f r) + countIf t (liveIn memo r c)
+    count-touched : (t : Fix → Bool) → touches (look .rect) (c .edges) ≡ true → countIf t (cellAny memo look c f r) ≡ countIf t (f r) + countIf t (liveIn memo r c)
     count-touched t u = rw u (ap (countIf t) (entries-live c f k) ∙ count-orElse t (liveIn memo r c) (f r) (omega arith) ∙ omega arith)
 
-    count-few : countIf anyFix (cellAny memo rect c f r) ≤ countIf anyFix (f r) + countIf anyFix (liveIn memo r c)
-    count-few = by-cases (touches rect (c .edges)) (λ u. omega (arith, count-touched anyFix u)) (λ u. rw u (omega arith))
+    count-few : countIf anyFix (cellAny memo look c f r) ≤ countIf anyFix (f r) + countIf anyFix (liveIn memo r c)
+    count-few = by-cases (touches (look .rect) (c .edges)) (λ u. omega (arith, count-touched anyFix u)) (λ u. rw u (omega arith))
 
-    count-skipped : (t : Fix → Bool) → ((v : Fix) → t v ≡ true → listed rect v ≡ true) → touches rect (c .edges) ≡ false → countIf t (liveIn memo r c) ≡ 0
+    count-skipped : (t : Fix → Bool) → ((v : Fix) → t v ≡ true → isSought look v ≡ true) → touches (look .rect) (c .edges) ≡ false → countIf t (liveIn memo r c) ≡ 0
     count-skipped t within u =
         option-cases (liveIn memo r c)
         (λ e. rw e)
         (λ v e. rw e (by-cases (t v)
-        (λ i. let y = covered-touches rect (c .edges) (v .place) (within v i) (live-inside c v k e) in false-true (sym u ∙ y))
+        (λ i. let y = covered-touches (look .rect) (c .edges) (v .place) (both-left _ _ (within v i)) (live-inside c v k e) in false-true (sym u ∙ y))
         (λ i. rw i)))
 
-    count-cell : (t : Fix → Bool) → ((v : Fix) → t v ≡ true → listed rect v ≡ true) → countIf t (cellAny memo rect c f r) ≡ countIf t (f r) + countIf t (liveIn memo r c)
-    count-cell t within = by-cases (touches rect (c .edges)) (λ u. count-touched t u) (λ u. rw u (omega (arith, count-skipped t within u)))
+    count-cell : (t : Fix → Bool) → ((v : Fix) → t v ≡ true → isSought look v ≡ true) → countIf t (cellAny memo look c f r) ≡ countIf t (f r) + countIf t (liveIn memo r c)
+    count-cell t within = by-cases (touches (look .rect) (c .edges)) (λ u. count-touched t u) (λ u. rw u (omega (arith, count-skipped t within u)))
 
   -- an entry in the rectangle is met, for its cell is touched
   count-cells : (cells : List Cell) (f : Fixes) → Each Placed cells → countIf anyFix (f r) + liveCount memo r anyFix cells ≤ 1 → (t : Fix → Bool)
-      → ((v : Fix) → t v ≡ true → listed rect v ≡ true) → countIf t (over (cellAny memo rect) cells f r) ≡ countIf t (f r) + liveCount memo r t cells
+      → ((v : Fix) → t v ≡ true → isSought look v ≡ true) → countIf t (over (cellAny memo look) cells f r) ≡ countIf t (f r) + liveCount memo r t cells
   unfolding over
   count-cells [] f k h t within = omega (arith, sum-nil (λ (c : Cell). countIf t (liveIn memo r c)))
   count-cells (c ∷ cs) f k h t within =
@@ -154,45 +155,45 @@ module _ (memo : Rows Line) (rect : Rect) (r : ℕ) where
       let one : countIf anyFix (f r) + countIf anyFix (liveIn memo r c) ≤ 1 = omega (arith, sum-cons (g anyFix) c cs) in
       omega (
         arith,
-        count-cells cs (cellAny memo rect c f) (k .1) (omega (arith, count-few c f (k .0) one, sum-cons (g anyFix) c cs)) t within,
+        count-cells cs (cellAny memo look c f) (k .1) (omega (arith, count-few c f (k .0) one, sum-cons (g anyFix) c cs)) t within,
         count-cell c f (k .0) one t within,
         sum-cons (g t) c cs,
       )
 
 -- ---- fixes that count alike where they are listed
 
-abbrev Alike : Rect → Option Fix → Option Fix → Type 0
-Alike rect a b = (t : Fix → Bool) → ((v : Fix) → t v ≡ true → listed rect v ≡ true) → countIf t a ≡ countIf t b
+abbrev Alike : Sought → Option Fix → Option Fix → Type 0
+Alike look a b = (t : Fix → Bool) → ((v : Fix) → t v ≡ true → isSought look v ≡ true) → countIf t a ≡ countIf t b
 
-seen-alike : (rect : Rect) (a b : Option Fix) → Alike rect a b → seen rect a ≡ seen rect b
-seen-alike rect none none h = refl
-seen-alike rect none (some q) h = rw (one-if-false (listed rect q) (sym (h (listed rect) (λ p e. e))))
-seen-alike rect (some p) none h = rw (one-if-false (listed rect p) (h (listed rect) (λ q e. e)))
-seen-alike rect (some p) (some q) h =
-    by-cases (listed rect p)
-    (λ i. let t : Fix → Bool = λ x. both (listed rect x) (samePlace (p .place) (x .place)) in
-    let w : (x : Fix) → t x ≡ true → listed rect x ≡ true = λ x e. both-left _ _ e in
+seen-alike : (look : Sought) (a b : Option Fix) → Alike look a b → seen look a ≡ seen look b
+seen-alike look none none h = refl
+seen-alike look none (some q) h = rw (one-if-false (isSought look q) (sym (h (isSought look) (λ p e. e))))
+seen-alike look (some p) none h = rw (one-if-false (isSought look p) (h (isSought look) (λ q e. e)))
+seen-alike look (some p) (some q) h =
+    by-cases (isSought look p)
+    (λ i. let t : Fix → Bool = λ x. both (isSought look x) (samePlace (p .place) (x .place)) in
+    let w : (x : Fix) → t x ≡ true → isSought look x ≡ true = λ x e. both-left _ _ e in
     by-cases (t q)
     (λ u. rw (i, both-left _ _ u, ← samePlace-true (p .place) (q .place) (both-right _ _ u)))
     (λ u. absurd (omega (arith, h t w, ap one-if (both-intro i (samePlace-refl (p .place))), ap one-if u))))
-    (λ i. by-cases (listed rect q)
-    (λ j. absurd (omega (arith, h (listed rect) (λ x e. e), ap one-if i, ap one-if j)))
+    (λ i. by-cases (isSought look q)
+    (λ j. absurd (omega (arith, h (isSought look) (λ x e. e), ap one-if i, ap one-if j)))
     (λ j. rw (i, j)))
 
 -- ---- the table of a well-formed store
 
 -- what the range would hold if it tested nothing
-abbrev tableAny : Rect → Store → Fixes
-tableAny rect s = over (rowAny (λ w. w .fix)) (s .waiting) (over (cellAny (s .memo) rect) (s .cells) noFixes)
+abbrev tableAny : Sought → Store → Fixes
+tableAny look s = over (rowAny (λ w. w .fix)) (s .waiting) (over (cellAny (s .memo) look) (s .cells) noFixes)
 
-module _ (s : Store) (w : WellFormed s) (rect : Rect) (r : ℕ) (on : isOn s r ≡ true) where
+module _ (s : Store) (w : WellFormed s) (look : Sought) (r : ℕ) (on : isOn s r ≡ true) where
   abbrev stored : Fixes
-  stored = over (cellAny (s .memo) rect) (s .cells) noFixes
+  stored = over (cellAny (s .memo) look) (s .cells) noFixes
 
   cells-placed : Each Placed (s .cells)
   cells-placed = each-map (GoodCell (s .cuts)) Placed (s .cells) (λ c g. record { rising = g .rising; placed = g .placed }) (w .cells)
 
-  reports-find : tableAny rect s r ≡ foundOr (λ x. x .fix) (find (s .waiting) r) (stored r)
+  reports-find : tableAny look s r ≡ foundOr (λ x. x .fix) (find (s .waiting) r) (stored r)
   reports-find = over-find _ 0 (s .waiting) stored r (w .waiting-rises)
 
   latest-is : latest s r ≡ orElse (fixOf (find (s .waiting) r)) (storedIn (s .memo) r (s .cells))
@@ -203,79 +204,92 @@ module _ (s : Store) (w : WellFormed s) (rect : Rect) (r : ℕ) (on : isOn s r �
     one-live : liveCount (s .memo) r anyFix (s .cells) ≡ 1
     one-live = omega (arith, live-all (s .memo) r (s .cells), w .present r, ap (λ (o : Option Report). one-if (wasNew o)) quiet, ap one-if on)
 
-    seen-stored : seen rect (stored r) ≡ seen rect (storedIn (s .memo) r (s .cells))
+    seen-stored : seen look (stored r) ≡ seen look (storedIn (s .memo) r (s .cells))
     seen-stored =
         let l = one-live in
-        seen-alike rect (stored r) (storedIn (s .memo) r (s .cells))
+        seen-alike look (stored r) (storedIn (s .memo) r (s .cells))
         (λ t k. omega (
           arith,
-          count-cells (s .memo) rect r (s .cells) noFixes cells-placed (omega arith) t k,
+          count-cells (s .memo) look r (s .cells) noFixes cells-placed (omega arith) t k,
           stored-count (s .memo) r (s .cells) (omega arith) t,
         ))
 
-  seen-latest : seen rect (tableAny rect s r) ≡ seen rect (latest s r)
+  seen-latest : seen look (tableAny look s r) ≡ seen look (latest s r)
   seen-latest =
       option-cases (find (s .waiting) r)
-      (λ e. ap (seen rect) (reports-find ∙ ap (λ (o : Option Report). foundOr (λ x. x .fix) o (stored r)) e)
+      (λ e. ap (seen look) (reports-find ∙ ap (λ (o : Option Report). foundOr (λ x. x .fix) o (stored r)) e)
       ∙ seen-stored e
-      ∙ ap (seen rect) (sym (latest-is ∙ ap (λ (o : Option Report). orElse (fixOf o) (storedIn (s .memo) r (s .cells))) e)))
-      (λ v e. ap (seen rect) (reports-find ∙ ap (λ (o : Option Report). foundOr (λ x. x .fix) o (stored r)) e
+      ∙ ap (seen look) (sym (latest-is ∙ ap (λ (o : Option Report). orElse (fixOf o) (storedIn (s .memo) r (s .cells))) e)))
+      (λ v e. ap (seen look) (reports-find ∙ ap (λ (o : Option Report). foundOr (λ x. x .fix) o (stored r)) e
       ∙ sym (latest-is ∙ ap (λ (o : Option Report). orElse (fixOf o) (storedIn (s .memo) r (s .cells))) e)))
 
 -- ---- what is not listed has no place
 
 -- The last row that names a radio tells its place, so it is the same whether each is tested as it is laid over the others, or what is left at the end.
-module _ (rect : Rect) where
+module _ (look : Sought) where
   abbrev seenAt : Fixes → Places
-  seenAt f r = seen rect (f r)
+  seenAt f r = seen look (f r)
 
   over-seen : {A : Type 0} (step : A → Fixes → Fixes) (tested : A → Places → Places) → ((x : A) (f : Fixes) → tested x (seenAt f) ≡ seenAt (step x f)) → (l : List A) (f : Fixes) → over tested l (seenAt f) ≡ seenAt (over step l f)
   unfolding over
   over-seen step tested h [] f = refl
   over-seen step tested h (x ∷ l) f = ap (over tested l) (h x f) ∙ over-seen step tested h l (step x f)
 
-  put-seen : (r : ℕ) (o : Option Fix) (f : Fixes) → putAt r (seen rect o) (seenAt f) ≡ seenAt (putAt r o f)
+  put-seen : (r : ℕ) (o : Option Fix) (f : Fixes) → putAt r (seen look o) (seenAt f) ≡ seenAt (putAt r o f)
   put-seen r o f = fun-ext (λ q. by-cases (eqb q r) (λ t. rw t) (λ t. rw t))
 
-  entry-seen : (old : Row Fix → Bool) (e : Row Fix) (f : Fixes) → entryOver old rect e (seenAt f) ≡ seenAt (entryAny old e f)
+  entry-seen : (old : Row Fix → Bool) (e : Row Fix) (f : Fixes) → entryOver old look e (seenAt f) ≡ seenAt (entryAny old e f)
   entry-seen old e f = by-cases (old e) (λ t. rw t) (λ t. rw t (put-seen (e .key) (some (e .val)) f))
 
-  entries-seen : (old : Row Fix → Bool) (l : Rows Fix) (f : Fixes) → entriesOver old rect l (seenAt f) ≡ seenAt (over (entryAny old) l f)
+  entries-seen : (old : Row Fix → Bool) (l : Rows Fix) (f : Fixes) → entriesOver old look l (seenAt f) ≡ seenAt (over (entryAny old) l f)
   unfolding entriesOver
   entries-seen old = over-seen (entryAny old) _ (entry-seen old)
 
   -- a cell's entries that are not stale, each tested
   abbrev pub cellOver : Rows Line → Cell → Places → Places
-  cellOver memo c f = cond (touches rect (c .edges)) (entriesOver (stale memo) rect (c .entries) f) f
+  cellOver memo c f = cond (touches (look .rect) (c .edges)) (entriesOver (stale memo) look (c .entries) f) f
 
-  cell-seen : (memo : Rows Line) (c : Cell) (f : Fixes) → cellOver memo c (seenAt f) ≡ seenAt (cellAny memo rect c f)
-  cell-seen memo c f = by-cases (touches rect (c .edges)) (λ t. rw t (entries-seen (stale memo) (c .entries) f)) (λ t. rw t)
+  cell-seen : (memo : Rows Line) (c : Cell) (f : Fixes) → cellOver memo c (seenAt f) ≡ seenAt (cellAny memo look c f)
+  cell-seen memo c f = by-cases (touches (look .rect) (c .edges)) (λ t. rw t (entries-seen (stale memo) (c .entries) f)) (λ t. rw t)
 
   abbrev pub tableOf : Store → Places
-  tableOf s = reportsOver rect (s .waiting) (over (cellOver (s .memo)) (s .cells) noPlaces)
+  tableOf s = reportsOver look (s .waiting) (over (cellOver (s .memo)) (s .cells) noPlaces)
 
-  table-seen : (s : Store) → tableOf s ≡ seenAt (tableAny rect s)
+  table-seen : (s : Store) → tableOf s ≡ seenAt (tableAny look s)
   unfolding reportsOver noPlaces
   table-seen s =
-      ap (reportsOver rect (s .waiting)) (over-seen (cellAny (s .memo) rect) (cellOver (s .memo)) (cell-seen (s .memo)) (s .cells) noFixes)
+      ap (reportsOver look (s .waiting)) (over-seen (cellAny (s .memo) look) (cellOver (s .memo)) (cell-seen (s .memo)) (s .cells) noFixes)
       ∙ over-seen (rowAny (λ w. w .fix)) _ (λ x f. put-seen (x .key) (some (x .val .fix)) f) (s .waiting) _
 
 -- ---- the same list
 
-listIf-seen : (rect : Rect) (r : ℕ) (o : Option Fix) (l : Rows Place) → listIf rect r o l ≡ putRow r (seen rect o) l
-listIf-seen rect r none l = refl
-listIf-seen rect r (some f) l = by-cases (listed rect f) (λ t. rw t) (λ t. rw t)
+-- what is not too old is no earlier than the earliest that is listed
+sought-listed : (rect : Rect) (minute : ℕ) (f : Fix) → isSought (sought rect minute) f ≡ listed rect minute f
+sought-listed rect minute f = ap (both (covers rect (f .place))) late
+  where
+    late : leb (minute - keptMinutes) (f .minute) ≡ not (tooOld minute f)
+    late =
+        by-cases (tooOld minute f)
+        (λ t. rw t (lt-leb (minute - keptMinutes) (f .minute) (omega (arith, ltb-true (f .minute + keptMinutes) minute t))))
+        (λ t. rw t (le-leb (minute - keptMinutes) (f .minute) (omega (arith, ltb-false (f .minute + keptMinutes) minute t))))
 
-held-seen : (rect : Rect) (f : Places) (g : Fixes) (l : Rows (Unit {0})) → Each (λ x. f (x .key) ≡ seen rect (g (x .key))) l → listHeld f l ≡ listOf rect g l
+listIf-seen : (rect : Rect) (minute r : ℕ) (o : Option Fix) (l : Rows Place) → listIf rect minute r o l ≡ putRow r (seen (sought rect minute) o) l
+listIf-seen rect minute r none l = refl
+listIf-seen rect minute r (some f) l =
+    by-cases (listed rect minute f) (λ t. rw (t, sought-listed rect minute f ∙ t)) (λ t. rw (t, sought-listed rect minute f ∙ t))
+
+held-seen : (rect : Rect) (minute : ℕ) (f : Places) (g : Fixes) (l : Rows (Unit {0})) → Each (λ x. f (x .key) ≡ seen (sought rect minute) (g (x .key))) l
+    → listHeld f l ≡ listOf rect minute g l
 unfolding listHeld listOf
-held-seen rect f g [] e = refl
-held-seen rect f g (x ∷ l) e =
-    ap₂ (λ (o : Option Place) (m : Rows Place). putRow (x .key) o m) (e .0) (held-seen rect f g l (e .1)) ∙ sym (listIf-seen rect (x .key) (g (x .key)) (listOf rect g l))
+held-seen rect minute f g [] e = refl
+held-seen rect minute f g (x ∷ l) e =
+    ap₂ (λ (o : Option Place) (m : Rows Place). putRow (x .key) o m) (e .0) (held-seen rect minute f g l (e .1))
+    ∙ sym (listIf-seen rect minute (x .key) (g (x .key)) (listOf rect minute g l))
 
--- the radios on that have a place in the table are those whose latest place lies in the rectangle
-pub found-table : (s : Store) → WellFormed s → (rect : Rect) → listHeld (tableOf rect s) (s .on) ≡ found s rect
+-- the radios on that have a place in the table are those that a range lists
+pub found-table : (s : Store) → WellFormed s → (rect : Rect) (minute : ℕ) → listHeld (tableOf (sought rect minute) s) (s .on) ≡ found s rect minute
 unfolding found
-found-table s w rect =
-    held-seen rect (tableOf rect s) (latest s) (s .on)
-    (find-each (λ r _. tableOf rect s r ≡ seen rect (latest s r)) 0 (s .on) (w .rising-on)
-    (λ r v e. ap (λ (f : Places). f r) (table-seen rect s) ∙ seen-latest s w rect r (unfold isOn in ap isSome e)))
+found-table s w rect minute =
+    held-seen rect minute (tableOf (sought rect minute) s) (latest s) (s .on)
+    (find-each (λ r _. tableOf (sought rect minute) s r ≡ seen (sought rect minute) (latest s r)) 0 (s .on) (w .rising-on)
+    (λ r v e. ap (λ (f : Places). f r) (table-seen (sought rect minute) s) ∙ seen-latest s w (sought rect minute) r (unfold isOn in ap isSome e)))

@@ -18,7 +18,6 @@ use Rattle.lists.proofs.SumsLaws.{filter-append}
 use Rattle.lists.proofs.PartsLaws.{put-nil, put-then}
 use Rattle.lists.proofs.TestsLaws.{each-filter}
 use Rattle.lists.proofs.SlotsLaws.{mapped-turn, mapped-end, each-mapped}
-use Rattle.rules.specs.Grid.{Rect}
 use Rattle.rules.specs.Carry.{listBytes, bytesOf}
 use Rattle.rules.specs.Told.{toldList}
 use Rattle.desk.specs.Held.{Directory, Memo, Waiting, onWith}
@@ -26,7 +25,7 @@ use Rattle.desk.specs.Views.{radioRow, radiosOf, slotsIn}
 use Rattle.memo.specs.Memo.{linesOf}
 use Rattle.memo_index.specs.Index.{tableSize}
 use Rattle.waiting.specs.Waiting.{reportsOf}
-use Rattle.range_places.specs.Places.{Places, noPlaces, placesIn, Holds, placesOf}
+use Rattle.range_places.specs.Places.{Sought, Places, noPlaces, placesIn, Holds, placesOf}
 use Rattle.range.specs.Range.{isMarked, rowAt, rowsAt, listHeld, foundIn}
 
 -- ---- nothing stands in an empty table
@@ -185,25 +184,26 @@ pub found-radios : (p : Row (Unit {0}) → Bool) (radios found : List ℕ) (on n
     → UpTo maxRadio (radiosOf (onWith on radios)) → UpTo maxRadio (radiosOf (onWith n found))
 found-radios p radios found on n e u = subst (λ (l : Rows (Unit {0})). UpTo maxRadio l) (sym e) (each-filter _ (λ x. x .key ≤ maxRadio) p (radiosOf (onWith on radios)) (λ x h _. h) u)
 
-module _ (b : List ℕ) (rect : Rect) (cells : Directory) (waiting : Waiting) (memo : Memo) (radios found : List ℕ) (on n : ℕ) {easts norths : List ℕ} {marks : List Bool}
-    (held : Holds easts norths marks (placesOf b rect (slotsIn cells) (linesOf memo) (reportsOf waiting)))
+module _ (b : List ℕ) (look : Sought) (cells : Directory) (waiting : Waiting) (memo : Memo) (radios found : List ℕ) (on n : ℕ) {easts norths : List ℕ} {marks : List Bool} {made : Sought}
+    (same : made ≡ look) (held : Holds easts norths marks (placesOf b made (slotsIn cells) (linesOf memo) (reportsOf waiting)))
     (listed : radiosOf (onWith n found) ≡ filter (isMarked marks) (radiosOf (onWith on radios))) where
-  rows-are : rowsAt easts norths (radiosOf (onWith n found)) ≡ foundIn b rect cells waiting memo (onWith on radios)
+  rows-are : rowsAt easts norths (radiosOf (onWith n found)) ≡ foundIn b look cells waiting memo (onWith on radios)
   unfolding foundIn
   rows-are =
       ap (rowsAt easts norths) listed
       ∙ sym (rows-held easts norths marks (radiosOf (onWith on radios)))
       ∙ ap (λ (f : Places). listHeld f (radiosOf (onWith on radios))) (held .places)
+      ∙ ap (λ (l : Sought). listHeld (placesOf b l (slotsIn cells) (linesOf memo) (reportsOf waiting)) (radiosOf (onWith on radios))) same
 
   module _ (buffer : List ℕ) (size : length found ≡ maxOn) (few : n ≤ maxOn) where
-    many : n ≡ length (foundIn b rect cells waiting memo (onWith on radios))
+    many : n ≡ length (foundIn b look cells waiting memo (onWith on radios))
     many = sym (length-radios found n size few) ∙ sym (length-rowsAt easts norths (radiosOf (onWith n found))) ∙ ap length rows-are
 
-    pub told-short : length buffer < listBytes * n → record { number = 11; count = n; buffer = buffer } ≡ toldList (foundIn b rect cells waiting memo (onWith on radios)) buffer
+    pub told-short : length buffer < listBytes * n → record { number = 11; count = n; buffer = buffer } ≡ toldList (foundIn b look cells waiting memo (onWith on radios)) buffer
     unfolding toldList
     told-short h = rw (← many, lt-ltb (length buffer) (listBytes * n) h)
 
     pub told-listed : {c : List ℕ} → listBytes * n ≤ length buffer → c ≡ put buffer 0 (bytesOf (rowsAt easts norths (radiosOf (onWith n found))))
-        → record { number = 0; count = n; buffer = c } ≡ toldList (foundIn b rect cells waiting memo (onWith on radios)) buffer
+        → record { number = 0; count = n; buffer = c } ≡ toldList (foundIn b look cells waiting memo (onWith on radios)) buffer
     unfolding toldList
     told-listed h e = rw (← many, le-ltb (length buffer) (listBytes * n) h, e, rows-are)

@@ -31,7 +31,7 @@ use Rattle.waiting.proofs.OnLaws.{radios-laid, count-on-laid}
 use Rattle.waiting.proofs.SlotsLaws.{length-slotted}
 use Rattle.page.specs.Buffer.{entriesOn, entriesFrom}
 use Rattle.sweep.proofs.CellLaws.{Sweepable, well-sweep}
-use Rattle.range_places.specs.Places.{Places, noPlaces, over, reportsOver, slotOver, placesOf, Readable}
+use Rattle.range_places.specs.Places.{Sought, sought, Places, noPlaces, over, reportsOver, slotOver, placesOf, Readable}
 use Rattle.range.specs.Range.{listHeld, foundIn}
 use Rattle.range.proofs.LatestLaws.{cellOver, tableOf, found-table}
 
@@ -45,15 +45,15 @@ cells-read : (s : Store) (b : List ℕ) → WellFormed s → Laid s b → Each (
 unfolding entriesFrom
 cells-read s b w l = each-map (Sweepable b (s .memo)) (Read b) (s .cells) (λ c k. ap (entriesOn b) (k .read) ∙ k .entries) (well-sweep s b w l)
 
-module _ (memo : Rows Line) (b : List ℕ) (rect : Rect) where
-  slot-cell : (c : Cell) (f : Places) → Read b c → slotOver (stale memo) b rect (slotOf c) f ≡ cellOver rect memo c f
+module _ (memo : Rows Line) (b : List ℕ) (look : Sought) where
+  slot-cell : (c : Cell) (f : Places) → Read b c → slotOver (stale memo) b look (slotOf c) f ≡ cellOver look memo c f
   unfolding slotOver
   slot-cell c f e = rw e
 
-  cells-over : (cells : List Cell) (f : Places) → Each (Read b) cells → over (slotOver (stale memo) b rect) (map slotOf cells) f ≡ over (cellOver rect memo) cells f
+  cells-over : (cells : List Cell) (f : Places) → Each (Read b) cells → over (slotOver (stale memo) b look) (map slotOf cells) f ≡ over (cellOver look memo) cells f
   unfolding over
   cells-over [] f e = refl
-  cells-over (c ∷ cs) f e = ap (over (slotOver (stale memo) b rect) (map slotOf cs)) (slot-cell c f (e .0)) ∙ cells-over cs (cellOver rect memo c f) (e .1)
+  cells-over (c ∷ cs) f e = ap (over (slotOver (stale memo) b look) (map slotOf cs)) (slot-cell c f (e .0)) ∙ cells-over cs (cellOver look memo c f) (e .1)
 
 slots-laid : (d : Directory) (cells : List Cell) → d ≡ directoryOf cells → slotsIn d ≡ map slotOf cells
 unfolding slotsIn
@@ -118,18 +118,19 @@ module _ (s : Store) (b : List ℕ) (desk : Desk) (w : WellFormed s) (l : Laid s
     subst (λ (x : Rows (Unit {0})). UpTo maxRadio x) (sym (radios-laid on-is)) (w .radios-on),
   )
 
-  places-are : (rect : Rect) → placesOf b rect (slotsIn (deskGrid desk .cells)) (linesOf (deskMemo desk)) (reportsOf (deskWaiting desk)) ≡ tableOf rect s
+  places-are : (look : Sought) → placesOf b look (slotsIn (deskGrid desk .cells)) (linesOf (deskMemo desk)) (reportsOf (deskWaiting desk)) ≡ tableOf look s
   unfolding placesOf
-  places-are rect =
-      ap₂ (λ (x : Rows Report) (f : Places). reportsOver rect x f) (reports-laid waiting-is)
-      (ap₂ (λ (m : Rows Line) (x : List Slot). over (slotOver (stale m) b rect) x noPlaces) (lines-are (s .memo) memo-is) (slots-laid (deskGrid desk .cells) (s .cells) cells-are)
-      ∙ cells-over (s .memo) b rect (s .cells) noPlaces (cells-read s b w l))
+  places-are look =
+      ap₂ (λ (x : Rows Report) (f : Places). reportsOver look x f) (reports-laid waiting-is)
+      (ap₂ (λ (m : Rows Line) (x : List Slot). over (slotOver (stale m) b look) x noPlaces) (lines-are (s .memo) memo-is) (slots-laid (deskGrid desk .cells) (s .cells) cells-are)
+      ∙ cells-over (s .memo) b look (s .cells) noPlaces (cells-read s b w l))
 
-  pub found-is : (rect : Rect) → foundIn b rect (deskGrid desk .cells) (deskWaiting desk) (deskMemo desk) (deskOn desk) ≡ found s rect
+  pub found-is : (rect : Rect) (minute : ℕ) → foundIn b (sought rect minute) (deskGrid desk .cells) (deskWaiting desk) (deskMemo desk) (deskOn desk) ≡ found s rect minute
   unfolding foundIn
-  found-is rect = ap₂ (λ (f : Places) (x : Rows (Unit {0})). listHeld f x) (places-are rect) (radios-laid on-is) ∙ found-table s w rect
+  found-is rect minute =
+      ap₂ (λ (f : Places) (x : Rows (Unit {0})). listHeld f x) (places-are (sought rect minute)) (radios-laid on-is) ∙ found-table s w rect minute
 
-  pub range-gives : (rect : Rect) (buffer : List ℕ) {number count : ℕ} {after : List ℕ}
-      → record { number = number; count = count; buffer = after } ≡ toldList (foundIn b rect (deskGrid desk .cells) (deskWaiting desk) (deskMemo desk) (deskOn desk)) buffer
-      → record { number = number; count = count; buffer = after; store = s } ≡ answered (found s rect) s buffer
-  range-gives rect buffer e = ap (outcome s) (e ∙ ap (λ (l : Rows Place). toldList l buffer) (found-is rect)) ∙ told-answered s (found s rect) buffer
+  pub range-gives : (rect : Rect) (minute : ℕ) (buffer : List ℕ) {number count : ℕ} {after : List ℕ}
+      → record { number = number; count = count; buffer = after } ≡ toldList (foundIn b (sought rect minute) (deskGrid desk .cells) (deskWaiting desk) (deskMemo desk) (deskOn desk)) buffer
+      → record { number = number; count = count; buffer = after; store = s } ≡ answered (found s rect minute) s buffer
+  range-gives rect minute buffer e = ap (outcome s) (e ∙ ap (λ (l : Rows Place). toldList l buffer) (found-is rect minute)) ∙ told-answered s (found s rect minute) buffer

@@ -5,12 +5,11 @@ use Prim.Native.Nat.{ℕ}
 use lib.ListN.{getD}
 use Rattle.terms.specs.Terms.{Place}
 use Rattle.lists.specs.Rows.{Row, Rows, putRow}
-use Rattle.rules.specs.Grid.{Rect}
 use Rattle.desk.specs.Held.{Directory, Memo, On, Waiting}
 use Rattle.desk.specs.Views.{slotsIn, radiosOf}
 use Rattle.memo.specs.Memo.{linesOf}
 use Rattle.waiting.specs.Waiting.{reportsOf}
-use Rattle.range_places.specs.Places.{Places, placesOf}
+use Rattle.range_places.specs.Places.{Places, Sought, placesOf}
 
 -- a radio that the table marks
 abbrev pub isMarked : List Bool → Row (Unit {0}) → Bool
@@ -29,5 +28,5 @@ listHeld f [] = []
 listHeld f (x ∷ xs) = putRow (x .key) (f (x .key)) (listHeld f xs)
 
 -- "the radios on whose latest place, a waiting report's before a stored one's, lies in the rectangle, by rising number"
-unfoldable pub foundIn : List ℕ → Rect → Directory → Waiting → Memo → On → Rows Place
-foundIn b rect cells waiting memo on = listHeld (placesOf b rect (slotsIn cells) (linesOf memo) (reportsOf waiting)) (radiosOf on)
+unfoldable pub foundIn : List ℕ → Sought → Directory → Waiting → Memo → On → Rows Place
+foundIn b q cells waiting memo on = listHeld (placesOf b q (slotsIn cells) (linesOf memo) (reportsOf waiting)) (radiosOf on)

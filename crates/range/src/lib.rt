@@ -12,7 +12,7 @@ ghost use Rattle.rules.specs.Told.{toldList};
 ghost use Rattle.desk.specs.Views.{radioRow, radiosOf, rectOf};
 ghost use Rattle.desk.specs.Held.{directoryIn, waitingWith, memoIn, onWith};
 ghost use Rattle.memo_index.specs.Index.{tableSize};
-ghost use Rattle.range_places.specs.Places.{Arrays, Readable};
+ghost use Rattle.range_places.specs.Places.{sought, Arrays, Readable};
 ghost use Rattle.range.specs.Range.{isMarked, rowAt, rowsAt, foundIn};
 use desk::Desk;
 use desk::Parts;
@@ -106,6 +106,7 @@ fn write_rows<'a>(
 pub fn list(
     pages: &[u8],
     area: Rectangle,
+    minute: u32,
     parts: Parts,
     cells: &[u16; Desk::CELL_WORDS],
     waiting: &[u16; Desk::WAITING_WORDS],
@@ -117,16 +118,17 @@ pub fn list(
         × Readable (now pages) (directoryIn (parts .frame .cells) (now cells)) (waitingWith (parts .waiting) (now waiting)) (memoIn (parts .lines) (now memo))
         × (length (now on) ≡ maxOn) × (parts .on ≤ maxOn) × UpTo maxRadio (radiosOf (onWith (parts .on) (now on))) ⌝ }
     ensures { λ r. ⌜ record { number = r .number; count = r .count; buffer = now (buffer .exit) }
-        ≡ toldList (foundIn (now (pages .entry)) (rectOf area) (directoryIn (parts .frame .cells) (now (cells .entry)))
+        ≡ toldList (foundIn (now (pages .entry)) (sought (rectOf area) minute) (directoryIn (parts .frame .cells) (now (cells .entry)))
         (waitingWith (parts .waiting) (now (waiting .entry))) (memoIn (parts .lines) (now (memo .entry))) (onWith (parts .on) (now (on .entry))))
         (now (buffer .entry)) ⌝ }
 {
     let mut easts = [0u16; RADIOS];
     let mut norths = [0u16; RADIOS];
     let mut marks = [false; RADIOS];
+    let search = range_places::search_of(area, minute);
     range_places::hold_all(
         pages,
-        area,
+        search,
         parts,
         cells,
         waiting,

@@ -1,7 +1,7 @@
 -- What the answer of `asked_by` says of the store whose radios on the desk holds: the outcome of the rules, and what the checks showed of an accepted request.
 use mathlib.Core.Bool.{false}
 use mathlib.Core.List.{List}
-use mathlib.Core.Path.{_≡_, sym, ap, _∙_, subst}
+use mathlib.Core.Path.{_≡_, sym, ap, _∙_, subst, ap₂}
 use Prim.Native.Nat.{ℕ, _≤_}
 use native.Mathlib.Omega.{arith}
 use lib.Dec.{eqb}
@@ -47,9 +47,9 @@ module _ (k : ℕ) (q : Request) {c : Checked} (told : c ≡ checked k q) where
 
 module _ (s : Store) (on : On) (laid : on ≡ onOf (s .on)) where
   -- the checks on the desk are those on the store
-  pub refusal-laid : (b : List ℕ) → refusal (onIn on) (length (radiosOf on)) b ≡ refusal (isOn s) (onCount s) b
+  pub refusal-laid : {highest : ℕ} → highest ≡ s .highest → (b : List ℕ) → refusal highest (onIn on) (length (radiosOf on)) b ≡ refusal (s .highest) (isOn s) (onCount s) b
   unfolding isOn onCount
-  refusal-laid b = ap (λ (l : Rows (Unit {0})). refusal (λ r. isSome (find l r)) (length l) b) (radios-laid laid)
+  refusal-laid late b = ap₂ (λ (h : ℕ) (l : Rows (Unit {0})). refusal h (λ r. isSome (find l r)) (length l) b) late (radios-laid laid)
 
   module _ (well : WellFormed s) where
     pub on-few : on .n ≤ maxOn
@@ -63,20 +63,20 @@ module _ (s : Store) (on : On) (laid : on ≡ onOf (s .on)) where
 abbrev Showed : Store → Request → Type 0
 Showed s (signOn r f) = SignsOn s r f
 Showed s (report r f) = Reports s r f
-Showed s (signOff r) = SignsOff s r
-Showed s (range rect) = (rect .easts .low ≤ rect .easts .high) × (rect .norths .low ≤ rect .norths .high)
+Showed s (signOff r minute) = SignsOff s r minute
+Showed s (range rect minute) = (rect .easts .low ≤ rect .easts .high) × (rect .norths .low ≤ rect .norths .high)
 
-showed : (s : Store) (q : Request) → Accepted (isOn s) (onCount s) q → Ordered q → Showed s q
-showed s q (on-passed r p f l i off room) o = record { first = f; last = l; placed = i; off = off; room = room }
-showed s q (report-passed r p f l i on) o = record { first = f; last = l; placed = i; on = on }
-showed s q (off-passed r f l on) o = record { first = f; last = l; on = on }
-showed s q (range-passed rect) o = o
+showed : (s : Store) (q : Request) → Accepted (s .highest) (isOn s) (onCount s) q → Ordered q → Showed s q
+showed s q (on-passed r p f l i off room late) o = record { first = f; last = l; placed = i; off = off; room = room; late = late }
+showed s q (report-passed r p f l i on late) o = record { first = f; last = l; placed = i; on = on; late = late }
+showed s q (off-passed r minute f l on late) o = record { first = f; last = l; on = on; late = late }
+showed s q (range-passed rect minute) o = o
 
-module _ (s : Store) (on : On) (b : List ℕ) {c : Checked} (laid : on ≡ onOf (s .on)) (told : c ≡ checked (refusal (onIn on) (length (radiosOf on)) b) (requestOf b)) where
+module _ (s : Store) (on : On) (b : List ℕ) {highest : ℕ} {c : Checked} (laid : on ≡ onOf (s .on)) (late : highest ≡ s .highest) (told : c ≡ checked (refusal highest (onIn on) (length (radiosOf on)) b) (requestOf b)) where
   -- turned down
   module _ {n : ℕ} (is : c ≡ fails n) where
-    refused-number : (refusal (isOn s) (onCount s) b ≡ n) × (eqb (refusal (isOn s) (onCount s) b) 0 ≡ false)
-    refused-number = rw (refusal-laid s on laid b) at (means-fails _ (requestOf b) told is)
+    refused-number : (refusal (s .highest) (isOn s) (onCount s) b ≡ n) × (eqb (refusal (s .highest) (isOn s) (onCount s) b) 0 ≡ false)
+    refused-number = rw (refusal-laid s on laid late b) at (means-fails _ (requestOf b) told is)
 
     pub refused-carry : (buffer : List ℕ) → carry s b buffer ≡ record { number = n; count = 0; buffer = buffer; store = s }
     unfolding carry
@@ -84,17 +84,17 @@ module _ (s : Store) (on : On) (b : List ℕ) {c : Checked} (laid : on ≡ onOf 
 
   -- carried out
   module _ (q : Request) (is : c ≡ asks q) where
-    taken : (refusal (isOn s) (onCount s) b ≡ 0) × (requestOf b ≡ q)
-    taken = rw (refusal-laid s on laid b) at (means-asks _ (requestOf b) told q is)
+    taken : (refusal (s .highest) (isOn s) (onCount s) b ≡ 0) × (requestOf b ≡ q)
+    taken = rw (refusal-laid s on laid late b) at (means-asks _ (requestOf b) told q is)
 
     pub taken-carry : (buffer : List ℕ) → carry s b buffer ≡ carriedOut q s buffer
     unfolding carry
-    taken-carry buffer = let e = taken in rw (eq-eqb (refusal (isOn s) (onCount s) b) 0 (e .0), e .1)
+    taken-carry buffer = let e = taken in rw (eq-eqb (refusal (s .highest) (isOn s) (onCount s) b) 0 (e .0), e .1)
 
     taken-showed : Bytes b → Showed s q
     taken-showed small =
         let e = taken in
-        subst (Showed s) (e .1) (showed s (requestOf b) (accepted (isOn s) (onCount s) b small (e .0)) (ordered (isOn s) (onCount s) b (e .0)))
+        subst (Showed s) (e .1) (showed s (requestOf b) (accepted (s .highest) (isOn s) (onCount s) b small (e .0)) (ordered (s .highest) (isOn s) (onCount s) b (e .0)))
 
   -- what an accepted request says
   module _ (small : Bytes b) where
@@ -104,5 +104,5 @@ module _ (s : Store) (on : On) (b : List ℕ) {c : Checked} (laid : on ≡ onOf 
     pub asks-report : (r : ℕ) (f : Fix) → c ≡ asks (report r f) → Reports s r f
     asks-report r f is = taken-showed (report r f) is small
 
-    pub asks-off : (r : ℕ) → c ≡ asks (signOff r) → SignsOff s r
-    asks-off r is = taken-showed (signOff r) is small
+    pub asks-off : (r minute : ℕ) → c ≡ asks (signOff r minute) → SignsOff s r minute
+    asks-off r minute is = taken-showed (signOff r minute) is small

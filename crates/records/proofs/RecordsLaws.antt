@@ -3,16 +3,17 @@ use mathlib.Core.Bool.{Bool, true, false, not, cond}
 use mathlib.Core.List.{List}
 use mathlib.Core.Logic.{_≢_}
 use mathlib.Core.Path.{_≡_, refl, sym, ap, ap₂, _∙_}
-use Prim.Native.Nat.{ℕ, _≤_, _<_}
+use Prim.Native.Nat.{ℕ, _+_, _-_, _≤_, _<_}
 use native.Mathlib.Omega.{arith}
 use lib.Dec.{eqb, leb, ltb}
 use lib.ListN.{length}
 use borrow.Author.Tests.{lt-ltb, le-ltb, ltb-false, eq-eqb, ne-eqb, eqb-true, eqb-false}
-use Rattle.terms.specs.Terms.{fixAt, maxRadio, maxOn}
+use Rattle.terms.specs.Terms.{fixAt, minuteBytes, maxRadio, maxOn}
 use Rattle.lists.specs.Tests.{both, either}
+use Rattle.lists.specs.Words.{word}
 use Rattle.lists.proofs.Cases.{by-cases}
 use Rattle.lists.proofs.TestsLaws.{both-left-false, both-second, either-left, either-right, either-false, not-false}
-use Rattle.rules.specs.Records.{Request, signOn, report, signOff, range, lengthField, kindField, lengthOf, radioField, placeField, fixField, rectField, requestOf, kindSignOn, kindReport, kindSignOff, kindRange, notAtHand, unknownKind, wrongLength, noRadio, noFix, reversed, onAlready, notOn, noRoom, refusal}
+use Rattle.rules.specs.Records.{Request, signOn, report, signOff, range, lengthField, kindField, lengthOf, radioField, placeField, minuteField, fixField, rectField, requestOf, kindSignOn, kindReport, kindSignOff, kindRange, notAtHand, unknownKind, wrongLength, noRadio, noFix, tooEarly, reversed, onAlready, notOn, noRoom, refusal}
 use Rattle.rules.specs.Grid.{Rect}
 use Rattle.rules.proofs.RecordLaws.{passed}
 use Rattle.desk.specs.Held.{On}
@@ -176,56 +177,80 @@ module _ (b : List ℕ) where
     unfolding noRoom both
     room-full o w h = rw (eq-eqb (kindField b) kindSignOn (omega (arith, kind))) (ap (leb maxOn) (count-on-laid o (radiosOf o) w))
 
+-- ---- the minute
+
+module _ (b : List ℕ) (w : Whole b) where
+  pub minute-inside : {k n : ℕ} → k ≡ kindField b → n ≡ lengthOf k → minuteBytes ≤ n
+  minute-inside {k} kind e = omega (arith, length-least k, e)
+
+  pub minute-there : {k n : ℕ} → k ≡ kindField b → n ≡ lengthOf k → n - minuteBytes + minuteBytes ≤ length b
+  minute-there {k} {n} kind e =
+      let z : n ≡ lengthOf (kindField b) = e ∙ ap lengthOf kind in
+      omega (arith, length-least k, e, z, w .body)
+
+  pub minute-read : {k n m : ℕ} → k ≡ kindField b → n ≡ lengthOf k → m ≡ word minuteBytes b (n - minuteBytes) → m ≡ minuteField b
+  unfolding minuteField
+  minute-read kind e f = f ∙ ap (λ (x : ℕ). word minuteBytes b (x - minuteBytes)) (e ∙ ap lengthOf kind)
+
+  pub early-told : (highest : ℕ) {m : ℕ} → m ≡ minuteField b → ltb m highest ≡ tooEarly highest b
+  unfolding tooEarly
+  early-told highest e = ap (λ (x : ℕ). ltb x highest) e
+
 -- ---- the first check that fails
 
-module _ (on : ℕ → Bool) (many : ℕ) (b : List ℕ) {t₃ : Bool} (e₃ : t₃ ≡ notAtHand b) where
-  pub refused-3 : t₃ ≡ true → 3 ≡ refusal on many b
+module _ (highest : ℕ) (on : ℕ → Bool) (many : ℕ) (b : List ℕ) {t₃ : Bool} (e₃ : t₃ ≡ notAtHand b) where
+  pub refused-3 : t₃ ≡ true → 3 ≡ refusal highest on many b
   unfolding refusal
   refused-3 f = rw (sym e₃ ∙ f)
 
   module _ (p₃ : t₃ ≡ false) {t₄ : Bool} (e₄ : t₄ ≡ unknownKind b) where
-    pub refused-4 : t₄ ≡ true → 4 ≡ refusal on many b
+    pub refused-4 : t₄ ≡ true → 4 ≡ refusal highest on many b
     unfolding refusal
     refused-4 f = rw (sym e₃ ∙ p₃, sym e₄ ∙ f)
 
     module _ (p₄ : t₄ ≡ false) {t₅ : Bool} (e₅ : t₅ ≡ wrongLength b) where
-      pub refused-5 : t₅ ≡ true → 5 ≡ refusal on many b
+      pub refused-5 : t₅ ≡ true → 5 ≡ refusal highest on many b
       unfolding refusal
       refused-5 f = rw (sym e₃ ∙ p₃, sym e₄ ∙ p₄, sym e₅ ∙ f)
 
       module _ (p₅ : t₅ ≡ false) {t₆ : Bool} (e₆ : t₆ ≡ noRadio b) where
-        pub refused-6 : t₆ ≡ true → 6 ≡ refusal on many b
+        pub refused-6 : t₆ ≡ true → 6 ≡ refusal highest on many b
         unfolding refusal
         refused-6 f = rw (sym e₃ ∙ p₃, sym e₄ ∙ p₄, sym e₅ ∙ p₅, sym e₆ ∙ f)
 
         module _ (p₆ : t₆ ≡ false) {t₁₂ : Bool} (e₁₂ : t₁₂ ≡ noFix b) where
-          pub refused-12 : t₁₂ ≡ true → 12 ≡ refusal on many b
+          pub refused-12 : t₁₂ ≡ true → 12 ≡ refusal highest on many b
           unfolding refusal
           refused-12 f = rw (sym e₃ ∙ p₃, sym e₄ ∙ p₄, sym e₅ ∙ p₅, sym e₆ ∙ p₆, sym e₁₂ ∙ f)
 
-          module _ (p₁₂ : t₁₂ ≡ false) {t₇ : Bool} (e₇ : t₇ ≡ reversed b) where
-            pub refused-7 : t₇ ≡ true → 7 ≡ refusal on many b
+          module _ (p₁₂ : t₁₂ ≡ false) {t₁₃ : Bool} (e₁₃ : t₁₃ ≡ tooEarly highest b) where
+            pub refused-13 : t₁₃ ≡ true → 13 ≡ refusal highest on many b
             unfolding refusal
-            refused-7 f = rw (sym e₃ ∙ p₃, sym e₄ ∙ p₄, sym e₅ ∙ p₅, sym e₆ ∙ p₆, sym e₁₂ ∙ p₁₂, sym e₇ ∙ f)
+            refused-13 f = rw (sym e₃ ∙ p₃, sym e₄ ∙ p₄, sym e₅ ∙ p₅, sym e₆ ∙ p₆, sym e₁₂ ∙ p₁₂, sym e₁₃ ∙ f)
 
-            module _ (p₇ : t₇ ≡ false) {t₈ : Bool} (e₈ : t₈ ≡ onAlready on b) where
-              pub refused-8 : t₈ ≡ true → 8 ≡ refusal on many b
+            module _ (p₁₃ : t₁₃ ≡ false) {t₇ : Bool} (e₇ : t₇ ≡ reversed b) where
+              pub refused-7 : t₇ ≡ true → 7 ≡ refusal highest on many b
               unfolding refusal
-              refused-8 f = rw (sym e₃ ∙ p₃, sym e₄ ∙ p₄, sym e₅ ∙ p₅, sym e₆ ∙ p₆, sym e₁₂ ∙ p₁₂, sym e₇ ∙ p₇, sym e₈ ∙ f)
+              refused-7 f = rw (sym e₃ ∙ p₃, sym e₄ ∙ p₄, sym e₅ ∙ p₅, sym e₆ ∙ p₆, sym e₁₂ ∙ p₁₂, sym e₁₃ ∙ p₁₃, sym e₇ ∙ f)
 
-              module _ (p₈ : t₈ ≡ false) {t₉ : Bool} (e₉ : t₉ ≡ notOn on b) where
-                pub refused-9 : t₉ ≡ true → 9 ≡ refusal on many b
+              module _ (p₇ : t₇ ≡ false) {t₈ : Bool} (e₈ : t₈ ≡ onAlready on b) where
+                pub refused-8 : t₈ ≡ true → 8 ≡ refusal highest on many b
                 unfolding refusal
-                refused-9 f = rw (sym e₃ ∙ p₃, sym e₄ ∙ p₄, sym e₅ ∙ p₅, sym e₆ ∙ p₆, sym e₁₂ ∙ p₁₂, sym e₇ ∙ p₇, sym e₈ ∙ p₈, sym e₉ ∙ f)
+                refused-8 f = rw (sym e₃ ∙ p₃, sym e₄ ∙ p₄, sym e₅ ∙ p₅, sym e₆ ∙ p₆, sym e₁₂ ∙ p₁₂, sym e₁₃ ∙ p₁₃, sym e₇ ∙ p₇, sym e₈ ∙ f)
 
-                module _ (p₉ : t₉ ≡ false) {t₁₀ : Bool} (e₁₀ : t₁₀ ≡ noRoom many b) where
-                  pub refused-10 : t₁₀ ≡ true → 10 ≡ refusal on many b
+                module _ (p₈ : t₈ ≡ false) {t₉ : Bool} (e₉ : t₉ ≡ notOn on b) where
+                  pub refused-9 : t₉ ≡ true → 9 ≡ refusal highest on many b
                   unfolding refusal
-                  refused-10 f = rw (sym e₃ ∙ p₃, sym e₄ ∙ p₄, sym e₅ ∙ p₅, sym e₆ ∙ p₆, sym e₁₂ ∙ p₁₂, sym e₇ ∙ p₇, sym e₈ ∙ p₈, sym e₉ ∙ p₉, sym e₁₀ ∙ f)
+                  refused-9 f = rw (sym e₃ ∙ p₃, sym e₄ ∙ p₄, sym e₅ ∙ p₅, sym e₆ ∙ p₆, sym e₁₂ ∙ p₁₂, sym e₁₃ ∙ p₁₃, sym e₇ ∙ p₇, sym e₈ ∙ p₈, sym e₉ ∙ f)
 
-                  pub refused-none : t₁₀ ≡ false → 0 ≡ refusal on many b
-                  unfolding refusal
-                  refused-none f = rw (sym e₃ ∙ p₃, sym e₄ ∙ p₄, sym e₅ ∙ p₅, sym e₆ ∙ p₆, sym e₁₂ ∙ p₁₂, sym e₇ ∙ p₇, sym e₈ ∙ p₈, sym e₉ ∙ p₉, sym e₁₀ ∙ f)
+                  module _ (p₉ : t₉ ≡ false) {t₁₀ : Bool} (e₁₀ : t₁₀ ≡ noRoom many b) where
+                    pub refused-10 : t₁₀ ≡ true → 10 ≡ refusal highest on many b
+                    unfolding refusal
+                    refused-10 f = rw (sym e₃ ∙ p₃, sym e₄ ∙ p₄, sym e₅ ∙ p₅, sym e₆ ∙ p₆, sym e₁₂ ∙ p₁₂, sym e₁₃ ∙ p₁₃, sym e₇ ∙ p₇, sym e₈ ∙ p₈, sym e₉ ∙ p₉, sym e₁₀ ∙ f)
+
+                    pub refused-none : t₁₀ ≡ false → 0 ≡ refusal highest on many b
+                    unfolding refusal
+                    refused-none f = rw (sym e₃ ∙ p₃, sym e₄ ∙ p₄, sym e₅ ∙ p₅, sym e₆ ∙ p₆, sym e₁₂ ∙ p₁₂, sym e₁₃ ∙ p₁₃, sym e₇ ∙ p₇, sym e₈ ∙ p₈, sym e₉ ∙ p₉, sym e₁₀ ∙ f)
 
 -- ---- what is at hand once the first checks pass
 
@@ -269,31 +294,31 @@ module _ (b : List ℕ) (w : Whole b) {k : ℕ} (kind : k ≡ kindField b) where
   pub range-there : k ≢ kindSignOn → k ≢ kindReport → k ≢ kindSignOff → rangeBytes ≤ length b
   range-there l m n = rect-there b kind w (omega (arith, l, m, n, w, kind))
 
-  module _ (p : Placed) (body : p ≡ record { radio = radioField b; east = placeField b .east; north = placeField b .north }) where
-    pub asked-on : k ≡ kindSignOn → asks (signOn (p .radio) (fixAt (p .east) (p .north))) ≡ asks (requestOf b)
+  module _ (p : Placed) (body : p ≡ record { radio = radioField b; east = placeField b .east; north = placeField b .north }) {m : ℕ} (minute : m ≡ minuteField b) where
+    pub asked-on : k ≡ kindSignOn → asks (signOn (p .radio) (fixAt (p .east) (p .north) m)) ≡ asks (requestOf b)
     unfolding requestOf fixField
     asked-on h =
         rw (eq-eqb (kindField b) kindSignOn (omega (arith, kind)))
-        (ap (λ (x : Placed). asks (signOn (x .radio) (fixAt (x .east) (x .north)))) body)
+        (ap₂ (λ (x : Placed) (y : ℕ). asks (signOn (x .radio) (fixAt (x .east) (x .north) y))) body minute)
 
-    pub asked-report : k ≡ kindReport → asks (report (p .radio) (fixAt (p .east) (p .north))) ≡ asks (requestOf b)
+    pub asked-report : k ≡ kindReport → asks (report (p .radio) (fixAt (p .east) (p .north) m)) ≡ asks (requestOf b)
     unfolding requestOf fixField
     asked-report h =
         rw (ne-eqb (kindField b) kindSignOn (omega (arith, kind)), eq-eqb (kindField b) kindReport (omega (arith, kind)))
-        (ap (λ (x : Placed). asks (report (x .radio) (fixAt (x .east) (x .north)))) body)
+        (ap₂ (λ (x : Placed) (y : ℕ). asks (report (x .radio) (fixAt (x .east) (x .north) y))) body minute)
 
-  pub asked-off : {r : ℕ} → r ≡ radioField b → k ≡ kindSignOff → asks (signOff r) ≡ asks (requestOf b)
+  pub asked-off : {r m : ℕ} → r ≡ radioField b → m ≡ minuteField b → k ≡ kindSignOff → asks (signOff r m) ≡ asks (requestOf b)
   unfolding requestOf
-  asked-off radio h =
+  asked-off radio minute h =
       rw (ne-eqb (kindField b) kindSignOn (omega (arith, kind)), ne-eqb (kindField b) kindReport (omega (arith, kind)), eq-eqb (kindField b) kindSignOff (omega (arith, kind)))
-      (ap (λ (x : ℕ). asks (signOff x)) radio)
+      (ap₂ (λ (x y : ℕ). asks (signOff x y)) radio minute)
 
   pub asked-range : (rect : Edges) → rect ≡ record { west = rectField b .easts .low; east = rectField b .easts .high; south = rectField b .norths .low; north = rectField b .norths .high }
-      → k ≢ kindSignOn → k ≢ kindReport → k ≢ kindSignOff → asks (range (rectIn rect)) ≡ asks (requestOf b)
+      → {m : ℕ} → m ≡ minuteField b → k ≢ kindSignOn → k ≢ kindReport → k ≢ kindSignOff → asks (range (rectIn rect) m) ≡ asks (requestOf b)
   unfolding requestOf
-  asked-range rect body l m n =
+  asked-range rect body minute l m n =
       rw (ne-eqb (kindField b) kindSignOn (λ z. l (kind ∙ z)), ne-eqb (kindField b) kindReport (λ z. m (kind ∙ z)), ne-eqb (kindField b) kindSignOff (λ z. n (kind ∙ z)))
-      (ap (λ (x : Edges). asks (range (rectIn x))) body)
+      (ap₂ (λ (x : Edges) (y : ℕ). asks (range (rectIn x) y)) body minute)
 
 -- ---- every check passed
 
@@ -301,12 +326,12 @@ module _ (b : List ℕ) (w : Whole b) {k : ℕ} (kind : k ≡ kindField b) where
 abbrev pub Ordered : Request → Type 0
 Ordered (signOn r f) = Unit {0}
 Ordered (report r f) = Unit {0}
-Ordered (signOff r) = Unit {0}
-Ordered (range rect) = (rect .easts .low ≤ rect .easts .high) × (rect .norths .low ≤ rect .norths .high)
+Ordered (signOff r minute) = Unit {0}
+Ordered (range rect minute) = (rect .easts .low ≤ rect .easts .high) × (rect .norths .low ≤ rect .norths .high)
 
-module _ (on : ℕ → Bool) (many : ℕ) (b : List ℕ) (zero : refusal on many b ≡ 0) where
+module _ (highest : ℕ) (on : ℕ → Bool) (many : ℕ) (b : List ℕ) (zero : refusal highest on many b ≡ 0) where
   passed-whole : Whole b
-  passed-whole = let p = passed on many b zero in whole b refl (p .at-hand) refl (p .kind) refl (p .long)
+  passed-whole = let p = passed highest on many b zero in whole b refl (p .at-hand) refl (p .kind) refl (p .long)
 
   -- "west above east or south above north" is no range's edges
   pub ordered : Ordered (requestOf b)
@@ -322,20 +347,20 @@ module _ (on : ℕ → Bool) (many : ℕ) (b : List ℕ) (zero : refusal on many
       let m = eqb-false (kindField b) kindReport u in
       let n = eqb-false (kindField b) kindSignOff v in
       let w = passed-whole in
-      let e = either-false _ _ (both-second _ _ (eq-eqb (kindField b) kindRange (omega (arith, l, m, n, w))) (passed on many b zero .edges)) in
+      let e = either-false _ _ (both-second _ _ (eq-eqb (kindField b) kindRange (omega (arith, l, m, n, w))) (passed highest on many b zero .edges)) in
       rw (t, u, v) (ltb-false (rectField b .easts .high) (rectField b .easts .low) (e .0), ltb-false (rectField b .norths .high) (rectField b .norths .low) (e .1)))))
 
 -- ---- the whole
 
-module _ (on : ℕ → Bool) (many : ℕ) (b : List ℕ) {n : ℕ} (told : n ≡ refusal on many b) where
-  pub turned-down : (q : Request) → n ≢ 0 → fails n ≡ checked (refusal on many b) q
+module _ (highest : ℕ) (on : ℕ → Bool) (many : ℕ) (b : List ℕ) {n : ℕ} (told : n ≡ refusal highest on many b) where
+  pub turned-down : (q : Request) → n ≢ 0 → fails n ≡ checked (refusal highest on many b) q
   unfolding checked
-  turned-down q h = rw (ne-eqb (refusal on many b) 0 (λ z. h (told ∙ z))) (ap fails told)
+  turned-down q h = rw (ne-eqb (refusal highest on many b) 0 (λ z. h (told ∙ z))) (ap fails told)
 
   module _ (h : n ≡ 0) where
     pub accepted-whole : Whole b
-    accepted-whole = passed-whole on many b (sym told ∙ h)
+    accepted-whole = passed-whole highest on many b (sym told ∙ h)
 
-    pub accepted : {o : Checked} (q : Request) → o ≡ asks q → o ≡ checked (refusal on many b) q
+    pub accepted : {o : Checked} (q : Request) → o ≡ asks q → o ≡ checked (refusal highest on many b) q
     unfolding checked
-    accepted q e = rw (eq-eqb (refusal on many b) 0 (sym told ∙ h)) e
+    accepted q e = rw (eq-eqb (refusal highest on many b) 0 (sym told ∙ h)) e

@@ -22,15 +22,15 @@ use Rattle.records.specs.declared.Asked.the-variants.{SignOn, Report, Si
 abbrev pub headBytes : ℕ
 headBytes = 4
 
--- "length 6", "length 10", "length 12"
+-- "the lengths become 14, 14, 10 and 16"
 abbrev pub signOffBytes : ℕ
-signOffBytes = 6
+signOffBytes = 10
 
 abbrev pub placedBytes : ℕ
-placedBytes = 10
+placedBytes = 14
 
 abbrev pub rangeBytes : ℕ
-rangeBytes = 12
+rangeBytes = 16
 
 -- the kind is one of the four, and as many bytes as it wants are at hand: no fewer than a sign-off has
 pub record Whole (b : List ℕ) : Type 0 where
@@ -55,12 +55,12 @@ asks q = record { number = 0; request = some q }
 abbrev pub fails : ℕ → Checked
 fails n = record { number = n; request = none }
 
--- the number and the values of each case: "radio, east, north", "radio", "west, east, south, north"
+-- the number and the values of each case: "radio, east, north", "radio", "west, east, south, north", and the minute
 abbrev pub askedOf : Asked → Checked
-askedOf (SignOn r e n) = asks (signOn r (fixAt e n))
-askedOf (Report r e n) = asks (report r (fixAt e n))
-askedOf (SignOff r) = asks (signOff r)
-askedOf (Range w e s n) = asks (range (record { easts = record { low = w; high = e }; norths = record { low = s; high = n } }))
+askedOf (SignOn r e n m) = asks (signOn r (fixAt e n m))
+askedOf (Report r e n m) = asks (report r (fixAt e n m))
+askedOf (SignOff r m) = asks (signOff r m)
+askedOf (Range w e s n m) = asks (range (record { easts = record { low = w; high = e }; norths = record { low = s; high = n } }) m)
 askedOf (Refused n) = fails n
 
 -- under number 0 the request is carried out, under any other the record is turned down
@@ -74,14 +74,17 @@ pub record SignsOn (s : Store) (r : ℕ) (f : Fix) : Type 0 where
   pub placed : InSquare (f .place)
   pub off : isOn s r ≡ false
   pub room : onCount s < maxOn
+  pub late : s .highest ≤ f .minute
 
 pub record Reports (s : Store) (r : ℕ) (f : Fix) : Type 0 where
   pub first : 1 ≤ r
   pub last : r ≤ maxRadio
   pub placed : InSquare (f .place)
   pub on : isOn s r ≡ true
+  pub late : s .highest ≤ f .minute
 
-pub record SignsOff (s : Store) (r : ℕ) : Type 0 where
+pub record SignsOff (s : Store) (r minute : ℕ) : Type 0 where
   pub first : 1 ≤ r
   pub last : r ≤ maxRadio
   pub on : isOn s r ≡ true
+  pub late : s .highest ≤ minute

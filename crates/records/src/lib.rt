@@ -4,7 +4,7 @@ ghost use Prim.Native.Nat.{_≤_};
 ghost use lib.ListN.{length};
 ghost use Rattle.terms.specs.Terms.{maxOn};
 ghost use Rattle.lists.specs.Rows.{Rising};
-ghost use Rattle.rules.specs.Records.{lengthField, kindField, lengthOf, radioField, placeField, rectField, requestOf, notAtHand, unknownKind, wrongLength, noRadio, noFix, reversed, onAlready, notOn, noRoom, refusal};
+ghost use Rattle.rules.specs.Records.{lengthField, kindField, lengthOf, radioField, placeField, minuteField, rectField, requestOf, notAtHand, unknownKind, wrongLength, noRadio, noFix, tooEarly, reversed, onAlready, notOn, noRoom, refusal};
 ghost use Rattle.desk.specs.Views.{radiosOf};
 ghost use Rattle.desk.specs.Held.{onWith};
 ghost use Rattle.waiting.specs.On.{WholeOn};
@@ -23,18 +23,21 @@ pub const KIND_RANGE: u16 = 4;
 // The length and the kind.
 pub const HEAD_BYTES: usize = 4;
 
-pub const PLACED_BYTES: u16 = 10;
+pub const PLACED_BYTES: u16 = 14;
 
-pub const SIGN_OFF_BYTES: u16 = 6;
+pub const SIGN_OFF_BYTES: u16 = 10;
 
-pub const RANGE_BYTES: u16 = 12;
+pub const RANGE_BYTES: u16 = 16;
 
-// What is asked, radio first, or west, east, south, north; or the number under which it is turned down.
+// The minute, which every record ends with.
+const MINUTE_BYTES: usize = 4;
+
+// What is asked, radio first, or west, east, south, north, and the minute last; or the number under which it is turned down.
 pub enum Asked {
-    SignOn(u16, u16, u16),
-    Report(u16, u16, u16),
-    SignOff(u16),
-    Range(u16, u16, u16, u16),
+    SignOn(u16, u16, u16, u32),
+    Report(u16, u16, u16, u32),
+    SignOff(u16, u32),
+    Range(u16, u16, u16, u16, u32),
     Refused(u16),
 }
 
@@ -123,6 +126,15 @@ fn length_of(kind: u16) -> u16
     PLACED_BYTES
 }
 
+// "Every record ends with a 32-bit minute"
+fn minute_field(bytes: &[u8]) -> u32
+    requires { ⌜ Whole (now bytes) ⌝ }
+    ensures { λ r. ⌜ r ≡ minuteField (now (bytes .entry)) ⌝ }
+{
+    let end = length_of(kind_field(bytes)) as usize;
+    fields::read_wide(bytes, end - MINUTE_BYTES)
+}
+
 // ---- the checks
 
 // 3: "Fewer than 4 bytes are at hand, or the length is below 4 or above what is at hand."
@@ -189,6 +201,14 @@ fn no_fix(bytes: &[u8]) -> bool
     body.north == 0
 }
 
+// 13: "a minute below the store's highest, for all four kinds"
+fn too_early(bytes: &[u8], highest: u32) -> bool
+    requires { ⌜ Whole (now bytes) ⌝ }
+    ensures { λ r. ⌜ r ≡ tooEarly highest (now (bytes .entry)) ⌝ }
+{
+    minute_field(bytes) < highest
+}
+
 // 7: "A range has west above east or south above north."
 fn reversed(bytes: &[u8]) -> bool
     requires { ⌜ Whole (now bytes) ⌝ }
@@ -238,9 +258,9 @@ fn no_room<'a>(bytes: &[u8], radios: &'a [u16; Desk::MAX_ON], n: usize) -> bool
 }
 
 // The number of the first check that fails, 0 if none does.
-fn refusal<'a>(bytes: &[u8], radios: &'a [u16; Desk::MAX_ON], n: usize) -> u16
+fn refusal<'a>(bytes: &[u8], highest: u32, radios: &'a [u16; Desk::MAX_ON], n: usize) -> u16
     requires { ⌜ (n ≤ maxOn) × WholeOn (onWith n (now radios)) × Rising 0 (radiosOf (onWith n (now radios))) ⌝ }
-    ensures { λ r. ⌜ r ≡ refusal (onIn (onWith n (now (radios .entry)))) (length (radiosOf (onWith n (now (radios .entry))))) (now (bytes .entry)) ⌝ }
+    ensures { λ r. ⌜ r ≡ refusal highest (onIn (onWith n (now (radios .entry)))) (length (radiosOf (onWith n (now (radios .entry))))) (now (bytes .entry)) ⌝ }
 {
     if not_at_hand(bytes) {
         return 3;
@@ -256,6 +276,9 @@ fn refusal<'a>(bytes: &[u8], radios: &'a [u16; Desk::MAX_ON], n: usize) -> u16
     }
     if no_fix(bytes) {
         return 12;
+    }
+    if too_early(bytes, highest) {
+        return 13;
     }
     if reversed(bytes) {
         return 7;
@@ -280,29 +303,30 @@ fn request(bytes: &[u8]) -> Asked
     ensures { λ r. ⌜ askedOf r ≡ asks (requestOf (now (bytes .entry))) ⌝ }
 {
     let kind = kind_field(bytes);
+    let minute = minute_field(bytes);
     if kind == KIND_SIGN_ON {
         let body = placed_body(bytes);
-        return Asked::SignOn(body.radio, body.east, body.north);
+        return Asked::SignOn(body.radio, body.east, body.north, minute);
     }
     if kind == KIND_REPORT {
         let body = placed_body(bytes);
-        return Asked::Report(body.radio, body.east, body.north);
+        return Asked::Report(body.radio, body.east, body.north, minute);
     }
     if kind == KIND_SIGN_OFF {
-        return Asked::SignOff(radio_field(bytes));
+        return Asked::SignOff(radio_field(bytes), minute);
     }
     let rect = range_body(bytes);
-    Asked::Range(rect.west, rect.east, rect.south, rect.north)
+    Asked::Range(rect.west, rect.east, rect.south, rect.north, minute)
 }
 
 // What the bytes at hand ask, or the number of the first check that fails.
-pub fn asked_by<'a>(bytes: &[u8], radios: &'a [u16; Desk::MAX_ON], n: usize) -> Asked
+pub fn asked_by<'a>(bytes: &[u8], highest: u32, radios: &'a [u16; Desk::MAX_ON], n: usize) -> Asked
     requires { ⌜ (n ≤ maxOn) × WholeOn (onWith n (now radios)) × Rising 0 (radiosOf (onWith n (now radios))) ⌝ }
     ensures { λ r. ⌜ askedOf r
-        ≡ checked (refusal (onIn (onWith n (now (radios .entry)))) (length (radiosOf (onWith n (now (radios .entry))))) (now (bytes .entry)))
+        ≡ checked (refusal highest (onIn (onWith n (now (radios .entry)))) (length (radiosOf (onWith n (now (radios .entry))))) (now (bytes .entry)))
         (requestOf (now (bytes .entry))) ⌝ }
 {
-    let number = refusal(bytes, radios, n);
+    let number = refusal(bytes, highest, radios, n);
     if number != 0 {
         return Asked::Refused(number);
     }

@@ -17,7 +17,7 @@ use Rattle.lists.proofs.Cases.{by-cases}
 use Rattle.lists.proofs.AmongLaws.{each-among, among-tail}
 use Rattle.lists.proofs.RowsLaws.{find-filter, rising-filter, find-each, each-find, length-merge-le, find-filter-some}
 use Rattle.lists.proofs.SumsLaws.{sum-cons, length-filter-not, sum-middle, length-middle}
-use Rattle.lists.proofs.TestsLaws.{each-filter}
+use Rattle.lists.proofs.TestsLaws.{each-filter, each-append, each-middle}
 use Rattle.rules.specs.Limits.{maxCells, fullMemory, sweepEvery}
 use Rattle.rules.specs.Grid.{Rect, inside, Cuts, Box, cornerOf}
 use Rattle.rules.specs.Store.{Report, Line, Cell, Store, others, settled, freeAfter}
@@ -25,8 +25,9 @@ use Rattle.rules.specs.Sweep.{stale, sweptEntries, sweptMemo, swept}
 use Rattle.rules.specs.Cut.{Cut, chosenCut}
 use Rattle.rules.specs.Flush.{joined, inBox, Flushed, flushedInto, grown, lowCell, highCell, unusedNumber, splitAt, splitOr, beside, neighbour, joinedEdges, joinedWith, joinOr, reshaped, lowEdges, highEdges}
 use Rattle.rules.specs.Carry.{wasNew}
-use Rattle.rules.specs.WellFormed.{staleIn}
-use Rattle.rules.specs.Parts.{Edged, Tiling, Rowed, Books, Clean, Paged, Bounded, Waits, Core, marks, onSet}
+use Rattle.rules.specs.WellFormed.{staleIn, EntriesDated}
+use Rattle.rules.specs.Parts.{Edged, Tiling, Rowed, Books, Clean, Paged, Bounded, Waits, Dated, Core, marks, onSet}
+use Rattle.rules.proofs.DatedLaws.{CellDated, dated-settled, dated-low, dated-high, dated-joined, dated-back, dated-flushed}
 use Rattle.rules.specs.Midway.{MidCall, size, mostEntries, MidFlush}
 use Rattle.rules.proofs.BooksLaws.{books-back, books-back2, books-same, books-swap, books-ext, books-sweep, clean-swept, stale-sweep, stale-sweep-sum, Enters, marksWithout, books-enterEach, clean-enterEach, stale-enterEach, books-split, books-join, clean-join, entries-total, books-among}
 use Rattle.rules.proofs.TilingLaws.{inside-home, tiling-among, others-among, others-split, tiling-move, GoodCut, cutsWith, tiling-split, tiling-join, smaller-number, round-others}
@@ -159,6 +160,9 @@ module _ (m : Box) (s : Store) (d : Cell) (k : Core s) (a : Among (s .cells) d) 
           sum-middle (staleIn (s .memo)) before d after,
         )
 
+    dated-here : Dated (s .highest) (flushedInto m s d .cell ∷ (before ++ after)) (flushedInto m s d .store .waiting)
+    dated-here = dated-flushed (s .highest) m s d a (k .dated)
+
     pub ready : length (flushedInto m s d .store .waiting) ≤ c + (fullMemory - 1) → MidFlush (flushedInto m s d) d before after (s .memo) (length reports) c
     unfolding flushedInto
     ready room = record {
@@ -174,6 +178,7 @@ module _ (m : Box) (s : Store) (d : Cell) (k : Core s) (a : Among (s .cells) d) 
       few = few-entries;
       signed = k .signed;
       waits = waits-kept (s .cuts) m s (k .waits);
+      dated = dated-here;
       bounded = subst (λ (w : ℕ). Bounded (s .memo) (before ++ (d ∷ after)) w c) (sym waiting-flushed) bounded;
       stale = stale-flushed;
       room = room;
@@ -204,6 +209,12 @@ module _ (f : Flushed) (d₀ : Cell) (before after : List Cell) (memo : Rows Lin
           paged = grown-paged f before after d₀ (r .paged) (r .chain) (r .rest) (r .few) (r .tiled .few-cells);
           signed = r .signed;
           waits = r .waits;
+          dated = record {
+            entries =
+                subst (λ (l : List Cell). EntriesDated (f .store .highest) (l ++ (cell ∷ []))) (sym (r .rest))
+                (dated-back (f .store .highest) cell (before ++ after) (dated-settled (f .store .highest) (f .store .free) (f .cell) (r .dated .entries .0), r .dated .entries .1));
+            reports = r .dated .reports;
+          };
         };
         bounded =
             grown-bounded f memo before after d₀ (length (f .store .waiting) + n) (length (f .store .waiting)) n c (r .bounded) refl (r .stale) (r .room) (r .rest) (r .clean);
@@ -242,6 +253,15 @@ module _ (f : Flushed) (d₀ : Cell) (before after : List Cell) (memo : Rows Lin
         let h = books-same high highLaid (lowLaid ∷ (before ++ after)) refl refl (books-swap lowLaid high (before ++ after) l) in
         books-back2 lowLaid highLaid (before ++ after) (books-swap highLaid lowLaid (before ++ after) h)
 
+    dated-cut : EntriesDated (f .store .highest) ((before ++ after) ++ (lowLaid ∷ highLaid ∷ []))
+    dated-cut =
+        let h = f .store .highest in
+        let d = r .dated .entries .0 in
+        each-append (CellDated h) (before ++ after) (lowLaid ∷ highLaid ∷ []) (r .dated .entries .1) (
+          dated-settled h (f .store .free) low (dated-low h cut (f .cell) d),
+          (dated-settled h (freeAfter (f .store .free) low) high (dated-high h cut (unusedNumber (f .store .cells)) (f .cell) d), tt),
+        )
+
     pub split-mid : MidCall (splitAt cut f) c
     unfolding splitAt
     split-mid = record {
@@ -252,6 +272,10 @@ module _ (f : Flushed) (d₀ : Cell) (before after : List Cell) (memo : Rows Lin
         paged = splitAt-paged f before after d₀ (r .paged) (r .chain) cut (r .rest) (r .few) (subst (λ (l : List Cell). length l < maxCells) (r .cells) few);
         signed = r .signed;
         waits = r .waits;
+        dated = record {
+          entries = subst (λ (l : List Cell). EntriesDated (f .store .highest) (l ++ (lowLaid ∷ highLaid ∷ []))) (sym (r .rest)) dated-cut;
+          reports = r .dated .reports;
+        };
       };
       bounded =
           splitAt-bounded f memo before after d₀ (length (f .store .waiting) + n) (length (f .store .waiting)) n c (r .bounded) refl (r .stale) (r .room) cut (r .rest) (r .clean);
@@ -324,6 +348,12 @@ module _ (f : Flushed) (d₀ : Cell) (before after : List Cell) (memo : Rows Lin
           length-filter-not (stale (f .store .memo)) (m .entries),
         )
 
+    dated-whole : EntriesDated (f .store .highest) (left ++ (whole ∷ []))
+    dated-whole =
+        let h = f .store .highest in
+        let e = each-middle (CellDated h) (a .before) m (a .after) (subst (EntriesDated h) (a .split) (r .dated .entries .1)) in
+        dated-back h whole left (dated-joined h f m (r .dated .entries .0) (e .0), e .1)
+
     pub join-mid : MidCall (joinedWith f m) c
     unfolding joinedWith
     join-mid = record {
@@ -334,6 +364,10 @@ module _ (f : Flushed) (d₀ : Cell) (before after : List Cell) (memo : Rows Lin
         paged = joinedWith-paged f before after d₀ (r .paged) (r .chain) m (a .before) (a .after) (a .split) others-left (near .small) few-whole;
         signed = r .signed;
         waits = r .waits;
+        dated = record {
+          entries = subst (λ (l : List Cell). EntriesDated (f .store .highest) (l ++ (whole ∷ []))) (sym others-left) dated-whole;
+          reports = r .dated .reports;
+        };
       };
       bounded =
           joinedWith-bounded f memo before after d₀ (length (f .store .waiting) + n) (length (f .store .waiting)) n c (r .bounded) refl (r .stale) (r .room) m (a .before) (a .after) (a .split) others-left

@@ -19,7 +19,7 @@ use Rattle.lists.proofs.Cases.{by-cases, list-cases, option-cases, false-true}
 use Rattle.lists.proofs.TestsLaws.{both-second}
 use Rattle.rules.specs.Limits.{maxCells, fullMemory, sweepEvery}
 use Rattle.rules.specs.Grid.{Cuts, Box, cornerOf}
-use Rattle.rules.specs.Store.{Report, Line, Cell, Store, withWaiting, withOn, settled, freeAfter}
+use Rattle.rules.specs.Store.{Report, Line, Cell, Store, withWaiting, withOn, settled, freeAfter, withHighest}
 use Rattle.rules.specs.Sweep.{swept, sweptMemo, sweepFront, tick}
 use Rattle.rules.specs.Cut.{Cut}
 use Rattle.rules.specs.Flush.{Flushed, flushedInto, grown, lowCell, highCell, unusedNumber, splitAt, neighbour, joined, joinedWith, reshaped, cellOfBox}
@@ -30,6 +30,7 @@ use Rattle.rules.specs.WellFormed.{staleIn, WellFormed}
 use Rattle.rules.specs.Parts.{Books, Clean, Bounded, Signed, Core, marks, onSet}
 use Rattle.rules.specs.Midway.{MidFlush}
 use Rattle.rules.specs.Lasting.{isCounted, lastingRecords, Nearer, OldComeNearer}
+use Rattle.rules.proofs.WellLaws.{later-well}
 use Rattle.rules.proofs.RecordLaws.{Accepted, on-passed, report-passed, off-passed, range-passed, accepted}
 use Rattle.rules.proofs.BooksLaws.{clean-swept, stale-sweep}
 use Rattle.rules.proofs.TilingLaws.{cellAt-split, some-cell}
@@ -194,25 +195,35 @@ module _ (s : Store) (w : WellFormed s) (r : ℕ) (h : 1 ≤ r) (g : Option Repo
       nearer (afterReport (f .place) put-store) (stay-report (f .place) put-store k bounded (w .tallied) few)
       (report-done (f .place) put-store (s .tally + 1) k bounded late few (put-boxes s w r h g f b put) .mid .core) (w .tallied) (after-tally (f .place) put-store)
 
+-- the minute has no part in it
+nearer-at : (minute : ℕ) (s : Store) {t : Store} → OldComeNearer (withHighest minute s) t → OldComeNearer s t
+nearer-at minute s h c now old = let j = h c now old in record { was = j .was; sooner = j .sooner }
+
 -- what an accepted sign-on, report or sign-off leaves
-counted-nearer : (q : Request) (s : Store) (buffer : List ℕ) → WellFormed s → Accepted (isOn s) (onCount s) q → isCounted q ≡ true
+counted-nearer : (q : Request) (s : Store) (buffer : List ℕ) → WellFormed s → Accepted (s .highest) (isOn s) (onCount s) q → isCounted q ≡ true
     → OldComeNearer s (carriedOut q s buffer .store)
-unfolding carriedOut signedOn reported signedOff
-counted-nearer q s buffer w (on-passed r f h k i off room) e =
-    put-nearer s w r h (λ _. some (record { fix = f; new = true })) f true refl (insert r tt (s .on)) (on-core s w r f h k i off room)
-counted-nearer q s buffer w (report-passed r f h k i on) e =
-    put-nearer s w r h (λ o. some (record { fix = f; new = wasNew o })) f (wasNew (find (s .waiting) r)) refl (s .on) (report-core s w r f h k i on)
-counted-nearer q s buffer w (off-passed r h k on) e =
-    nearer (signedOff r s) (λ c now old. record { at = now; late = omega arith }) (off-core s w r h k on) (w .tallied) refl
-counted-nearer q s buffer w (range-passed rect) e = false-true e
+unfolding carriedOut signedOn reported signedOff isOn onCount
+counted-nearer q s buffer w (on-passed r f h k i off room late) e =
+    let s′ = withHighest (f .minute) s in
+    let w′ = later-well s w (f .minute) late in
+    nearer-at (f .minute) s (put-nearer s′ w′ r h (λ _. some (record { fix = f; new = true })) f true refl (insert r tt (s .on)) (on-core s′ w′ r f h k i off room (omega arith)))
+counted-nearer q s buffer w (report-passed r f h k i on late) e =
+    let s′ = withHighest (f .minute) s in
+    let w′ = later-well s w (f .minute) late in
+    nearer-at (f .minute) s (put-nearer s′ w′ r h (λ o. some (record { fix = f; new = wasNew o })) f (wasNew (find (s .waiting) r)) refl (s .on) (report-core s′ w′ r f h k i on (omega arith)))
+counted-nearer q s buffer w (off-passed r minute h k on late) e =
+    let s′ = withHighest minute s in
+    let w′ = later-well s w minute late in
+    nearer-at minute s (nearer (signedOff r s′) {t = s′} (λ c now old. record { at = now; late = omega arith }) (off-core s′ w′ r h k on) (w .tallied) refl)
+counted-nearer q s buffer w (range-passed rect minute) e = false-true e
 
 -- a call that is not accepted, or a range, leaves the store
 uncounted-same : (q : Request) (s : Store) (buffer : List ℕ) → isCounted q ≡ false → carriedOut q s buffer .store ≡ s
 unfolding carriedOut
 uncounted-same (signOn r f) s buffer e = false-true (sym e)
 uncounted-same (report r f) s buffer e = false-true (sym e)
-uncounted-same (signOff r) s buffer e = false-true (sym e)
-uncounted-same (range rect) s buffer e = answered-store (found s rect) s buffer
+uncounted-same (signOff r minute) s buffer e = false-true (sym e)
+uncounted-same (range rect minute) s buffer e = answered-store (found s rect minute) s buffer
 
 -- ---- any call
 
@@ -220,9 +231,9 @@ pub step-nearer : (s : Store) (bytes buffer : List ℕ) → Bytes bytes → Well
     → OldComeNearer s (carry s bytes buffer .store)
 unfolding carry
 step-nearer s bytes buffer small w =
-    let n = refusal (isOn s) (onCount s) bytes in
+    let n = refusal (s .highest) (isOn s) (onCount s) bytes in
     by-cases (eqb n 0)
-    (λ t. rw t (λ _ e. counted-nearer (requestOf bytes) s buffer w (accepted (isOn s) (onCount s) bytes small (eqb-true n 0 t)) e))
+    (λ t. rw t (λ _ e. counted-nearer (requestOf bytes) s buffer w (accepted (s .highest) (isOn s) (onCount s) bytes small (eqb-true n 0 t)) e))
     (λ t. rw t (λ z _. absurd (eqb-false n 0 t z)))
 
 -- a sign-on, report or sign-off that passes the checks is answered with 0
@@ -230,15 +241,15 @@ done-zero : (q : Request) (s : Store) (buffer : List ℕ) → isCounted q ≡ tr
 unfolding carriedOut
 done-zero (signOn r p) s buffer e = refl
 done-zero (report r p) s buffer e = refl
-done-zero (signOff r) s buffer e = refl
-done-zero (range rect) s buffer e = false-true e
+done-zero (signOff r minute) s buffer e = refl
+done-zero (range rect minute) s buffer e = false-true e
 
 module _ (s : Store) (bytes buffer : List ℕ) (not-counted : both (eqb (carry s bytes buffer .number) 0) (isCounted (requestOf bytes)) ≡ false) where
-  answered-zero : refusal (isOn s) (onCount s) bytes ≡ 0 → isCounted (requestOf bytes) ≡ true → carry s bytes buffer .number ≡ 0
+  answered-zero : refusal (s .highest) (isOn s) (onCount s) bytes ≡ 0 → isCounted (requestOf bytes) ≡ true → carry s bytes buffer .number ≡ 0
   unfolding carry
-  answered-zero z e = rw (eq-eqb (refusal (isOn s) (onCount s) bytes) 0 z) (done-zero (requestOf bytes) s buffer e)
+  answered-zero z e = rw (eq-eqb (refusal (s .highest) (isOn s) (onCount s) bytes) 0 z) (done-zero (requestOf bytes) s buffer e)
 
-  passed-range : refusal (isOn s) (onCount s) bytes ≡ 0 → isCounted (requestOf bytes) ≡ false
+  passed-range : refusal (s .highest) (isOn s) (onCount s) bytes ≡ 0 → isCounted (requestOf bytes) ≡ false
   passed-range z =
       by-cases (isCounted (requestOf bytes))
       (λ e. both-second _ _ (eq-eqb (carry s bytes buffer .number) 0 (answered-zero z e)) not-counted)
@@ -247,7 +258,7 @@ module _ (s : Store) (bytes buffer : List ℕ) (not-counted : both (eqb (carry s
   pub step-same : carry s bytes buffer .store ≡ s
   unfolding carry
   step-same =
-      let n = refusal (isOn s) (onCount s) bytes in
+      let n = refusal (s .highest) (isOn s) (onCount s) bytes in
       by-cases (eqb n 0)
       (λ t. rw t (uncounted-same (requestOf bytes) s buffer (passed-range (eqb-true n 0 t))))
       (λ t. rw t)
@@ -263,5 +274,5 @@ module _ (s : Store) (bytes buffer : List ℕ) (not-counted : both (eqb (carry s
       plain-range : (q : Request) → isCounted q ≡ false → plainDone cuts q x ≡ x
       plain-range (signOn r p) e = false-true (sym e)
       plain-range (report r p) e = false-true (sym e)
-      plain-range (signOff r) e = false-true (sym e)
-      plain-range (range rect) e = unfold plainDone in refl
+      plain-range (signOff r minute) e = false-true (sym e)
+      plain-range (range rect minute) e = unfold plainDone in refl

@@ -19,7 +19,7 @@ use Rattle.lists.proofs.TestsLaws.{one-if-le}
 use Rattle.lists.proofs.RowsLaws.{find-alter, find-filter}
 use Rattle.rules.specs.Limits.{sweepEvery, fullBox, fullMemory}
 use Rattle.rules.specs.Grid.{Box, cornerOf, inside, sameBox, boxOf}
-use Rattle.rules.specs.Store.{Report, Line, Cell, Store, others, settled, freeAfter}
+use Rattle.rules.specs.Store.{Report, Line, Cell, Store, others, settled, freeAfter, withHighest}
 use Rattle.rules.specs.Sweep.{swept, sweptMemo, sweepFront, tick}
 use Rattle.rules.specs.Cut.{Cut}
 use Rattle.rules.specs.Flush.{joined, raised, inBox, Flushed, flushedInto, grown, lowCell, highCell, unusedNumber, splitAt, joinedWith, reshaped, cellOfBox, flush}
@@ -29,7 +29,7 @@ use Rattle.rules.specs.Records.{Request, signOn, report, signOff, range,
 use Rattle.rules.specs.Parts.{Books, Clean, Core, marks, onSet, Bounded}
 use Rattle.lists.specs.Words.{Bytes}
 use Rattle.lists.specs.Among.{Among}
-use Rattle.rules.proofs.WellLaws.{well-core}
+use Rattle.rules.proofs.WellLaws.{well-core, later-well}
 use Rattle.rules.proofs.LiveLaws.{liveBy, stored-none, stored-at, stored-same, live-one, live-order, live-back, live-swap, live-settled, live-sweep, live-off, live-off-other, live-split, live-join, live-flushed, live-flushed-other, sweptMemo-last}
 use Rattle.rules.proofs.BooksLaws.{books-swap, books-sweep, clean-swept, stale-sweep, books-among}
 use Rattle.rules.proofs.NeighbourLaws.{neighbour-near}
@@ -47,6 +47,7 @@ pub record Leaves (f : Flushed) (s : Store) : Type 0 where
   pub lines : (q : ℕ) (l : Line) → find (s .memo) q ≡ some l → (k : Line) × (find (f .store .memo) q ≡ some k) × (k .last ≡ l .last)
   pub waiting : s .waiting ≡ f .store .waiting
   pub on : s .on ≡ f .store .on
+  pub minute : s .highest ≡ f .store .highest
 
 module _ (f : Flushed) (b : Books (f .cell ∷ f .rest) (f .store .memo) (marks (f .store .waiting)) (onSet (f .store .on))) (clean : Clean (f .store .memo) (f .cell)) where
   leaves-grown : Leaves f (grown f)
@@ -56,6 +57,7 @@ module _ (f : Flushed) (b : Books (f .cell ∷ f .rest) (f .store .memo) (marks 
     lines = λ q l e. (l, e, refl);
     waiting = refl;
     on = refl;
+    minute = refl;
   }
 
   leaves-split : (c : Cut) → Leaves f (splitAt c f)
@@ -75,6 +77,7 @@ module _ (f : Flushed) (b : Books (f .cell ∷ f .rest) (f .store .memo) (marks 
         lines = λ q l e. (l, e, refl);
         waiting = refl;
         on = refl;
+        minute = refl;
       }
 
   -- m stands among the others; it is swept, d being one of the others, and joined
@@ -106,6 +109,7 @@ module _ (f : Flushed) (b : Books (f .cell ∷ f .rest) (f .store .memo) (marks 
       lines = λ q l e. sweptMemo-last q (f .store .memo) (m .entries) (books-apart .cells-rowed .0 .rising) (b .memo-rises) l e;
       waiting = refl;
       on = refl;
+      minute = refl;
     }
 
   pub leaves-reshaped : ((n : ℕ) → count n (map (λ c. c .number) (f .rest)) ≤ 1) → Leaves f (reshaped f)
@@ -291,35 +295,47 @@ latest-after p s c q = option-cases (flushDue s p) (λ e. rw e) (λ m e. rw e (l
 unfoldable pub latestBy : Request → (ℕ → Option Fix) → ℕ → Option Fix
 latestBy (signOn r f) before q = cond (eqb q r) (some f) (before q)
 latestBy (report r f) before q = cond (eqb q r) (some f) (before q)
-latestBy (signOff r) before q = cond (eqb q r) none (before q)
-latestBy (range rect) before q = before q
+latestBy (signOff r minute) before q = cond (eqb q r) none (before q)
+latestBy (range rect minute) before q = before q
 
 settled-latest : (p : Place) (s : Store) → Core s → Bounded (s .memo) (s .cells) (length (s .waiting)) (s .tally + 1) → s .tally < sweepEvery → length (s .waiting) ≤ fullMemory
     → ((n : Box) → sameBox n (boxOf (s .cuts) p) ≡ false → waitingIn (s .cuts) (s .waiting) n < fullBox) → (q : ℕ) → latest (tick (afterReport p s)) q ≡ latest s q
 settled-latest p s c b t few boxes q =
     latest-tick (afterReport p s) (report-done p s (s .tally + 1) c b (omega arith) few boxes .mid .core .books) q ∙ latest-after p s c q
 
-done-latest : (k : Request) (s : Store) (buffer : List ℕ) → WellFormed s → Accepted (isOn s) (onCount s) k → (q : ℕ) → latest (carriedOut k s buffer .store) q ≡ latestBy k (latest s) q
-unfolding carriedOut latestBy signedOn reported
-done-latest k s buffer w (on-passed r f h i here off room) q =
+-- the minute has no part in it
+latest-at : (minute : ℕ) (s : Store) (q : ℕ) → latest (withHighest minute s) q ≡ latest s q
+unfolding latest
+latest-at minute s q = refl
+
+done-latest : (k : Request) (s : Store) (buffer : List ℕ) → WellFormed s → Accepted (s .highest) (isOn s) (onCount s) k → (q : ℕ) → latest (carriedOut k s buffer .store) q ≡ latestBy k (latest s) q
+unfolding carriedOut latestBy signedOn reported isOn onCount
+done-latest k s buffer w (on-passed r f h i here off room late) q =
+    let s′ = withHighest (f .minute) s in
+    let w′ = later-well s w (f .minute) late in
     let g : Option Report → Option Report = λ _. some (record { fix = f; new = true }) in
-    settled-latest (f .place) (signedOn r f s) (on-core s w r f h i here off room) (put-bounded s w r h g f true refl) (w .tallied) (put-few s w r h g f true refl)
-    (put-boxes s w r h g f true refl) q
-    ∙ latest-on s (w .waiting-rises) r f h q
-done-latest k s buffer w (report-passed r f h i here on) q =
+    settled-latest (f .place) (signedOn r f s′) (on-core s′ w′ r f h i here off room (omega arith)) (put-bounded s′ w′ r h g f true refl) (w .tallied)
+    (put-few s′ w′ r h g f true refl) (put-boxes s′ w′ r h g f true refl) q
+    ∙ latest-on s′ (w .waiting-rises) r f h q ∙ ap (cond (eqb q r) (some f)) (latest-at (f .minute) s q)
+done-latest k s buffer w (report-passed r f h i here on late) q =
+    let s′ = withHighest (f .minute) s in
+    let w′ = later-well s w (f .minute) late in
     let g : Option Report → Option Report = λ o. some (record { fix = f; new = wasNew o }) in
     let b = wasNew (find (s .waiting) r) in
-    settled-latest (f .place) (reported r f s) (report-core s w r f h i here on) (put-bounded s w r h g f b refl) (w .tallied) (put-few s w r h g f b refl)
-    (put-boxes s w r h g f b refl) q
-    ∙ latest-report s (w .waiting-rises) r f h q
-done-latest k s buffer w (off-passed r h i on) q = latest-tick (signedOff r s) (off-core s w r h i on .books) q ∙ latest-off s (well-core s w) r h q
-done-latest k s buffer w (range-passed rect) q = ap (λ (t : Store). latest t q) (answered-store (found s rect) s buffer)
+    settled-latest (f .place) (reported r f s′) (report-core s′ w′ r f h i here on (omega arith)) (put-bounded s′ w′ r h g f b refl) (w .tallied)
+    (put-few s′ w′ r h g f b refl) (put-boxes s′ w′ r h g f b refl) q
+    ∙ latest-report s′ (w .waiting-rises) r f h q ∙ ap (cond (eqb q r) (some f)) (latest-at (f .minute) s q)
+done-latest k s buffer w (off-passed r minute h i on late) q =
+    let s′ = withHighest minute s in
+    let w′ = later-well s w minute late in
+    latest-tick (signedOff r s′) (off-core s′ w′ r h i on .books) q ∙ latest-off s′ (well-core s′ w′) r h q ∙ ap (cond (eqb q r) none) (latest-at minute s q)
+done-latest k s buffer w (range-passed rect minute) q = ap (λ (t : Store). latest t q) (answered-store (found s rect minute) s buffer)
 
 -- an accepted record gives its own radio its place, or takes it, whatever is flushed, split, joined or swept on the way; one turned down changes nothing
 pub step-latest : (s : Store) (bytes buffer : List ℕ) → Bytes bytes → WellFormed s → (q : ℕ)
-    → latest (carry s bytes buffer .store) q ≡ cond (eqb (refusal (isOn s) (onCount s) bytes) 0) (latestBy (requestOf bytes) (latest s) q) (latest s q)
+    → latest (carry s bytes buffer .store) q ≡ cond (eqb (refusal (s .highest) (isOn s) (onCount s) bytes) 0) (latestBy (requestOf bytes) (latest s) q) (latest s q)
 unfolding carry
 step-latest s bytes buffer small w q =
-    by-cases (eqb (refusal (isOn s) (onCount s) bytes) 0)
-    (λ t. rw t (done-latest (requestOf bytes) s buffer w (accepted (isOn s) (onCount s) bytes small (eqb-true (refusal (isOn s) (onCount s) bytes) 0 t)) q))
+    by-cases (eqb (refusal (s .highest) (isOn s) (onCount s) bytes) 0)
+    (λ t. rw t (done-latest (requestOf bytes) s buffer w (accepted (s .highest) (isOn s) (onCount s) bytes small (eqb-true (refusal (s .highest) (isOn s) (onCount s) bytes) 0 t)) q))
     (λ t. rw t)

@@ -1,5 +1,6 @@
 pub mod BooksLaws
 pub mod CutLaws
+pub mod DatedLaws
 pub mod FlushLaws
 pub mod LastingLaws
 pub mod LatestLaws

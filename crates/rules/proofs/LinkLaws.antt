@@ -17,11 +17,11 @@ use Rattle.lists.proofs.Cases.{by-cases, option-cases, false-true, isSome-true,
 use Rattle.lists.proofs.RowsLaws.{find-below, rising-less, find-alter, ext-find, sum-rows, rising-tab, find-tab, find-within, length-found}
 use Rattle.lists.proofs.SumsLaws.{sumTo-ext}
 use Rattle.rules.specs.Grid.{Rect, Cuts, Box, sameBox, boxOf}
-use Rattle.rules.specs.Store.{Report, Line, Store, withWaiting, withOn, fresh}
+use Rattle.rules.specs.Store.{Report, Line, Store, withWaiting, withOn, withHighest, fresh}
 use Rattle.rules.specs.Flush.{inBox}
 use Rattle.rules.specs.Records.{refusal}
 use Rattle.rules.specs.Carry.{isOn, onCount, wasNew, fixOf, liveIn, storedIn, latest, listed, listIf, listOf, found, waitingIn, boxToFlush, flushDue, signedOn, reported}
-use Rattle.rules.specs.Plain.{Plain, plainFresh, plainOn, plainOnCount, putAt, placeOf, waitsIn, plainIn, plainDue, plainPlace, plainRefusal, plainFound}
+use Rattle.rules.specs.Plain.{Plain, plainFresh, plainOn, plainOnCount, putAt, placeOf, waitsIn, plainIn, plainDue, plainPlace, plainAt, plainRefusal, plainFound}
 use Rattle.rules.specs.Parts.{Signed, Waits}
 
 pub record Link (s : Store) (x : Plain) : Type 0 where
@@ -36,6 +36,7 @@ pub record Link (s : Store) (x : Plain) : Type 0 where
   -- where nothing waits, the live entry has what the latest report told, or the radio is off
   pub quiet : (r : ℕ) → x .waits r ≡ false → storedIn (s .memo) r (s .cells) ≡ x .latest r
   pub waits-on : (r : ℕ) → x .waits r ≡ true → plainOn x r ≡ true
+  pub minute : s .highest ≡ x .highest
 
 pub fresh-link : Link fresh plainFresh
 unfolding fresh plainFresh isOn plainOn find storedIn liveIn both
@@ -47,6 +48,7 @@ fresh-link = record {
   lines = λ r l e. cc;
   quiet = λ r e. refl;
   waits-on = λ r e. e;
+  minute = refl;
 }
 
 -- ---- the same latest place
@@ -60,58 +62,59 @@ latest-same s x k r =
 
 -- ---- the same who is on
 
-pub refusal-same : (s : Store) (x : Plain) → Link s x → Signed (s .on) → (bytes : List ℕ) → refusal (isOn s) (onCount s) bytes ≡ plainRefusal x bytes
+pub refusal-same : (s : Store) (x : Plain) → Link s x → Signed (s .on) → (bytes : List ℕ) → refusal (s .highest) (isOn s) (onCount s) bytes ≡ plainRefusal x bytes
 unfolding plainRefusal plainOnCount onCount isOn
 refusal-same s x k g bytes =
-    ap₂ (λ (f : ℕ → Bool) (n : ℕ). refusal f n bytes) (fun-ext (k .on))
+    ap (λ (m : ℕ). refusal m (isOn s) (onCount s) bytes) (k .minute)
+    ∙ ap₂ (λ (f : ℕ → Bool) (n : ℕ). refusal (x .highest) f n bytes) (fun-ext (k .on))
     (length-found 0 maxRadio (s .on) (g .rising-on) (g .radios-on) ∙ sumTo-ext (suc maxRadio) _ _ (λ r h. ap one-if (k .on r)))
 
 -- ---- the same list
 
-abbrev placeIn : Rect → Option Fix → Option Place
-placeIn rect none = none
-placeIn rect (some f) = cond (listed rect f) (some (f .place)) none
+abbrev placeIn : Rect → ℕ → Option Fix → Option Place
+placeIn rect minute none = none
+placeIn rect minute (some f) = cond (listed rect minute f) (some (f .place)) none
 
-module _ (rect : Rect) (f : ℕ → Option Fix) where
-  rising-listIf : (b r : ℕ) (o : Option Fix) (l : Rows Place) → b < r → Rising r l → Rising b (listIf rect r o l)
+module _ (rect : Rect) (minute : ℕ) (f : ℕ → Option Fix) where
+  rising-listIf : (b r : ℕ) (o : Option Fix) (l : Rows Place) → b < r → Rising r l → Rising b (listIf rect minute r o l)
   rising-listIf b r none l h a = rising-less b r l (omega arith) a
-  rising-listIf b r (some g) l h a = by-cases (listed rect g) (λ t. rw t (h, a)) (λ t. rw t (rising-less b r l (omega arith) a))
+  rising-listIf b r (some g) l h a = by-cases (listed rect minute g) (λ t. rw t (h, a)) (λ t. rw t (rising-less b r l (omega arith) a))
 
-  pub rising-listOf : (b : ℕ) (l : Rows (Unit {0})) → Rising b l → Rising b (listOf rect f l)
+  pub rising-listOf : (b : ℕ) (l : Rows (Unit {0})) → Rising b l → Rising b (listOf rect minute f l)
   unfolding listOf
   rising-listOf b [] a = tt
-  rising-listOf b (x ∷ xs) a = rising-listIf b (x .key) (f (x .key)) (listOf rect f xs) (a .0) (rising-listOf (x .key) xs (a .1))
+  rising-listOf b (x ∷ xs) a = rising-listIf b (x .key) (f (x .key)) (listOf rect minute f xs) (a .0) (rising-listOf (x .key) xs (a .1))
 
-  find-listIf-same : (r : ℕ) (o : Option Fix) (l : Rows Place) → Rising r l → find (listIf rect r o l) r ≡ placeIn rect o
+  find-listIf-same : (r : ℕ) (o : Option Fix) (l : Rows Place) → Rising r l → find (listIf rect minute r o l) r ≡ placeIn rect minute o
   unfolding find
   find-listIf-same r none l a = find-below r r l (omega arith) a
-  find-listIf-same r (some g) l a = by-cases (listed rect g) (λ t. rw (t, eq-eqb r r refl)) (λ t. rw t (find-below r r l (omega arith) a))
+  find-listIf-same r (some g) l a = by-cases (listed rect minute g) (λ t. rw (t, eq-eqb r r refl)) (λ t. rw t (find-below r r l (omega arith) a))
 
-  find-listIf-other : (r q : ℕ) (o : Option Fix) (l : Rows Place) → eqb q r ≡ false → find (listIf rect r o l) q ≡ find l q
+  find-listIf-other : (r q : ℕ) (o : Option Fix) (l : Rows Place) → eqb q r ≡ false → find (listIf rect minute r o l) q ≡ find l q
   unfolding find
   find-listIf-other r q none l e = refl
-  find-listIf-other r q (some g) l e = by-cases (listed rect g) (λ t. rw (t, e)) (λ t. rw t)
+  find-listIf-other r q (some g) l e = by-cases (listed rect minute g) (λ t. rw (t, e)) (λ t. rw t)
 
-  find-listOf : (b q : ℕ) (l : Rows (Unit {0})) → Rising b l → find (listOf rect f l) q ≡ cond (isSome (find l q)) (placeIn rect (f q)) none
+  find-listOf : (b q : ℕ) (l : Rows (Unit {0})) → Rising b l → find (listOf rect minute f l) q ≡ cond (isSome (find l q)) (placeIn rect minute (f q)) none
   unfolding listOf find
   find-listOf b q [] a = refl
   find-listOf b q (x ∷ xs) a =
       by-cases (eqb q (x .key))
-      (λ t. rw (t, eqb-true q (x .key) t) (find-listIf-same (x .key) (f (x .key)) (listOf rect f xs) (rising-listOf (x .key) xs (a .1))))
-      (λ t. rw t (find-listIf-other (x .key) q (f (x .key)) (listOf rect f xs) t ∙ find-listOf (x .key) q xs (a .1)))
+      (λ t. rw (t, eqb-true q (x .key) t) (find-listIf-same (x .key) (f (x .key)) (listOf rect minute f xs) (rising-listOf (x .key) xs (a .1))))
+      (λ t. rw t (find-listIf-other (x .key) q (f (x .key)) (listOf rect minute f xs) t ∙ find-listOf (x .key) q xs (a .1)))
 
-pub found-same : (s : Store) (x : Plain) → Link s x → Signed (s .on) → (rect : Rect) → found s rect ≡ plainFound x rect
+pub found-same : (s : Store) (x : Plain) → Link s x → Signed (s .on) → (rect : Rect) (minute : ℕ) → found s rect minute ≡ plainFound x rect minute
 unfolding found plainFound isOn plainOn
-found-same s x k g rect =
+found-same s x k g rect minute =
     let all : Rows (Unit {0}) = tab maxRadio (λ i. record { key = suc i; val = tt }) in
     let rises : Rising 0 all = rising-tab maxRadio 0 suc (λ _. tt) (λ i. omega arith) in
-    ap (λ (f : ℕ → Option Fix). listOf rect f (s .on)) (fun-ext (latest-same s x k))
-    ∙ ext-find 0 (listOf rect (x .latest) (s .on)) (listOf rect (x .latest) all) (rising-listOf rect (x .latest) 0 (s .on) (g .rising-on)) (rising-listOf rect (x .latest) 0 all rises)
-    (λ r. find-listOf rect (x .latest) 0 r (s .on) (g .rising-on) ∙ option-cases (x .latest r)
-    (λ e. rw e (never (isSome (find (s .on) r)) ∙ sym (rw (find-listOf rect (x .latest) 0 r all rises, e) (never (isSome (find all r))))))
+    ap (λ (f : ℕ → Option Fix). listOf rect minute f (s .on)) (fun-ext (latest-same s x k))
+    ∙ ext-find 0 (listOf rect minute (x .latest) (s .on)) (listOf rect minute (x .latest) all) (rising-listOf rect minute (x .latest) 0 (s .on) (g .rising-on)) (rising-listOf rect minute (x .latest) 0 all rises)
+    (λ r. find-listOf rect minute (x .latest) 0 r (s .on) (g .rising-on) ∙ option-cases (x .latest r)
+    (λ e. rw e (never (isSome (find (s .on) r)) ∙ sym (rw (find-listOf rect minute (x .latest) 0 r all rises, e) (never (isSome (find all r))))))
     (λ p e. let o : isSome (find (s .on) r) ≡ true = k .on r ∙ ap isSome e in
     let w = find-within 0 maxRadio r (s .on) (g .rising-on) (g .radios-on) o in
-    rw o (sym (rw (find-listOf rect (x .latest) 0 r all rises, find-tab maxRadio 0 r suc (λ _. tt {0}) (λ i. omega arith) (w .0) (w .1))))))
+    rw o (sym (rw (find-listOf rect minute (x .latest) 0 r all rises, find-tab maxRadio 0 r suc (λ _. tt {0}) (λ i. omega arith) (w .0) (w .1))))))
   where
     never : (b : Bool) → _≡_ {A = Option Place} (cond b none none) none
     never true = refl
@@ -162,6 +165,13 @@ length-waiting s x k w =
 pub due-same : (s : Store) (x : Plain) → Link s x → Waits (s .waiting) (s .on) → (p : Place) → flushDue s p ≡ plainDue (s .cuts) x p
 unfolding flushDue plainDue
 due-same s x k w p = ap₂ (λ (f : Box → ℕ) (n : ℕ). boxToFlush (s .cuts) f n p) (fun-ext (waitingIn-same s x k w)) (length-waiting s x k w)
+
+-- ---- a minute remembered
+
+pub link-at : (minute : ℕ) (s : Store) (x : Plain) → Link s x → Link (withHighest minute s) (plainAt minute x)
+unfolding isOn plainOn
+link-at minute s x k =
+    record { on = k .on; waiting = k .waiting; marked = k .marked; stored = k .stored; lines = k .lines; quiet = k .quiet; waits-on = k .waits-on; minute = refl }
 
 -- ---- a record's own effect
 
@@ -214,6 +224,7 @@ module _ (s : Store) (x : Plain) (k : Link s x) (r : ℕ) (f : Fix) (h : 0 < r) 
     lines = k .lines;
     quiet = quiet-place;
     waits-on = waits-place;
+    minute = k .minute;
   }
 
 pub link-on : (s : Store) (x : Plain) → Link s x → (r : ℕ) (f : Fix) → 1 ≤ r → Signed (s .on) → Waits (s .waiting) (s .on) → isOn s r ≡ false

@@ -13,7 +13,7 @@ use Rattle.lists.specs.Rows.{Row, Rows, Rising, find, alter, merge, passed}
 use Rattle.lists.specs.Sums.{sumBy, filter}
 use Rattle.lists.specs.Tests.{one-if, both, either, isSome, orElse, Each}
 use Rattle.lists.proofs.Cases.{by-cases, option-cases, none-some}
-use Rattle.lists.proofs.TestsLaws.{both-true, true-both, both-left-false, one-if-both-le, one-if-le, one-if-either, one-if-false}
+use Rattle.lists.proofs.TestsLaws.{both-intro, both-left, both-right, both-true, true-both, both-left-false, one-if-both-le, one-if-le, one-if-either, one-if-false}
 use Rattle.lists.proofs.SumsLaws.{sum-cons, sum-append, sum-ext, sum-le, sum-zero}
 use Rattle.lists.proofs.RowsLaws.{find-below, rising-alter, find-alter, rising-filter, find-filter}
 use Rattle.rules.specs.Grid.{samePlace, inside, Box}
@@ -136,13 +136,16 @@ none-counted memo r (c ∷ cs) h =
     (λ p e. let z : _≡_ {A = Option Fix} (some p) none = rw (stored-step memo r c cs, e) at h in cc)
 
 abbrev sameFix : Fix → Fix → Bool
-sameFix f g = samePlace (f .place) (g .place)
+sameFix f g = both (samePlace (f .place) (g .place)) (eqb (f .minute) (g .minute))
 
 sameFix-refl : (f : Fix) → sameFix f f ≡ true
-sameFix-refl f = samePlace-refl (f .place)
+sameFix-refl f = both-intro (samePlace-refl (f .place)) (eq-eqb (f .minute) (f .minute) refl)
 
 sameFix-true : (f g : Fix) → sameFix f g ≡ true → f ≡ g
-sameFix-true f g s = ap (λ (p : Place). record { place = p }) (samePlace-true (f .place) (g .place) s)
+sameFix-true f g s =
+    let p = samePlace-true (f .place) (g .place) (both-left _ _ s) in
+    let m = eqb-true (f .minute) (g .minute) (both-right _ _ s) in
+    λ i. record { place = p i; minute = m i }
 
 -- one live entry, f: the test "is it f?" tells that the first one is f, the test that all pass that no other follows
 pub stored-at : (memo : Rows Line) (r : ℕ) (cells : List Cell) (f : Fix) → ((t : Fix → Bool) → liveBy t memo r cells ≡ one-if (t f)) → storedIn memo r cells ≡ some f

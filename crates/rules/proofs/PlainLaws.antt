@@ -7,9 +7,9 @@ use Prim.Native.Nat.{ℕ, _+_, _≤_, _<_}
 use native.Mathlib.Omega.{arith}
 use lib.ListN.{length}
 use lib.Dec.{eqb, ltb}
-use borrow.Author.Tests.{eqb-true, eqb-false}
+use borrow.Author.Tests.{eqb-true}
 use Rattle.terms.specs.Terms.{Place, Fix}
-use Rattle.lists.specs.Rows.{Rows, Rising, find, alter}
+use Rattle.lists.specs.Rows.{Rows, Rising, find}
 use Rattle.lists.specs.Sums.{filter}
 use Rattle.lists.specs.Tests.{both, isSome}
 use Rattle.lists.proofs.Cases.{by-cases, option-cases, list-cases, none-some, isSome-false, false-true}
@@ -17,23 +17,23 @@ use Rattle.lists.proofs.TestsLaws.{both-right, not-true}
 use Rattle.lists.proofs.RowsLaws.{find-alter, find-filter, rising-filter}
 use Rattle.rules.specs.Limits.{sweepEvery, fullBox, fullMemory}
 use Rattle.rules.specs.Grid.{Box, cornerOf, inside, sameBox, boxOf}
-use Rattle.rules.specs.Store.{Report, Line, Cell, Store}
+use Rattle.rules.specs.Store.{Report, Line, Cell, Store, withHighest}
 use Rattle.rules.specs.Sweep.{sweptEntries, swept, sweptMemo, sweepFront, tick}
 use Rattle.rules.specs.Flush.{raised, entered, inBox, Flushed, flushedInto, flush}
 use Rattle.rules.specs.Carry.{isOn, wasNew, fixOf, storedIn, signedOff, flushDue, afterReport, onCount, waitingIn, signedOn, reported, found, carriedOut, carry}
-use Rattle.rules.specs.Plain.{Plain, plainOn, placeOf, plainIn, plainFlush, plainAfter, plainOff, plainPlace, plainDone, plainStep}
+use Rattle.rules.specs.Plain.{Plain, plainOn, placeOf, plainIn, plainFlush, plainAfter, plainOff, plainPlace, plainAt, plainDone, plainStep}
 use Rattle.rules.specs.WellFormed.{WellFormed}
 use Rattle.rules.specs.Records.{Request, requestOf, refusal}
 use Rattle.rules.specs.Parts.{Books, Core, marks, onSet, Bounded}
 use Rattle.lists.specs.Words.{Bytes}
 use Rattle.lists.specs.Among.{Among}
-use Rattle.rules.proofs.WellLaws.{well-core}
+use Rattle.rules.proofs.WellLaws.{well-core, later-well}
 use Rattle.rules.proofs.LiveLaws.{find-enterEach-memo, sweptMemo-last}
 use Rattle.rules.proofs.FlushLaws.{report-found}
 use Rattle.rules.proofs.RecordLaws.{Accepted, on-passed, report-passed, off-passed, range-passed, accepted}
 use Rattle.rules.proofs.StepLaws.{report-done, on-core, report-core, off-core, put-few, put-boxes, put-bounded, answered-store}
 use Rattle.rules.proofs.LatestLaws.{Leaves, swept-others, books-others, stored-in, stored-out, flushes, front-books, stored-front, stored-off}
-use Rattle.rules.proofs.LinkLaws.{Link, due-same, link-on, link-report, refusal-same}
+use Rattle.rules.proofs.LinkLaws.{Link, due-same, link-at, link-on, link-report, refusal-same}
 
 -- ---- sign-off
 
@@ -59,6 +59,7 @@ link-off s x k r h w = record {
       (λ t. rw t (λ e. k .lines q l e))));
   quiet = λ q e. stored-off s (well-core s w) r h q ∙ by-cases (eqb q r) (λ t. rw t) (λ t. rw t (k .quiet q (rw t at e)));
   waits-on = λ q. by-cases (eqb q r) (λ t. rw t (λ e. cc)) (λ t. rw t (k .waits-on q));
+  minute = k .minute;
 }
 
 -- ---- the tally
@@ -76,13 +77,14 @@ module _ (s : Store) (x : Plain) (k : Link s x) (b : Books (s .cells) (s .memo) 
         sym (o .2) ∙ k .lines q (o .0) (o .1);
     quiet = λ q f. stored-front s b d cs e q ∙ k .quiet q f;
     waits-on = k .waits-on;
+    minute = k .minute;
   }
 
 pub link-tick : (s : Store) (x : Plain) → Link s x → Books (s .cells) (s .memo) (marks (s .waiting)) (onSet (s .on)) → Link (tick s) x
 unfolding tick isOn
 link-tick s x k b =
     by-cases (ltb (s .tally + 1) sweepEvery)
-    (λ t. rw t (record { on = k .on; waiting = k .waiting; marked = k .marked; stored = k .stored; lines = k .lines; quiet = k .quiet; waits-on = k .waits-on }))
+    (λ t. rw t (record { on = k .on; waiting = k .waiting; marked = k .marked; stored = k .stored; lines = k .lines; quiet = k .quiet; waits-on = k .waits-on; minute = k .minute }))
     (λ t. rw t (list-cases (s .cells)
     (λ e. subst (λ (l : List Cell). Link (sweepFront l s) x) (sym e) (unfold sweepFront in k))
     (λ d cs e. subst (λ (l : List Cell). Link (sweepFront l s) x) (sym e) (link-front s x k b d cs e))))
@@ -194,8 +196,12 @@ module _ (s : Store) (x : Plain) (k : Link s x) (m : Box) (d : Cell) (c : Core s
     lines = λ q l e. let o = v .lines q l e in sym (o .2) ∙ flushed-line q (o .0) (o .1);
     quiet = λ q e. flushed-stored t v q ∙ by-cases (plainIn (s .cuts) x m q) (λ u. rw u) (λ u. rw u (k .quiet q (rw u at e)));
     waits-on = λ q. by-cases (plainIn (s .cuts) x m q) (λ u. rw u false-true) (λ u. rw u (k .waits-on q));
+    minute = v .minute ∙ flushed-minute ∙ k .minute;
   }
     where
+      flushed-minute : flushedHere .store .highest ≡ s .highest
+      flushed-minute = unfold flushedInto in refl
+
       flushed-on : flushedHere .store .on ≡ s .on
       flushed-on = unfold flushedInto in refl
 
@@ -222,25 +228,34 @@ report-link : (p : Place) (s : Store) (x : Plain) → Link s x → Core s → Bo
 report-link p s x l k b t few boxes =
     link-tick (afterReport p s) (plainAfter (s .cuts) p x) (link-after p s x l k) (report-done p s (s .tally + 1) k b (omega arith) few boxes .mid .core .books)
 
-done-link : (q : Request) (s : Store) (x : Plain) (buffer : List ℕ) → WellFormed s → Link s x → Accepted (isOn s) (onCount s) q
+done-link : (q : Request) (s : Store) (x : Plain) (buffer : List ℕ) → WellFormed s → Link s x → Accepted (s .highest) (isOn s) (onCount s) q
     → Link (carriedOut q s buffer .store) (plainDone (s .cuts) q x)
-unfolding carriedOut plainDone signedOn reported
-done-link q s x buffer w l (on-passed r f h k i off room) =
+unfolding carriedOut plainDone signedOn reported isOn onCount
+done-link q s x buffer w l (on-passed r f h k i off room late) =
+    let s′ = withHighest (f .minute) s in
+    let w′ = later-well s w (f .minute) late in
+    let x′ = plainAt (f .minute) x in
     let g : Option Report → Option Report = λ _. some (record { fix = f; new = true }) in
-    report-link (f .place) (signedOn r f s) (plainPlace r f x) (link-on s x l r f h (well-core s w .signed) (well-core s w .waits) off)
-    (on-core s w r f h k i off room) (put-bounded s w r h g f true refl) (w .tallied) (put-few s w r h g f true refl) (put-boxes s w r h g f true refl)
-done-link q s x buffer w l (report-passed r f h k i on) =
+    report-link (f .place) (signedOn r f s′) (plainPlace r f x′) (link-on s′ x′ (link-at (f .minute) s x l) r f h (well-core s w .signed) (well-core s w .waits) off)
+    (on-core s′ w′ r f h k i off room (omega arith)) (put-bounded s′ w′ r h g f true refl) (w .tallied) (put-few s′ w′ r h g f true refl) (put-boxes s′ w′ r h g f true refl)
+done-link q s x buffer w l (report-passed r f h k i on late) =
+    let s′ = withHighest (f .minute) s in
+    let w′ = later-well s w (f .minute) late in
+    let x′ = plainAt (f .minute) x in
     let g : Option Report → Option Report = λ o. some (record { fix = f; new = wasNew o }) in
     let b = wasNew (find (s .waiting) r) in
-    report-link (f .place) (reported r f s) (plainPlace r f x) (link-report s x l r f h (well-core s w .waits) on)
-    (report-core s w r f h k i on) (put-bounded s w r h g f b refl) (w .tallied) (put-few s w r h g f b refl) (put-boxes s w r h g f b refl)
-done-link q s x buffer w l (off-passed r h k on) = link-tick (signedOff r s) (plainOff r x) (link-off s x l r h w) (off-core s w r h k on .books)
-done-link q s x buffer w l (range-passed rect) = subst (λ (t : Store). Link t x) (sym (answered-store (found s rect) s buffer)) l
+    report-link (f .place) (reported r f s′) (plainPlace r f x′) (link-report s′ x′ (link-at (f .minute) s x l) r f h (well-core s w .waits) on)
+    (report-core s′ w′ r f h k i on (omega arith)) (put-bounded s′ w′ r h g f b refl) (w .tallied) (put-few s′ w′ r h g f b refl) (put-boxes s′ w′ r h g f b refl)
+done-link q s x buffer w l (off-passed r minute h k on late) =
+    let s′ = withHighest minute s in
+    let w′ = later-well s w minute late in
+    link-tick (signedOff r s′) (plainOff r (plainAt minute x)) (link-off s′ (plainAt minute x) (link-at minute s x l) r h w′) (off-core s′ w′ r h k on .books)
+done-link q s x buffer w l (range-passed rect minute) = subst (λ (t : Store). Link t x) (sym (answered-store (found s rect minute) s buffer)) l
 
 pub step-link : (s : Store) (x : Plain) (bytes buffer : List ℕ) → Bytes bytes → WellFormed s → Link s x
     → Link (carry s bytes buffer .store) (plainStep (s .cuts) bytes x)
 unfolding carry plainStep
 step-link s x bytes buffer small w l =
-    rw (← refusal-same s x l (well-core s w .signed) bytes) (by-cases (eqb (refusal (isOn s) (onCount s) bytes) 0)
-    (λ t. rw t (done-link (requestOf bytes) s x buffer w l (accepted (isOn s) (onCount s) bytes small (eqb-true (refusal (isOn s) (onCount s) bytes) 0 t))))
+    rw (← refusal-same s x l (well-core s w .signed) bytes) (by-cases (eqb (refusal (s .highest) (isOn s) (onCount s) bytes) 0)
+    (λ t. rw t (done-link (requestOf bytes) s x buffer w l (accepted (s .highest) (isOn s) (onCount s) bytes small (eqb-true (refusal (s .highest) (isOn s) (onCount s) bytes) 0 t))))
     (λ t. rw t l))

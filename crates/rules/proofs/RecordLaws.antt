@@ -18,18 +18,18 @@ use Rattle.lists.proofs.TestsLaws.{either-left, either-right, either-false, bot
 use Rattle.lists.proofs.WordsLaws.{word-small}
 use Rattle.rules.specs.Grid.{Rect}
 use Rattle.rules.specs.Store.{Report}
-use Rattle.rules.specs.Records.{Request, signOn, report, signOff, range, requestOf, kindField, radioField, placeField, fixField, rectField, kindSignOn, kindReport, kindSignOff, kindRange, notAtHand, unknownKind, wrongLength, noRadio, noFix, reversed, onAlready, notOn, noRoom, refusal}
+use Rattle.rules.specs.Records.{Request, signOn, report, signOff, range, requestOf, kindField, radioField, placeField, minuteField, fixField, rectField, kindSignOn, kindReport, kindSignOff, kindRange, notAtHand, unknownKind, wrongLength, noRadio, noFix, tooEarly, reversed, onAlready, notOn, noRoom, refusal}
 use Rattle.rules.specs.WellFormed.{InSquare}
 use Rattle.rules.specs.Parts.{Signed, Waits}
 
 -- ---- the checks passed
 
 -- what an accepted record asks, with what the checks showed of it
-pub data Accepted (on : ℕ → Bool) (howMany : ℕ) : Request → Type 0 where
-  on-passed : (r : ℕ) (f : Fix) → 1 ≤ r → r ≤ maxRadio → InSquare (f .place) → on r ≡ false → howMany < maxOn → Accepted on howMany (signOn r f)
-  report-passed : (r : ℕ) (f : Fix) → 1 ≤ r → r ≤ maxRadio → InSquare (f .place) → on r ≡ true → Accepted on howMany (report r f)
-  off-passed : (r : ℕ) → 1 ≤ r → r ≤ maxRadio → on r ≡ true → Accepted on howMany (signOff r)
-  range-passed : (rect : Rect) → Accepted on howMany (range rect)
+pub data Accepted (highest : ℕ) (on : ℕ → Bool) (howMany : ℕ) : Request → Type 0 where
+  on-passed : (r : ℕ) (f : Fix) → 1 ≤ r → r ≤ maxRadio → InSquare (f .place) → on r ≡ false → howMany < maxOn → highest ≤ f .minute → Accepted highest on howMany (signOn r f)
+  report-passed : (r : ℕ) (f : Fix) → 1 ≤ r → r ≤ maxRadio → InSquare (f .place) → on r ≡ true → highest ≤ f .minute → Accepted highest on howMany (report r f)
+  off-passed : (r minute : ℕ) → 1 ≤ r → r ≤ maxRadio → on r ≡ true → highest ≤ minute → Accepted highest on howMany (signOff r minute)
+  range-passed : (rect : Rect) (minute : ℕ) → Accepted highest on howMany (range rect minute)
 
 -- the first of the checks passed, and so did the rest
 first-passed : (t : Bool) {n m : ℕ} → 0 < n → cond t n m ≡ 0 → (t ≡ false) × (m ≡ 0)
@@ -41,26 +41,28 @@ unfolding placeField fixField
 place-small b small = (let h = word-small b 6 small in omega arith, let h = word-small b 8 small in omega arith)
 
 -- a record that is carried out fails none of them
-pub record Passed (on : ℕ → Bool) (howMany : ℕ) (b : List ℕ) : Type 0 where
+pub record Passed (highest : ℕ) (on : ℕ → Bool) (howMany : ℕ) (b : List ℕ) : Type 0 where
   pub at-hand : notAtHand b ≡ false
   pub kind : unknownKind b ≡ false
   pub long : wrongLength b ≡ false
   pub radio : noRadio b ≡ false
   pub fix : noFix b ≡ false
+  pub late : tooEarly highest b ≡ false
   pub edges : reversed b ≡ false
   pub was-off : onAlready on b ≡ false
   pub was-on : notOn on b ≡ false
   pub room : noRoom howMany b ≡ false
 
-pub passed : (on : ℕ → Bool) (howMany : ℕ) (b : List ℕ) → refusal on howMany b ≡ 0 → Passed on howMany b
+pub passed : (highest : ℕ) (on : ℕ → Bool) (howMany : ℕ) (b : List ℕ) → refusal highest on howMany b ≡ 0 → Passed highest on howMany b
 unfolding refusal
-passed on howMany b zero =
+passed highest on howMany b zero =
     let t₃ = first-passed (notAtHand b) (omega arith) zero in
     let t₄ = first-passed (unknownKind b) (omega arith) (t₃ .1) in
     let t₅ = first-passed (wrongLength b) (omega arith) (t₄ .1) in
     let t₆ = first-passed (noRadio b) (omega arith) (t₅ .1) in
     let t₁₂ = first-passed (noFix b) (omega arith) (t₆ .1) in
-    let t₇ = first-passed (reversed b) (omega arith) (t₁₂ .1) in
+    let t₁₃ = first-passed (tooEarly highest b) (omega arith) (t₁₂ .1) in
+    let t₇ = first-passed (reversed b) (omega arith) (t₁₃ .1) in
     let t₈ = first-passed (onAlready on b) (omega arith) (t₇ .1) in
     let t₉ = first-passed (notOn on b) (omega arith) (t₈ .1) in
     let t₁₀ = first-passed (noRoom howMany b) (omega arith) (t₉ .1) in
@@ -70,36 +72,38 @@ passed on howMany b zero =
       long = t₅ .0;
       radio = t₆ .0;
       fix = t₁₂ .0;
+      late = t₁₃ .0;
       edges = t₇ .0;
       was-off = t₈ .0;
       was-on = t₉ .0;
       room = t₁₀ .0;
     }
 
-module _ (on : ℕ → Bool) (howMany : ℕ) (b : List ℕ) (small : Bytes b) where
+module _ (highest : ℕ) (on : ℕ → Bool) (howMany : ℕ) (b : List ℕ) (small : Bytes b) where
   radio-small : kindField b < kindRange → noRadio b ≡ false → (1 ≤ radioField b) × (radioField b ≤ maxRadio)
   unfolding noRadio
   radio-small h e =
       let t = either-false _ _ (both-second _ _ (lt-ltb (kindField b) kindRange h) e) in
       (let u = eqb-false (radioField b) 0 (t .0) in omega (arith, u), ltb-false maxRadio (radioField b) (t .1))
 
-  pub accepted : refusal on howMany b ≡ 0 → Accepted on howMany (requestOf b)
-  unfolding requestOf onAlready notOn noRoom
+  pub accepted : refusal highest on howMany b ≡ 0 → Accepted highest on howMany (requestOf b)
+  unfolding requestOf fixField onAlready notOn noRoom tooEarly
   accepted e =
-      let t = passed on howMany b e in
+      let t = passed highest on howMany b e in
+      let late = ltb-false (minuteField b) highest (t .late) in
       by-cases (eqb (kindField b) kindSignOn)
       (λ k. let z = eqb-true (kindField b) kindSignOn k in
       let r = radio-small (omega arith) (t .radio) in
-      rw k (on-passed (radioField b) (fixField b) (r .0) (r .1) (place-small b small) (both-second _ _ k (t .was-off)) (leb-false maxOn howMany (both-second _ _ k (t .room)))))
+      rw k (on-passed (radioField b) (fixField b) (r .0) (r .1) (place-small b small) (both-second _ _ k (t .was-off)) (leb-false maxOn howMany (both-second _ _ k (t .room))) late))
       (λ k. by-cases (eqb (kindField b) kindReport)
       (λ l. let z = eqb-true (kindField b) kindReport l in
       let r = radio-small (omega arith) (t .radio) in
-      rw (k, l) (report-passed (radioField b) (fixField b) (r .0) (r .1) (place-small b small) (not-false _ (both-second _ _ (either-left _ l) (t .was-on)))))
+      rw (k, l) (report-passed (radioField b) (fixField b) (r .0) (r .1) (place-small b small) (not-false _ (both-second _ _ (either-left _ l) (t .was-on))) late))
       (λ l. by-cases (eqb (kindField b) kindSignOff)
       (λ m. let z = eqb-true (kindField b) kindSignOff m in
       let r = radio-small (omega arith) (t .radio) in
-      rw (k, l, m) (off-passed (radioField b) (r .0) (r .1) (not-false _ (both-second _ _ (either-right _ m) (t .was-on)))))
-      (λ m. rw (k, l, m) (range-passed (rectField b)))))
+      rw (k, l, m) (off-passed (radioField b) (minuteField b) (r .0) (r .1) (not-false _ (both-second _ _ (either-right _ m) (t .was-on))) late))
+      (λ m. rw (k, l, m) (range-passed (rectField b) (minuteField b)))))
 
 -- ---- who is on
 

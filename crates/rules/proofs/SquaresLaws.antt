@@ -1,6 +1,6 @@
 -- Counts of squares that share a line add up: a coordinate lies in the one part or in the other, so a place does, so a list is parted.
 use mathlib.Core.Path.{_≡_, refl}
-use mathlib.Core.Bool.{Bool, true, false}
+use mathlib.Core.Bool.{Bool, true, false, not}
 use mathlib.Core.List.{List, [], _∷_}
 use mathlib.Core.Option.{Option, none, some}
 use Prim.Native.Nat.{ℕ, _+_, _≤_, _<_}
@@ -11,10 +11,11 @@ use Rattle.terms.specs.Terms.{Place, Fix}
 use Rattle.lists.specs.Rows.{Row, Rows, Rising}
 use Rattle.lists.specs.Sums.{sumBy, keep}
 use Rattle.lists.specs.Tests.{one-if, both, either}
+use Rattle.lists.proofs.TestsLaws.{both-true}
 use Rattle.lists.proofs.Cases.{by-cases}
 use Rattle.rules.specs.Limits.{lastMetre}
 use Rattle.rules.specs.Grid.{Axis, eastward, northward, takesIn, Rect, covers}
-use Rattle.rules.specs.Carry.{listIf, listOf}
+use Rattle.rules.specs.Carry.{tooOld, listed, listIf, listOf}
 use Rattle.rules.specs.Squares.{lowPart, highPart, CutAt, AddUp, timesIn, NotTwice}
 use Rattle.rules.proofs.LinkLaws.{rising-listOf}
 
@@ -65,18 +66,27 @@ keep-parted f x l l₁ l₂ false true a₂ e h = absurd (omega (arith, e))
 keep-parted f x l l₁ l₂ false false true e h = absurd (omega (arith, e))
 keep-parted f x l l₁ l₂ false false false e h = h
 
-module _ (axis : Axis) (r : Rect) (c : ℕ) (k : CutAt axis r c) (f : Row Place → ℕ) where
+-- a further test that is the same for all three
+both-parted : (b a a₁ a₂ : Bool) → one-if a ≡ one-if a₁ + one-if a₂ → one-if (both a b) ≡ one-if (both a₁ b) + one-if (both a₂ b)
+both-parted true a a₁ a₂ e = rw (both-true a, both-true a₁, both-true a₂) e
+both-parted false a a₁ a₂ e = rw (both-false a, both-false a₁, both-false a₂) refl
+  where
+    both-false : (c : Bool) → both c false ≡ false
+    both-false true = unfold both in refl
+    both-false false = unfold both in refl
+
+module _ (minute : ℕ) (axis : Axis) (r : Rect) (c : ℕ) (k : CutAt axis r c) (f : Row Place → ℕ) where
   row-parted : (radio : ℕ) (o : Option Fix) (l l₁ l₂ : Rows Place) → sumBy f l ≡ sumBy f l₁ + sumBy f l₂
-      → sumBy f (listIf r radio o l) ≡ sumBy f (listIf (lowPart axis c r) radio o l₁) + sumBy f (listIf (highPart axis c r) radio o l₂)
+      → sumBy f (listIf r minute radio o l) ≡ sumBy f (listIf (lowPart axis c r) minute radio o l₁) + sumBy f (listIf (highPart axis c r) minute radio o l₂)
   row-parted radio none l l₁ l₂ h = h
   row-parted radio (some g) l l₁ l₂ h =
-      let p : Place = g .place in
-      keep-parted f (record { key = radio; val = p }) l l₁ l₂ (covers r p) (covers (lowPart axis c r) p) (covers (highPart axis c r) p) (covers-parted axis r c k p) h
+      keep-parted f (record { key = radio; val = g .place }) l l₁ l₂ (listed r minute g) (listed (lowPart axis c r) minute g) (listed (highPart axis c r) minute g)
+      (both-parted (not (tooOld minute g)) _ _ _ (covers-parted axis r c k (g .place))) h
 
 pub add-up : AddUp
 unfolding listOf
-add-up latest [] axis r c k f = unfold sumBy in refl
-add-up latest (x ∷ xs) axis r c k f = row-parted axis r c k f (x .key) (latest (x .key)) _ _ _ (add-up latest xs axis r c k f)
+add-up minute latest [] axis r c k f = unfold sumBy in refl
+add-up minute latest (x ∷ xs) axis r c k f = row-parted minute axis r c k f (x .key) (latest (x .key)) _ _ _ (add-up minute latest xs axis r c k f)
 
 -- ---- no radio twice
 
@@ -97,7 +107,7 @@ times-once b radio (x ∷ xs) a =
     (λ t. rw t (omega (arith, times-once (x .key) radio xs (a .1))))
 
 pub not-twice : NotTwice
-not-twice latest on a axis r c k radio =
-    let e = add-up latest on axis r c k (λ x. one-if (eqb radio (x .key))) in
-    let once = times-once 0 radio (listOf r latest on) (rising-listOf r latest 0 on a) in
+not-twice minute latest on a axis r c k radio =
+    let e = add-up minute latest on axis r c k (λ x. one-if (eqb radio (x .key))) in
+    let once = times-once 0 radio (listOf r minute latest on) (rising-listOf r minute latest 0 on a) in
     omega (arith, e, once)

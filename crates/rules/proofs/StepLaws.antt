@@ -17,15 +17,16 @@ use Rattle.lists.proofs.RowsLaws.{find-alter, length-alter, length-alter-le}
 use Rattle.lists.proofs.TestsLaws.{both-intro, one-if-le}
 use Rattle.rules.specs.Limits.{fullBox, fullMemory, sweepEvery}
 use Rattle.rules.specs.Grid.{Box, sameBox, boxOf, cornerOf}
-use Rattle.rules.specs.Store.{Report, Cell, Store, settled}
+use Rattle.rules.specs.Store.{Report, Cell, Store, settled, withHighest}
 use Rattle.rules.specs.Sweep.{swept, sweptMemo, sweepFront, counted, tick}
 use Rattle.rules.specs.Flush.{flushedInto, reshaped, cellOfBox, flush}
 use Rattle.rules.specs.Records.{Request, requestOf, refusal}
 use Rattle.rules.specs.Carry.{isOn, onCount, wasNew, signedOn, reported, signedOff, waitingIn, flushDue, afterReport, found, listBytes, answered, carriedOut, carry}
-use Rattle.rules.specs.WellFormed.{InSquare, WellFormed}
+use Rattle.rules.specs.WellFormed.{InSquare, EntriesDated, WellFormed}
 use Rattle.rules.specs.Parts.{Tiling, Books, Paged, Bounded, Core, marks, onSet}
 use Rattle.rules.specs.Midway.{Roomy, MidCallRoomy}
-use Rattle.rules.proofs.WellLaws.{well-core, well-bounded, core-well}
+use Rattle.rules.proofs.WellLaws.{well-core, well-bounded, core-well, later-well}
+use Rattle.rules.proofs.DatedLaws.{dated-settled, dated-swept, dated-back, dated-put, dated-off}
 use Rattle.rules.proofs.RecordLaws.{Accepted, on-passed, report-passed, off-passed, range-passed, accepted, signed-on, signed-off, waits-alter}
 use Rattle.rules.proofs.BooksLaws.{books-ext, books-on, books-off, stale-off, books-sweep, clean-swept, stale-sweep, books-same, books-back, marks-signedOn, marks-reported, marks-signedOff, on-signedOn, on-signedOff}
 use Rattle.rules.proofs.TilingLaws.{cellAt-split, home-some, tiling-move, some-cell}
@@ -117,6 +118,12 @@ module _ (s : Store) (d : Cell) (cs : List Cell) (e : s .cells ≡ d ∷ cs) (x 
   unfolding settled
   front-swept = books-back _ cs (books-same (swept (s .memo) d) _ cs refl refl (books-sweep d cs front-books))
 
+  front-dated : EntriesDated (s .highest) (cs ++ (settled (s .free) (swept (s .memo) d) ∷ []))
+  front-dated =
+      let h = s .highest in
+      let e = subst (EntriesDated h) e (x .mid .core .dated .entries) in
+      dated-back h _ cs (dated-settled h (s .free) (swept (s .memo) d) (dated-swept h (s .memo) d (e .0)), e .1)
+
   front-core : Core (sweepFront (d ∷ cs) s)
   unfolding sweepFront
   front-core = record {
@@ -125,6 +132,7 @@ module _ (s : Store) (d : Cell) (cs : List Cell) (e : s .cells ≡ d ∷ cs) (x 
     paged = sweepFront-paged d cs s (subst (λ (l : List Cell). Paged l (s .free)) e (x .mid .core .paged));
     signed = x .mid .core .signed;
     waits = x .mid .core .waits;
+    dated = record { entries = front-dated; reports = x .mid .core .dated .reports };
   }
 
   pub front-well : WellFormed (sweepFront (d ∷ cs) s)
@@ -147,7 +155,7 @@ tick-well s t x =
     (λ d cs e. subst (λ (l : List Cell). WellFormed (sweepFront l s)) (sym e) (front-well s d cs e (subst (MidCallRoomy s) z x)))))
   where
     counted-core : Core s → Core (counted s)
-    counted-core k = record { tiling = k .tiling; books = k .books; paged = k .paged; signed = k .signed; waits = k .waits }
+    counted-core k = record { tiling = k .tiling; books = k .books; paged = k .paged; signed = k .signed; waits = k .waits; dated = k .dated }
 
 -- ---- a record's own effect
 
@@ -178,9 +186,9 @@ module _ (s : Store) (w : WellFormed s) (r : ℕ) (h : 1 ≤ r) (g : Option Repo
       bounded-record (s .memo) (s .memo) (s .cells) (length (s .waiting)) (length (alter g r (s .waiting))) (s .tally) (well-bounded s w)
       (λ k. omega (arith, length-alter-le g 0 r (s .waiting) h (w .waiting-rises)))
 
-pub on-core : (s : Store) (w : WellFormed s) (r : ℕ) (f : Fix) → 1 ≤ r → r ≤ maxRadio → InSquare (f .place) → isOn s r ≡ false → onCount s < maxOn → Core (signedOn r f s)
+pub on-core : (s : Store) (w : WellFormed s) (r : ℕ) (f : Fix) → 1 ≤ r → r ≤ maxRadio → InSquare (f .place) → isOn s r ≡ false → onCount s < maxOn → f .minute ≤ s .highest → Core (signedOn r f s)
 unfolding signedOn isOn onCount
-on-core s w r f h k q off room =
+on-core s w r f h k q off room early =
     let c = well-core s w in
     record {
       tiling = c .tiling;
@@ -191,14 +199,15 @@ on-core s w r f h k q off room =
           (λ v e. subst (λ (z : Report). InSquare (z .fix .place)) (some-injective e) q)
           (λ v e u. absurd (not-marked v e u))
           (λ n z. rw (find-alter (λ _. some tt) 0 r n (s .on) h (w .rising-on), ne-eqb n r z));
+      dated = dated-put s (c .dated) r f early (λ _. some (record { fix = f; new = true })) (λ o v e. ap (λ (z : Report). z .fix) (sym (some-injective e)));
     }
   where
     not-marked : (v : Report) → some (record { fix = f; new = true }) ≡ some v → v .new ≡ false → ⊥
     not-marked v e u = false-true (sym u ∙ sym (ap (λ (x : Report). x .new) (some-injective e)))
 
-pub report-core : (s : Store) (w : WellFormed s) (r : ℕ) (f : Fix) → 1 ≤ r → r ≤ maxRadio → InSquare (f .place) → isOn s r ≡ true → Core (reported r f s)
+pub report-core : (s : Store) (w : WellFormed s) (r : ℕ) (f : Fix) → 1 ≤ r → r ≤ maxRadio → InSquare (f .place) → isOn s r ≡ true → f .minute ≤ s .highest → Core (reported r f s)
 unfolding reported isOn
-report-core s w r f h k q on =
+report-core s w r f h k q on early =
     let c = well-core s w in
     record {
       tiling = c .tiling;
@@ -209,6 +218,7 @@ report-core s w r f h k q on =
           (λ v e. subst (λ (z : Report). InSquare (z .fix .place)) (some-injective e) q)
           (λ v e u. on)
           (λ n z. refl);
+      dated = dated-put s (c .dated) r f early (λ o. some (record { fix = f; new = wasNew o })) (λ o v e. ap (λ (z : Report). z .fix) (sym (some-injective e)));
     }
 
 pub off-core : (s : Store) (w : WellFormed s) (r : ℕ) → 1 ≤ r → r ≤ maxRadio → isOn s r ≡ true → Core (signedOff r s)
@@ -224,6 +234,7 @@ off-core s w r h k on =
           (λ v e. none-some e)
           (λ v e u. none-some e)
           (λ n z. rw (find-alter (λ _. none) 0 r n (s .on) h (w .rising-on), ne-eqb n r z));
+      dated = dated-off s (c .dated) r;
     }
 
 -- ---- sign-on, report, sign-off
@@ -245,19 +256,20 @@ report-well p s k b t few boxes =
     tick-well (afterReport p s) (subst (λ (c : ℕ). c < sweepEvery) (sym (after-tally p s)) t)
     (subst (λ (c : ℕ). MidCallRoomy (afterReport p s) (c + 1)) (sym (after-tally p s)) (report-done p s (s .tally + 1) k b (omega arith) few boxes))
 
-on-well : (s : Store) (w : WellFormed s) (r : ℕ) (f : Fix) → 1 ≤ r → r ≤ maxRadio → InSquare (f .place) → isOn s r ≡ false → onCount s < maxOn
+on-well : (s : Store) (w : WellFormed s) (r : ℕ) (f : Fix) → 1 ≤ r → r ≤ maxRadio → InSquare (f .place) → isOn s r ≡ false → onCount s < maxOn → f .minute ≤ s .highest
     → WellFormed (tick (afterReport (f .place) (signedOn r f s)))
 unfolding signedOn
-on-well s w r f h k q off room =
+on-well s w r f h k q off room early =
     let g : Option Report → Option Report = λ _. some (record { fix = f; new = true }) in
-    report-well (f .place) (signedOn r f s) (on-core s w r f h k q off room) (put-bounded s w r h g f true refl) (w .tallied) (put-few s w r h g f true refl) (put-boxes s w r h g f true refl)
+    report-well (f .place) (signedOn r f s) (on-core s w r f h k q off room early) (put-bounded s w r h g f true refl) (w .tallied) (put-few s w r h g f true refl) (put-boxes s w r h g f true refl)
 
-report-on-well : (s : Store) (w : WellFormed s) (r : ℕ) (f : Fix) → 1 ≤ r → r ≤ maxRadio → InSquare (f .place) → isOn s r ≡ true → WellFormed (tick (afterReport (f .place) (reported r f s)))
+report-on-well : (s : Store) (w : WellFormed s) (r : ℕ) (f : Fix) → 1 ≤ r → r ≤ maxRadio → InSquare (f .place) → isOn s r ≡ true → f .minute ≤ s .highest
+    → WellFormed (tick (afterReport (f .place) (reported r f s)))
 unfolding reported
-report-on-well s w r f h k q on =
+report-on-well s w r f h k q on early =
     let g : Option Report → Option Report = λ o. some (record { fix = f; new = wasNew o }) in
     let b = wasNew (find (s .waiting) r) in
-    report-well (f .place) (reported r f s) (report-core s w r f h k q on) (put-bounded s w r h g f b refl) (w .tallied) (put-few s w r h g f b refl) (put-boxes s w r h g f b refl)
+    report-well (f .place) (reported r f s) (report-core s w r f h k q on early) (put-bounded s w r h g f b refl) (w .tallied) (put-few s w r h g f b refl) (put-boxes s w r h g f b refl)
 
 -- before the tally
 pub off-done : (s : Store) (w : WellFormed s) (r : ℕ) → 1 ≤ r → r ≤ maxRadio → isOn s r ≡ true → MidCallRoomy (signedOff r s) (signedOff r s .tally + 1)
@@ -289,16 +301,18 @@ pub answered-store : (l : Rows Place) (s : Store) (buffer : List ℕ) → answer
 unfolding answered
 answered-store l s buffer = by-cases (ltb (length buffer) (listBytes * length l)) (λ t. rw t) (λ t. rw t)
 
-done-well : (q : Request) (s : Store) (buffer : List ℕ) → WellFormed s → Accepted (isOn s) (onCount s) q → WellFormed (carriedOut q s buffer .store)
-unfolding carriedOut
-done-well q s buffer w (on-passed r f h k i off room) = on-well s w r f h k i off room
-done-well q s buffer w (report-passed r f h k i on) = report-on-well s w r f h k i on
-done-well q s buffer w (off-passed r h k on) = off-well s w r h k on
-done-well q s buffer w (range-passed rect) = subst WellFormed (sym (answered-store (found s rect) s buffer)) w
+done-well : (q : Request) (s : Store) (buffer : List ℕ) → WellFormed s → Accepted (s .highest) (isOn s) (onCount s) q → WellFormed (carriedOut q s buffer .store)
+unfolding carriedOut isOn onCount
+done-well q s buffer w (on-passed r f h k i off room late) =
+    on-well (withHighest (f .minute) s) (later-well s w (f .minute) late) r f h k i off room (omega arith)
+done-well q s buffer w (report-passed r f h k i on late) =
+    report-on-well (withHighest (f .minute) s) (later-well s w (f .minute) late) r f h k i on (omega arith)
+done-well q s buffer w (off-passed r minute h k on late) = off-well (withHighest minute s) (later-well s w minute late) r h k on
+done-well q s buffer w (range-passed rect minute) = subst WellFormed (sym (answered-store (found s rect minute) s buffer)) w
 
 pub step-well : (s : Store) (bytes buffer : List ℕ) → Bytes bytes → WellFormed s → WellFormed (carry s bytes buffer .store)
 unfolding carry
 step-well s bytes buffer small w =
-    by-cases (eqb (refusal (isOn s) (onCount s) bytes) 0)
-    (λ t. rw t (done-well (requestOf bytes) s buffer w (accepted (isOn s) (onCount s) bytes small (eqb-true (refusal (isOn s) (onCount s) bytes) 0 t))))
+    by-cases (eqb (refusal (s .highest) (isOn s) (onCount s) bytes) 0)
+    (λ t. rw t (done-well (requestOf bytes) s buffer w (accepted (s .highest) (isOn s) (onCount s) bytes small (eqb-true (refusal (s .highest) (isOn s) (onCount s) bytes) 0 t))))
     (λ t. rw t w)

@@ -11,7 +11,7 @@ use Rattle.lists.specs.Tests.{either}
 use Rattle.lists.proofs.Cases.{by-cases}
 use Rattle.lists.proofs.TestsLaws.{either-cases}
 use Rattle.rules.specs.Grid.{Rect}
-use Rattle.rules.specs.Records.{Request, signOn, report, signOff, range, requestOf, refusal, kindField, kindSignOn, kindReport, notAtHand, unknownKind, wrongLength, noRadio, noFix, reversed, onAlready, notOn, noRoom}
+use Rattle.rules.specs.Records.{Request, signOn, report, signOff, range, requestOf, refusal, kindField, kindSignOn, kindReport, notAtHand, unknownKind, wrongLength, noRadio, noFix, tooEarly, reversed, onAlready, notOn, noRoom}
 use Rattle.rules.specs.Store.{Store}
 use Rattle.rules.specs.Carry.{carry, carriedOut, answered, found, listBytes}
 use Rattle.rules.specs.Plain.{Plain, plainOn, plainOnCount, plainRefusal, plainFound}
@@ -21,12 +21,12 @@ use Rattle.rules.proofs.LinkLaws.{Link, refusal-same, found-same}
 
 -- ---- the desk's answer is the plain rule's
 
-told-list : (s : Store) (x : Plain) (buffer : List ℕ) (rect : Rect) → found s rect ≡ plainFound x rect
-    → (answered (found s rect) s buffer .number ≡ toldList (plainFound x rect) buffer .number) × (answered (found s rect) s buffer .count ≡ toldList (plainFound x rect) buffer .count)
-    × (answered (found s rect) s buffer .buffer ≡ toldList (plainFound x rect) buffer .buffer)
+told-list : (s : Store) (x : Plain) (buffer : List ℕ) (rect : Rect) (minute : ℕ) → found s rect minute ≡ plainFound x rect minute
+    → (answered (found s rect minute) s buffer .number ≡ toldList (plainFound x rect minute) buffer .number) × (answered (found s rect minute) s buffer .count ≡ toldList (plainFound x rect minute) buffer .count)
+    × (answered (found s rect minute) s buffer .buffer ≡ toldList (plainFound x rect minute) buffer .buffer)
 unfolding answered toldList
-told-list s x buffer rect e =
-    rw e (by-cases (ltb (length buffer) (listBytes * length (plainFound x rect))) (λ t. rw t (refl, refl, refl)) (λ t. rw t (refl, refl, refl)))
+told-list s x buffer rect minute e =
+    rw e (by-cases (ltb (length buffer) (listBytes * length (plainFound x rect minute))) (λ t. rw t (refl, refl, refl)) (λ t. rw t (refl, refl, refl)))
 
 told-done : (q : Request) (s : Store) (x : Plain) (buffer : List ℕ) → Signed (s .on) → Link s x
     → (carriedOut q s buffer .number ≡ toldDone q x buffer .number) × (carriedOut q s buffer .count ≡ toldDone q x buffer .count)
@@ -34,8 +34,8 @@ told-done : (q : Request) (s : Store) (x : Plain) (buffer : List ℕ) → Signed
 unfolding carriedOut toldDone
 told-done (signOn r p) s x buffer g k = (refl, refl, refl)
 told-done (report r p) s x buffer g k = (refl, refl, refl)
-told-done (signOff r) s x buffer g k = (refl, refl, refl)
-told-done (range rect) s x buffer g k = told-list s x buffer rect (found-same s x k g rect)
+told-done (signOff r minute) s x buffer g k = (refl, refl, refl)
+told-done (range rect minute) s x buffer g k = told-list s x buffer rect minute (found-same s x k g rect minute)
 
 pub told-same : (s : Store) (x : Plain) (bytes buffer : List ℕ) → Signed (s .on) → Link s x
     → (carry s bytes buffer .number ≡ told x bytes buffer .number) × (carry s bytes buffer .count ≡ told x bytes buffer .count)
@@ -60,18 +60,19 @@ plain-not-2 x bytes =
     (first-not-2 (wrongLength bytes) 5 refl
     (first-not-2 (noRadio bytes) 6 refl
     (first-not-2 (noFix bytes) 12 refl
+    (first-not-2 (tooEarly (x .highest) bytes) 13 refl
     (first-not-2 (reversed bytes) 7 refl
     (first-not-2 (onAlready (plainOn x) bytes) 8 refl
     (first-not-2 (notOn (plainOn x) bytes) 9 refl
-    (first-not-2 (noRoom (plainOnCount x) bytes) 10 refl (λ e. omega (arith, e))))))))))
+    (first-not-2 (noRoom (plainOnCount x) bytes) 10 refl (λ e. omega (arith, e)))))))))))
 
 done-not-2 : (q : Request) (x : Plain) (buffer : List ℕ) → toldDone q x buffer .number ≡ 2 → ⊥
 unfolding toldDone toldList
 done-not-2 (signOn r p) x buffer = λ e. omega arith
 done-not-2 (report r p) x buffer = λ e. omega arith
-done-not-2 (signOff r) x buffer = λ e. omega arith
-done-not-2 (range rect) x buffer =
-    by-cases (ltb (length buffer) (listBytes * length (plainFound x rect))) (λ t. rw t (λ e. omega arith)) (λ t. rw t (λ e. omega arith))
+done-not-2 (signOff r minute) x buffer = λ e. omega arith
+done-not-2 (range rect minute) x buffer =
+    by-cases (ltb (length buffer) (listBytes * length (plainFound x rect minute))) (λ t. rw t (λ e. omega arith)) (λ t. rw t (λ e. omega arith))
 
 pub told-not-2 : (x : Plain) (bytes buffer : List ℕ) → told x bytes buffer .number ≡ 2 → ⊥
 unfolding told

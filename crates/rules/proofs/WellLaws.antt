@@ -3,9 +3,9 @@ use mathlib.Core.Bool.{false}
 use mathlib.Core.List.{List, [], _∷_}
 use mathlib.Core.Option.{Option, none, some}
 use mathlib.Core.Path.{_≡_, refl, sym, ap, _∙_}
-use Prim.Native.Nat.{ℕ, _<_}
+use Prim.Native.Nat.{ℕ, _<_, _≤_}
 use lib.ListN.{length}
-use Rattle.terms.specs.Terms.{Place, Fix}
+use Rattle.terms.specs.Terms.{Fix}
 use Rattle.lists.specs.Rows.{Rows, find}
 use Rattle.lists.specs.Tests.{Each}
 use Rattle.lists.proofs.Cases.{option-cases}
@@ -13,11 +13,12 @@ use Rattle.lists.proofs.SumsLaws.{sum-zero}
 use Rattle.lists.proofs.TestsLaws.{each-map}
 use Rattle.rules.specs.Limits.{fullBox, fullMemory, sweepEvery}
 use Rattle.rules.specs.Grid.{Cuts, Box}
-use Rattle.rules.specs.Store.{Line, Cell, Store, pagesFor, missedOf}
+use Rattle.rules.specs.Store.{Line, Cell, Store, pagesFor, missedOf, withHighest}
 use Rattle.rules.specs.Carry.{isOn, waitingIn}
 use Rattle.rules.specs.WellFormed.{countIf, staleOf, chains, GoodCell, WellFormed}
 use Rattle.rules.specs.Parts.{Edged, Tiling, staleR, Rowed, Books, Paged, Bounded, Core, marks, onSet}
 use Rattle.rules.proofs.TilingLaws.{apart}
+use Rattle.rules.proofs.DatedLaws.{dated-later}
 
 -- a radio with a line: its stale entries by the line's place; one without: none
 stale-line : (memo : Rows Line) (r : ℕ) (l : Line) (cells : List Cell) → find memo r ≡ some l → staleR memo r cells ≡ staleOf (l .last) r cells
@@ -72,6 +73,7 @@ well-core s w = record {
   paged = well-paged s w;
   signed = record { few-on = w .few-on; radios-on = w .radios-on; rising-on = w .rising-on };
   waits = record { waiting-rises = w .waiting-rises; waiting-radios = w .waiting-radios; waiting-placed = w .waiting-placed; unmarked = w .unmarked };
+  dated = record { entries = w .entries-dated; reports = w .waiting-dated };
 }
 
 pub well-bounded : (s : Store) → WellFormed s → Bounded (s .memo) (s .cells) (length (s .waiting)) (s .tally)
@@ -117,5 +119,16 @@ core-well s c b few boxes t =
       few-in-box = boxes;
       round = g .round;
       tallied = t;
+      entries-dated = c .dated .entries;
+      waiting-dated = c .dated .reports;
       bounded = b;
     }
+
+-- a later minute is remembered
+pub later-well : (s : Store) → WellFormed s → (minute : ℕ) → s .highest ≤ minute → WellFormed (withHighest minute s)
+unfolding Bounded waitingIn
+later-well s w minute late =
+    let c = well-core s w in
+    core-well (withHighest minute s)
+    (record { tiling = c .tiling; books = c .books; paged = c .paged; signed = c .signed; waits = c .waits; dated = dated-later (s .highest) minute (s .cells) (s .waiting) late (c .dated) })
+    (well-bounded s w) (w .few-wait) (w .few-in-box) (w .tallied)

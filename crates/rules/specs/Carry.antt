@@ -2,18 +2,18 @@
 use mathlib.Core.Bool.{Bool, true, false, not, cond}
 use mathlib.Core.List.{List, [], _∷_, _++_}
 use mathlib.Core.Option.{Option, none, some}
-use Prim.Native.Nat.{ℕ, _*_}
+use Prim.Native.Nat.{ℕ, _+_, _*_}
 use lib.Dec.{eqb, leb, ltb}
 use lib.ListN.{length}
 use Rattle.terms.specs.Terms.{Place, Fix, fieldBytes}
 use Rattle.lists.specs.Parts.{put}
 use Rattle.lists.specs.Rows.{Rows, find, alter, insert, passed}
 use Rattle.lists.specs.Sums.{sumBy, keep}
-use Rattle.lists.specs.Tests.{one-if, isSome, orElse, best}
+use Rattle.lists.specs.Tests.{one-if, both, isSome, orElse, best}
 use Rattle.lists.specs.Words.{le}
-use Rattle.rules.specs.Limits.{fullBox, fullMemory}
+use Rattle.rules.specs.Limits.{fullBox, fullMemory, keptMinutes}
 use Rattle.rules.specs.Grid.{Rect, covers, Cuts, Box, boxOf, boxes}
-use Rattle.rules.specs.Store.{Report, Line, Cell, Store, withWaiting, withMemo, withOn}
+use Rattle.rules.specs.Store.{Report, Line, Cell, Store, withWaiting, withMemo, withOn, withHighest}
 use Rattle.rules.specs.Sweep.{stale, tick}
 use Rattle.rules.specs.Flush.{raised, inBox, flush}
 use Rattle.rules.specs.Records.{Request, signOn, report, signOff, range, requestOf, refusal}
@@ -98,21 +98,25 @@ fixOf (some w) = some (w .fix)
 unfoldable pub latest : Store → ℕ → Option Fix
 latest s r = orElse (fixOf (find (s .waiting) r)) (storedIn (s .memo) r (s .cells))
 
--- whether a range lists a radio by what its latest report told: by the edges of Job 1
-abbrev pub listed : Rect → Fix → Bool
-listed rect f = covers rect (f .place)
+-- "A range leaves out a radio whose minute is more than 720 before the range's own; exactly 720 stays in."
+abbrev pub tooOld : ℕ → Fix → Bool
+tooOld minute f = ltb (f .minute + keptMinutes) minute
 
-abbrev pub listIf : Rect → ℕ → Option Fix → Rows Place → Rows Place
-listIf rect r none l = l
-listIf rect r (some f) l = keep (listed rect f) (record { key = r; val = f .place }) l
+-- whether a range lists a radio by what its latest report told: by the edges of Job 1 and the age of Job 3
+abbrev pub listed : Rect → ℕ → Fix → Bool
+listed rect minute f = both (covers rect (f .place)) (not (tooOld minute f))
+
+abbrev pub listIf : Rect → ℕ → ℕ → Option Fix → Rows Place → Rows Place
+listIf rect minute r none l = l
+listIf rect minute r (some f) l = keep (listed rect minute f) (record { key = r; val = f .place }) l
 
 -- "the radios on whose latest place .. lies in the rectangle, by rising number"
-unfoldable pub listOf : Rect → (ℕ → Option Fix) → Rows (Unit {0}) → Rows Place
-listOf rect latestOf [] = []
-listOf rect latestOf (x ∷ xs) = listIf rect (x .key) (latestOf (x .key)) (listOf rect latestOf xs)
+unfoldable pub listOf : Rect → ℕ → (ℕ → Option Fix) → Rows (Unit {0}) → Rows Place
+listOf rect minute latestOf [] = []
+listOf rect minute latestOf (x ∷ xs) = listIf rect minute (x .key) (latestOf (x .key)) (listOf rect minute latestOf xs)
 
-unfoldable pub found : Store → Rect → Rows Place
-found s rect = listOf rect (latest s) (s .on)
+unfoldable pub found : Store → Rect → ℕ → Rows Place
+found s rect minute = listOf rect minute (latest s) (s .on)
 
 -- "6 × n bytes (radio, east, north)"
 abbrev pub listBytes : ℕ
@@ -141,15 +145,17 @@ answered l s buffer =
 abbrev accepted : Store → List ℕ → Outcome
 accepted s buffer = record { number = 0; count = 0; buffer = buffer; store = s }
 
+-- "The store remembers the highest minute of an accepted sign-on, report or sign-off": the record's own, for none below the highest is accepted. A range is
+-- tested by it and does not move it
 unfoldable pub carriedOut : Request → Store → List ℕ → Outcome
-carriedOut (signOn r f) s buffer = accepted (tick (afterReport (f .place) (signedOn r f s))) buffer
-carriedOut (report r f) s buffer = accepted (tick (afterReport (f .place) (reported r f s))) buffer
-carriedOut (signOff r) s buffer = accepted (tick (signedOff r s)) buffer
-carriedOut (range rect) s buffer = answered (found s rect) s buffer
+carriedOut (signOn r f) s buffer = accepted (tick (afterReport (f .place) (signedOn r f (withHighest (f .minute) s)))) buffer
+carriedOut (report r f) s buffer = accepted (tick (afterReport (f .place) (reported r f (withHighest (f .minute) s)))) buffer
+carriedOut (signOff r minute) s buffer = accepted (tick (signedOff r (withHighest minute s))) buffer
+carriedOut (range rect minute) s buffer = answered (found s rect minute) s buffer
 
 -- from a sound store, a record's bytes and an answer buffer
 unfoldable pub carry : Store → List ℕ → List ℕ → Outcome
 carry s bytes buffer =
-    cond (eqb (refusal (isOn s) (onCount s) bytes) 0)
+    cond (eqb (refusal (s .highest) (isOn s) (onCount s) bytes) 0)
     (carriedOut (requestOf bytes) s buffer)
-    (record { number = refusal (isOn s) (onCount s) bytes; count = 0; buffer = buffer; store = s })
+    (record { number = refusal (s .highest) (isOn s) (onCount s) bytes; count = 0; buffer = buffer; store = s })

@@ -12,8 +12,8 @@ use Rattle.rules.specs.Parts.{Clean}
 abbrev pub isCounted : Request → Bool
 isCounted (signOn r f) = true
 isCounted (report r f) = true
-isCounted (signOff r) = true
-isCounted (range rect) = false
+isCounted (signOff r minute) = true
+isCounted (range rect minute) = false
 
 -- "the 1,024th such record": 16 for each of 64 cells
 abbrev pub lastingRecords : ℕ

@@ -1,4 +1,4 @@
--- The numbers of 01 that bound the store and time its work.
+-- The numbers of 01 and 02 that bound the store and time its work.
 use Prim.Native.Nat.{ℕ}
 
 -- "A place is east and north, each 0 to 65,535 metres."
@@ -23,6 +23,10 @@ fullMemory = 128
 -- "At 16, sweep the cell at the front of the round"
 abbrev pub sweepEvery : ℕ
 sweepEvery = 16
+
+-- "more than 720 before the range's own"
+abbrev pub keptMinutes : ℕ
+keptMinutes = 720
 
 -- "the two have at most 24 entries together"
 abbrev pub joinEntries : ℕ

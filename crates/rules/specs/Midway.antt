@@ -12,7 +12,7 @@ use Rattle.rules.specs.Store.{Line, Cell, Store}
 use Rattle.rules.specs.Flush.{Flushed}
 use Rattle.rules.specs.Carry.{waitingIn}
 use Rattle.rules.specs.WellFormed.{staleIn}
-use Rattle.rules.specs.Parts.{Tiling, Books, Clean, Paged, Bounded, Signed, Waits, Core, marks, onSet}
+use Rattle.rules.specs.Parts.{Tiling, Books, Clean, Paged, Bounded, Signed, Waits, Dated, Core, marks, onSet}
 
 -- ---- at each step of a call
 
@@ -56,6 +56,7 @@ pub record MidFlush (f : Flushed) (d₀ : Cell) (before after : List Cell) (memo
   pub few : sumBy size (before ++ after) + size (f .cell) ≤ mostEntries
   pub signed : Signed (f .store .on)
   pub waits : Waits (f .store .waiting) (f .store .on)
+  pub dated : Dated (f .store .highest) (f .cell ∷ (before ++ after)) (f .store .waiting)
   pub bounded : Bounded memo (before ++ (d₀ ∷ after)) (length (f .store .waiting) + n) c
   pub stale : (j : ℕ) → sumBy (staleIn (f .store .memo)) (drop j (before ++ after)) ≤ sumBy (staleIn memo) (drop j (before ++ after)) + n
   pub room : length (f .store .waiting) ≤ c + (fullMemory - 1)

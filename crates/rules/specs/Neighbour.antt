@@ -4,6 +4,7 @@ use mathlib.Core.List.{List, [], _∷_, map}
 use mathlib.Core.Option.{Option, none, some}
 use mathlib.Core.Path.{_≡_}
 use Prim.Native.Nat.{ℕ, suc, _+_, _*_}
+use Rattle.terms.specs.Terms.{fixAt}
 use Rattle.lists.specs.Among.{Among}
 use Rattle.lists.specs.Parts.{tab}
 use Rattle.rules.specs.Grid.{Span}
@@ -35,7 +36,7 @@ cellOn number i j n = record {
   number = number;
   edges = record { easts = stripeAt i; norths = stripeAt j };
   chain = [];
-  entries = tab n (λ k. record { key = suc k; val = record { place = record { east = 10 * i; north = 10 * j } } });
+  entries = tab n (λ k. record { key = suc k; val = fixAt (10 * i) (10 * j) 0 });
 }
 
 abbrev numberOf : Option Cell → Option ℕ

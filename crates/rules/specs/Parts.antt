@@ -15,7 +15,7 @@ use Rattle.rules.specs.Grid.{Axis, spanOf, inside, Cuts, cutsOf}
 use Rattle.rules.specs.Store.{Report, Line, missedOf, Cell, Store, pagesFor}
 use Rattle.rules.specs.Sweep.{staleBy}
 use Rattle.rules.specs.Carry.{wasNew}
-use Rattle.rules.specs.WellFormed.{RisingCuts, OnCuts, countIf, liveOf, staleIn, InSquare, InSquareIf}
+use Rattle.rules.specs.WellFormed.{RisingCuts, OnCuts, countIf, liveOf, staleIn, InSquare, InSquareIf, EntriesDated, WaitingDated}
 
 -- ---- the tiling: cuts, edges and numbers of the cells
 
@@ -81,6 +81,12 @@ pub record Waits (waiting : Rows Report) (on : Rows (Unit {0})) : Type 0 where
   pub waiting-placed : (r : ℕ) (w : Report) → find waiting r ≡ some w → InSquare (w .fix .place)
   pub unmarked : (r : ℕ) (w : Report) → find waiting r ≡ some w → w .new ≡ false → isSome (find on r) ≡ true
 
+-- ---- the minutes
+
+pub record Dated (highest : ℕ) (cells : List Cell) (waiting : Rows Report) : Type 0 where
+  pub entries : EntriesDated highest cells
+  pub reports : WaitingDated highest waiting
+
 -- ---- the parts together: what holds also in the middle of a call
 
 abbrev pub marks : Rows Report → ℕ → Bool
@@ -95,3 +101,4 @@ pub record Core (s : Store) : Type 0 where
   pub paged : Paged (s .cells) (s .free)
   pub signed : Signed (s .on)
   pub waits : Waits (s .waiting) (s .on)
+  pub dated : Dated (s .highest) (s .cells) (s .waiting)

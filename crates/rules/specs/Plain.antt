@@ -19,10 +19,12 @@ pub record Plain : Type 0 where
   pub latest : ℕ → Option Fix
   pub waits : ℕ → Bool
   pub flushed : ℕ → Option Place
+  -- it "keeps the highest minute beside them"
+  pub highest : ℕ
 
 -- "At a fresh store all are off, none waits and nothing is flushed."
 unfoldable pub plainFresh : Plain
-plainFresh = record { latest = λ r. none; waits = λ r. false; flushed = λ r. none }
+plainFresh = record { latest = λ r. none; waits = λ r. false; flushed = λ r. none; highest = 0 }
 
 unfoldable pub plainOn : Plain → ℕ → Bool
 plainOn x r = isSome (x .latest r)
@@ -59,32 +61,36 @@ plainFlush cuts (some m) x = record {
   latest = x .latest;
   waits = λ r. cond (plainIn cuts x m r) false (x .waits r);
   flushed = λ r. cond (plainIn cuts x m r) (placeOf (x .latest r)) (x .flushed r);
+  highest = x .highest;
 }
 
 -- "the radio is on with that place, and waits"; "the radio takes that place and waits"
 unfoldable pub plainPlace : ℕ → Fix → Plain → Plain
-plainPlace r f x = record { latest = putAt r (some f) (x .latest); waits = putAt r true (x .waits); flushed = x .flushed }
+plainPlace r f x = record { latest = putAt r (some f) (x .latest); waits = putAt r true (x .waits); flushed = x .flushed; highest = x .highest }
 
 unfoldable pub plainAfter : Cuts → Place → Plain → Plain
 plainAfter cuts p x = plainFlush cuts (plainDue cuts x p) x
 
 -- "the radio is off, waits no longer, and its last place flushed becomes none"
 unfoldable pub plainOff : ℕ → Plain → Plain
-plainOff r x = record { latest = putAt r none (x .latest); waits = putAt r false (x .waits); flushed = putAt r none (x .flushed) }
+plainOff r x = record { latest = putAt r none (x .latest); waits = putAt r false (x .waits); flushed = putAt r none (x .flushed); highest = x .highest }
+
+abbrev pub plainAt : ℕ → Plain → Plain
+plainAt minute x = record { latest = x .latest; waits = x .waits; flushed = x .flushed; highest = minute }
 
 unfoldable pub plainDone : Cuts → Request → Plain → Plain
-plainDone cuts (signOn r f) x = plainAfter cuts (f .place) (plainPlace r f x)
-plainDone cuts (report r f) x = plainAfter cuts (f .place) (plainPlace r f x)
-plainDone cuts (signOff r) x = plainOff r x
-plainDone cuts (range rect) x = x
+plainDone cuts (signOn r f) x = plainAfter cuts (f .place) (plainPlace r f (plainAt (f .minute) x))
+plainDone cuts (report r f) x = plainAfter cuts (f .place) (plainPlace r f (plainAt (f .minute) x))
+plainDone cuts (signOff r minute) x = plainOff r (plainAt minute x)
+plainDone cuts (range rect minute) x = x
 
 -- "A record that fails a check other than 1, 2 and 11, tested on its bytes and on who is on here, is turned down and changes nothing."
 unfoldable pub plainRefusal : Plain → List ℕ → ℕ
-plainRefusal x bytes = refusal (plainOn x) (plainOnCount x) bytes
+plainRefusal x bytes = refusal (x .highest) (plainOn x) (plainOnCount x) bytes
 
 unfoldable pub plainStep : Cuts → List ℕ → Plain → Plain
 plainStep cuts bytes x = cond (eqb (plainRefusal x bytes) 0) (plainDone cuts (requestOf bytes) x) x
 
--- "A range lists the radios on whose latest place lies in it"
-unfoldable pub plainFound : Plain → Rect → Rows Place
-plainFound x rect = listOf rect (x .latest) (tab maxRadio (λ i. record { key = suc i; val = tt }))
+-- "A range lists the radios on whose latest place lies in it"; "The plain rule over latest places gains this age test"
+unfoldable pub plainFound : Plain → Rect → ℕ → Rows Place
+plainFound x rect minute = listOf rect minute (x .latest) (tab maxRadio (λ i. record { key = suc i; val = tt }))

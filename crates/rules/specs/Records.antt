@@ -1,10 +1,10 @@
--- Records, and what they are turned down for (01, "Records and pages", "Turned down, in checking order"; 02, Job 2).
+-- Records, and what they are turned down for (01, "Records and pages", "Turned down, in checking order"; 02, Jobs 2 and 3).
 use mathlib.Core.Bool.{Bool, not, cond}
 use mathlib.Core.List.{List}
-use Prim.Native.Nat.{ℕ}
+use Prim.Native.Nat.{ℕ, _-_}
 use lib.Dec.{eqb, leb, ltb}
 use lib.ListN.{length}
-use Rattle.terms.specs.Terms.{Place, Fix, fieldBytes, maxRadio, maxOn}
+use Rattle.terms.specs.Terms.{Place, Fix, fieldBytes, minuteBytes, maxRadio, maxOn}
 use Rattle.lists.specs.Tests.{both, either}
 use Rattle.lists.specs.Words.{word}
 use Rattle.rules.specs.Grid.{Rect}
@@ -32,9 +32,9 @@ kindSignOff = 3
 abbrev pub kindRange : ℕ
 kindRange = 4
 
--- "length 10", "the same", "length 6", "length 12"
+-- "the lengths become 14, 14, 10 and 16"
 unfoldable pub lengthOf : ℕ → ℕ
-lengthOf kind = cond (eqb kind kindRange) 12 (cond (eqb kind kindSignOff) 6 10)
+lengthOf kind = cond (eqb kind kindRange) 16 (cond (eqb kind kindSignOff) 10 14)
 
 -- "radio, east, north"
 unfoldable pub radioField : List ℕ → ℕ
@@ -43,25 +43,29 @@ radioField b = field b 4
 unfoldable pub placeField : List ℕ → Place
 placeField b = record { east = field b 6; north = field b 8 }
 
+-- "Every record ends with a 32-bit minute"
+unfoldable pub minuteField : List ℕ → ℕ
+minuteField b = word minuteBytes b (lengthOf (kindField b) - minuteBytes)
+
 unfoldable pub fixField : List ℕ → Fix
-fixField b = record { place = placeField b }
+fixField b = record { place = placeField b; minute = minuteField b }
 
 -- "west, east, south, north"
 unfoldable pub rectField : List ℕ → Rect
 rectField b = record { easts = record { low = field b 4; high = field b 6 }; norths = record { low = field b 8; high = field b 10 } }
 
--- what is asked
+-- what is asked, and at which minute
 pub data Request : Type 0 where
   signOn : ℕ → Fix → Request
   report : ℕ → Fix → Request
-  signOff : ℕ → Request
-  range : Rect → Request
+  signOff : ℕ → ℕ → Request
+  range : Rect → ℕ → Request
 
 unfoldable pub requestOf : List ℕ → Request
 requestOf b =
     cond (eqb (kindField b) kindSignOn) (signOn (radioField b) (fixField b))
     (cond (eqb (kindField b) kindReport) (report (radioField b) (fixField b))
-    (cond (eqb (kindField b) kindSignOff) (signOff (radioField b)) (range (rectField b))))
+    (cond (eqb (kindField b) kindSignOff) (signOff (radioField b) (minuteField b)) (range (rectField b) (minuteField b))))
 
 -- ---- the checks on a record's bytes and on who is on
 
@@ -85,6 +89,10 @@ noRadio b = both (ltb (kindField b) kindRange) (either (eqb (radioField b) 0) (l
 unfoldable pub noFix : List ℕ → Bool
 noFix b = both (ltb (kindField b) kindSignOff) (both (eqb (placeField b .east) 0) (eqb (placeField b .north) 0))
 
+-- 13: "a minute below the store's highest, for all four kinds"
+unfoldable pub tooEarly : ℕ → List ℕ → Bool
+tooEarly highest b = ltb (minuteField b) highest
+
 -- 7: "A range has west above east or south above north."
 unfoldable pub reversed : List ℕ → Bool
 reversed b =
@@ -103,15 +111,16 @@ notOn isOn b = both (either (eqb (kindField b) kindReport) (eqb (kindField b) ki
 unfoldable pub noRoom : ℕ → List ℕ → Bool
 noRoom howMany b = both (eqb (kindField b) kindSignOn) (leb maxOn howMany)
 
--- the number of the first check that fails, 0 if none does: it serves the desk and the plain rule, each with who is on there
-unfoldable pub refusal : (ℕ → Bool) → ℕ → List ℕ → ℕ
-refusal isOn howMany b =
+-- the number of the first check that fails, 0 if none does: it serves the desk and the plain rule, each with its highest minute and who is on there
+unfoldable pub refusal : ℕ → (ℕ → Bool) → ℕ → List ℕ → ℕ
+refusal highest isOn howMany b =
     cond (notAtHand b) 3
     (cond (unknownKind b) 4
     (cond (wrongLength b) 5
     (cond (noRadio b) 6
     (cond (noFix b) 12
+    (cond (tooEarly highest b) 13
     (cond (reversed b) 7
     (cond (onAlready isOn b) 8
     (cond (notOn isOn b) 9
-    (cond (noRoom howMany b) 10 0))))))))
+    (cond (noRoom howMany b) 10 0)))))))))

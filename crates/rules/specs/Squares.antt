@@ -26,8 +26,8 @@ pub record CutAt (axis : Axis) (r : Rect) (c : ℕ) : Type 0 where
 
 -- the lists of the two parts together are the list of the whole: whatever is summed over it is summed over them, the count and each radio's place alike
 abbrev pub AddUp : Type 0
-AddUp = (latest : ℕ → Option Fix) (on : Rows (Unit {0})) (axis : Axis) (r : Rect) (c : ℕ) → CutAt axis r c → (f : Row Place → ℕ)
-    → sumBy f (listOf r latest on) ≡ sumBy f (listOf (lowPart axis c r) latest on) + sumBy f (listOf (highPart axis c r) latest on)
+AddUp = (minute : ℕ) (latest : ℕ → Option Fix) (on : Rows (Unit {0})) (axis : Axis) (r : Rect) (c : ℕ) → CutAt axis r c → (f : Row Place → ℕ)
+    → sumBy f (listOf r minute latest on) ≡ sumBy f (listOf (lowPart axis c r) minute latest on) + sumBy f (listOf (highPart axis c r) minute latest on)
 
 -- how often a list names a radio
 abbrev pub timesIn : ℕ → Rows Place → ℕ
@@ -35,5 +35,5 @@ timesIn radio l = sumBy (λ x. one-if (eqb radio (x .key))) l
 
 -- and no radio stands in both, nor twice in one
 abbrev pub NotTwice : Type 0
-NotTwice = (latest : ℕ → Option Fix) (on : Rows (Unit {0})) → Rising 0 on → (axis : Axis) (r : Rect) (c : ℕ) → CutAt axis r c → (radio : ℕ)
-    → timesIn radio (listOf (lowPart axis c r) latest on) + timesIn radio (listOf (highPart axis c r) latest on) ≤ 1
+NotTwice = (minute : ℕ) (latest : ℕ → Option Fix) (on : Rows (Unit {0})) → Rising 0 on → (axis : Axis) (r : Rect) (c : ℕ) → CutAt axis r c → (radio : ℕ)
+    → timesIn radio (listOf (lowPart axis c r) minute latest on) + timesIn radio (listOf (highPart axis c r) minute latest on) ≤ 1

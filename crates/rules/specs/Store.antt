@@ -48,6 +48,8 @@ pub record Store : Type 0 where
   -- radios on
   pub on : Rows (Unit {0})
   pub tally : ℕ
+  -- "the highest minute of an accepted sign-on, report or sign-off"
+  pub highest : ℕ
 
 -- ---- a cell or a store with another part: what writes every field of them
 
@@ -61,29 +63,32 @@ abbrev pub withEntries : Rows Fix → Cell → Cell
 withEntries entries c = record { number = c .number; edges = c .edges; chain = c .chain; entries = entries }
 
 abbrev pub withCuts : Cuts → Store → Store
-withCuts cuts s = record { cuts = cuts; cells = s .cells; free = s .free; waiting = s .waiting; memo = s .memo; on = s .on; tally = s .tally }
+withCuts cuts s = record { cuts = cuts; cells = s .cells; free = s .free; waiting = s .waiting; memo = s .memo; on = s .on; tally = s .tally; highest = s .highest }
 
 abbrev pub withCells : List Cell → Store → Store
-withCells cells s = record { cuts = s .cuts; cells = cells; free = s .free; waiting = s .waiting; memo = s .memo; on = s .on; tally = s .tally }
+withCells cells s = record { cuts = s .cuts; cells = cells; free = s .free; waiting = s .waiting; memo = s .memo; on = s .on; tally = s .tally; highest = s .highest }
 
 abbrev pub withFree : List ℕ → Store → Store
-withFree free s = record { cuts = s .cuts; cells = s .cells; free = free; waiting = s .waiting; memo = s .memo; on = s .on; tally = s .tally }
+withFree free s = record { cuts = s .cuts; cells = s .cells; free = free; waiting = s .waiting; memo = s .memo; on = s .on; tally = s .tally; highest = s .highest }
 
 abbrev pub withWaiting : Rows Report → Store → Store
-withWaiting waiting s = record { cuts = s .cuts; cells = s .cells; free = s .free; waiting = waiting; memo = s .memo; on = s .on; tally = s .tally }
+withWaiting waiting s = record { cuts = s .cuts; cells = s .cells; free = s .free; waiting = waiting; memo = s .memo; on = s .on; tally = s .tally; highest = s .highest }
 
 abbrev pub withMemo : Rows Line → Store → Store
-withMemo memo s = record { cuts = s .cuts; cells = s .cells; free = s .free; waiting = s .waiting; memo = memo; on = s .on; tally = s .tally }
+withMemo memo s = record { cuts = s .cuts; cells = s .cells; free = s .free; waiting = s .waiting; memo = memo; on = s .on; tally = s .tally; highest = s .highest }
 
 abbrev pub withOn : Rows (Unit {0}) → Store → Store
-withOn on s = record { cuts = s .cuts; cells = s .cells; free = s .free; waiting = s .waiting; memo = s .memo; on = on; tally = s .tally }
+withOn on s = record { cuts = s .cuts; cells = s .cells; free = s .free; waiting = s .waiting; memo = s .memo; on = on; tally = s .tally; highest = s .highest }
 
 abbrev pub withTally : ℕ → Store → Store
-withTally tally s = record { cuts = s .cuts; cells = s .cells; free = s .free; waiting = s .waiting; memo = s .memo; on = s .on; tally = tally }
+withTally tally s = record { cuts = s .cuts; cells = s .cells; free = s .free; waiting = s .waiting; memo = s .memo; on = s .on; tally = tally; highest = s .highest }
+
+abbrev pub withHighest : ℕ → Store → Store
+withHighest highest s = record { cuts = s .cuts; cells = s .cells; free = s .free; waiting = s .waiting; memo = s .memo; on = s .on; tally = s .tally; highest = highest }
 
 -- ---- a fresh store
 
--- "A fresh store has no cut, one cell (0) on page 0, and pages 1 to 127 free in that order."
+-- "A fresh store has no cut, one cell (0) on page 0, and pages 1 to 127 free in that order."; its highest minute is "0 when fresh"
 unfoldable pub fresh : Store
 fresh = record {
   cuts = record { easts = []; norths = [] };
@@ -93,6 +98,7 @@ fresh = record {
   memo = [];
   on = [];
   tally = 0;
+  highest = 0;
 }
 
 -- ---- cells

@@ -26,8 +26,8 @@ toldList l buffer =
 unfoldable pub toldDone : Request → Plain → List ℕ → Told
 toldDone (signOn r f) x buffer = record { number = 0; count = 0; buffer = buffer }
 toldDone (report r f) x buffer = record { number = 0; count = 0; buffer = buffer }
-toldDone (signOff r) x buffer = record { number = 0; count = 0; buffer = buffer }
-toldDone (range rect) x buffer = toldList (plainFound x rect) buffer
+toldDone (signOff r minute) x buffer = record { number = 0; count = 0; buffer = buffer }
+toldDone (range rect minute) x buffer = toldList (plainFound x rect minute) buffer
 
 unfoldable pub told : Plain → List ℕ → List ℕ → Told
 told x bytes buffer =

@@ -60,6 +60,13 @@ abbrev pub InSquareIf : Option Place → Type 0
 InSquareIf none = Unit {0}
 InSquareIf (some p) = InSquare p
 
+-- no entry, and no waiting report, is above this minute
+abbrev pub EntriesDated : ℕ → List Cell → Type 0
+EntriesDated highest cells = Each (λ c. Each (λ e. e .val .minute ≤ highest) (c .entries)) cells
+
+abbrev pub WaitingDated : ℕ → Rows Report → Type 0
+WaitingDated highest waiting = Each (λ w. w .val .fix .minute ≤ highest) waiting
+
 -- what holds of each cell
 pub record GoodCell (cuts : Cuts) (c : Cell) : Type 0 where
   -- "numbers from 0 to 63"
@@ -115,6 +122,9 @@ pub record WellFormed (s : Store) : Type 0 where
   pub round : (n : ℕ) → count n (map (λ c. c .number) (s .cells)) ≤ 1
   -- "c is 0 to 15."
   pub tallied : s .tally < sweepEvery
+  -- "a sound store has no entry or waiting report above it"
+  pub entries-dated : EntriesDated (s .highest) (s .cells)
+  pub waiting-dated : WaitingDated (s .highest) (s .waiting)
   -- "Counting round places from 0, for every k below the number of cells the stale entries in cells at place k and later, plus all waiting, are at most
   -- 16 × (63 − k) + c + 127."
   pub bounded : (k : ℕ) → k < length (s .cells)

@@ -3,26 +3,26 @@ use mathlib.Core.List.{List, [], _∷_, _++_, map}
 use mathlib.Core.Path.{_≡_}
 use Prim.Native.Nat.{ℕ, suc, _+_, _-_, _*_, _/_}
 use lib.ListN.{length, replicate}
-use Rattle.terms.specs.Terms.{Place, fieldBytes}
+use Rattle.terms.specs.Terms.{Place, fieldBytes, minuteBytes}
 use Rattle.lists.specs.Parts.{tab}
 use Rattle.lists.specs.Sums.{concat}
 use Rattle.lists.specs.Words.{le}
 use Rattle.rules.specs.Store.{Store, fresh}
 use Rattle.rules.specs.Carry.{Outcome, carry}
 
--- ---- records as bytes
+-- ---- records as bytes, each at minute 0
 
 abbrev fieldsOf : List ℕ → List ℕ
 fieldsOf l = concat (map (le fieldBytes) l)
 
 abbrev onBytes : ℕ → Place → List ℕ
-onBytes r p = fieldsOf (10 ∷ 1 ∷ r ∷ p .east ∷ p .north ∷ [])
+onBytes r p = fieldsOf (14 ∷ 1 ∷ r ∷ p .east ∷ p .north ∷ []) ++ le minuteBytes 0
 
 abbrev offBytes : ℕ → List ℕ
-offBytes r = fieldsOf (6 ∷ 3 ∷ r ∷ [])
+offBytes r = fieldsOf (10 ∷ 3 ∷ r ∷ []) ++ le minuteBytes 0
 
 abbrev rangeBytes : ℕ → ℕ → ℕ → ℕ → List ℕ
-rangeBytes west east south north = fieldsOf (12 ∷ 4 ∷ west ∷ east ∷ south ∷ north ∷ [])
+rangeBytes west east south north = fieldsOf (16 ∷ 4 ∷ west ∷ east ∷ south ∷ north ∷ []) ++ le minuteBytes 0
 
 -- ---- runs
 
@@ -86,9 +86,9 @@ shortPoints =
     -- "No byte at hand: 3", "One byte: 3."
     record { before = []; bytes = []; room = 0; sees = numbered 3 }
     ∷ record { before = []; bytes = 10 ∷ []; room = 0; sees = numbered 3 }
-    -- "Length 4, kind 9: 4.", "Kind 3, length 10: 5."
+    -- "Length 4, kind 9: 4."; "01's worked point for kind 3 with a wrong length takes 14 in place of 10"
     ∷ record { before = []; bytes = fieldsOf (4 ∷ 9 ∷ []); room = 0; sees = numbered 4 }
-    ∷ record { before = []; bytes = fieldsOf (10 ∷ 3 ∷ 7 ∷ 0 ∷ 0 ∷ []); room = 0; sees = numbered 5 }
+    ∷ record { before = []; bytes = fieldsOf (14 ∷ 3 ∷ 7 ∷ 0 ∷ 0 ∷ 0 ∷ 0 ∷ []); room = 0; sees = numbered 5 }
     -- "Radio 4,095 passes", "4,096 gives 6"
     ∷ record { before = []; bytes = onBytes 4095 (apart 1); room = 0; sees = numbered 0 }
     ∷ record { before = []; bytes = onBytes 4096 (apart 1); room = 0; sees = numbered 6 }

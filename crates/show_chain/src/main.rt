@@ -40,6 +40,7 @@ fn entry(i: usize) -> Entry
         radio: (3 * (i + 1)) as u16,
         east: (100 + 7 * i) as u16,
         north: (60000 - 11 * i) as u16,
+        minute: (65500 + i) as u32,
     }
 }
 
@@ -178,5 +179,7 @@ fn print_entry(e: Entry) {
     print_field(b"", e.radio);
     print_field(b" ", e.east);
     print_field(b" ", e.north);
+    print(b" ");
+    io::print_decimal(STDOUT_FILENO, e.minute as u64);
     print(b"\n");
 }

@@ -28,7 +28,7 @@ const CELL: u16 = 4;
 
 const ENTRIES: usize = 34;
 
-// Where the fields stand in a page; the further page has two entries, 20 used bytes.
+// Where the fields stand in a page; the further page has two entries, 28 used bytes.
 const USED_AT: usize = 0;
 
 const KIND_AT: usize = 2;
@@ -37,11 +37,11 @@ const NEXT_AT: usize = 4;
 
 const RADIO_AT: usize = 8;
 
-const SECOND_RADIO_AT: usize = 14;
+const SECOND_RADIO_AT: usize = 18;
 
-const UNUSED_AT: usize = 20;
+const UNUSED_AT: usize = 28;
 
-const LAST_AT: usize = 198;
+const LAST_AT: usize = 326;
 
 fn main() {
     let mut buffer = [0u8; BUFFER_BYTES];
@@ -61,6 +61,7 @@ fn entry(i: usize) -> Entry
         radio: (100 * (i + 1)) as u16,
         east: (1000 + i) as u16,
         north: (2000 + i) as u16,
+        minute: 0,
     }
 }
 
@@ -230,7 +231,7 @@ fn show_size(buffer: &[u8])
 {
     let page = page::page_at(buffer, FIRST);
     print_layout(
-        b"page of 199 bytes",
+        b"page of 327 bytes",
         page_layout::laid_out(front(page, PAGE_BYTES - 1)),
     );
 }
@@ -239,8 +240,8 @@ fn show_used(buffer: &mut [u8])
     requires { ⌜ length (now buffer) ≡ bufferBytes ⌝ }
 {
     try_page(buffer, b"used bytes 7", FREE, USED_AT, 7);
-    try_page(buffer, b"used bytes 19", FURTHER, USED_AT, 19);
-    try_page(buffer, b"used bytes 206", FIRST, USED_AT, 206);
+    try_page(buffer, b"used bytes 27", FURTHER, USED_AT, 27);
+    try_page(buffer, b"used bytes 338", FIRST, USED_AT, 338);
 }
 
 fn show_kinds(buffer: &mut [u8])

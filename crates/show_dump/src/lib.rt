@@ -28,6 +28,11 @@ fn print_field(name: &[u8], value: u16) {
     io::print_decimal(STDOUT_FILENO, value as u64);
 }
 
+fn print_minute(name: &[u8], minute: u32) {
+    print(name);
+    io::print_decimal(STDOUT_FILENO, minute as u64);
+}
+
 fn print_title(when: &[u8], name: &[u8], records: u16) {
     print(b"---- ");
     print(when);
@@ -69,6 +74,7 @@ fn print_desk(desk: Desk, pages: &[u8])
     print_memo(desk, within(parts.lines as usize, 1151));
     print_on(desk, within(parts.on as usize, 512));
     print_field(b"tally ", parts.tally);
+    print_minute(b" highest minute ", parts.highest);
     print(b"\n");
 }
 
@@ -116,6 +122,7 @@ fn print_report(r: Report) {
     print_field(b"waiting ", r.radio);
     print_field(b" ", r.east);
     print_field(b" ", r.north);
+    print_minute(b" ", fields::wide_of(r.low, r.high));
     if r.new == 1 {
         print(b" new");
     }
@@ -231,5 +238,6 @@ fn print_entry(e: Entry) {
     print_field(b"", e.radio);
     print_field(b" ", e.east);
     print_field(b" ", e.north);
+    print_minute(b" ", e.minute);
     print(b"\n");
 }

@@ -82,16 +82,16 @@ fn run(desk: Desk, pages: &mut [u8], first: u16, end: u16, apart: bool) -> Desk
 
 // ---- the records
 
-// Record i: radios 1 to 33 sign on, 1 to 7 report.
+// Record i, at minute i: radios 1 to 33 sign on, 1 to 7 report.
 fn step(desk: Desk, pages: &mut [u8], i: u16, apart: bool) -> Desk
     requires { ⌜ (length (now pages) ≡ bufferBytes) × (1 ≤ i) × (i ≤ 59) ⌝ }
     ensures { λ _. ⌜ length (now (pages .exit)) ≡ bufferBytes ⌝ }
 {
     if i <= 33 {
-        return place(desk, pages, SIGN_ON, i, 0, apart);
+        return place(desk, pages, i, SIGN_ON, i, 0, apart);
     }
     if i <= 40 {
-        return place(desk, pages, REPORT, i - 33, 500, apart);
+        return place(desk, pages, i, REPORT, i - 33, 500, apart);
     }
     later(desk, pages, i, apart)
 }
@@ -102,41 +102,49 @@ fn later(desk: Desk, pages: &mut [u8], i: u16, apart: bool) -> Desk
     ensures { λ _. ⌜ length (now (pages .exit)) ≡ bufferBytes ⌝ }
 {
     if i <= 48 {
-        return carried(desk, pages, 6, SIGN_OFF, i - 40, 0, 0);
+        return signed_off(desk, pages, i, i - 40);
     }
     if i <= 51 {
-        return carried(desk, pages, 6, SIGN_OFF, i - 32, 0, 0);
+        return signed_off(desk, pages, i, i - 32);
     }
     if i <= 53 {
-        return place(desk, pages, REPORT, i - 43, 20000, apart);
+        return place(desk, pages, i, REPORT, i - 43, 20000, apart);
     }
-    place(desk, pages, REPORT, i - 34, 20000, apart)
+    place(desk, pages, i, REPORT, i - 34, 20000, apart)
 }
 
 // A sign-on or report from the radio's place, so many metres further east; or from the one place.
-fn place(desk: Desk, pages: &mut [u8], kind: u16, radio: u16, further: u16, apart: bool) -> Desk
+fn place(
+    desk: Desk,
+    pages: &mut [u8],
+    minute: u16,
+    kind: u16,
+    radio: u16,
+    further: u16,
+    apart: bool,
+) -> Desk
     requires { ⌜ (length (now pages) ≡ bufferBytes) × (radio ≤ 33) × (further ≤ 20000) ⌝ }
     ensures { λ _. ⌜ length (now (pages .exit)) ≡ bufferBytes ⌝ }
 {
     if apart {
-        return carried(
+        return placed(
             desk,
             pages,
-            10,
+            minute,
             kind,
             radio,
             100 + 1000 * radio + further,
             60000 - 1000 * radio,
         );
     }
-    carried(desk, pages, 10, kind, radio, 100, 60000)
+    placed(desk, pages, minute, kind, radio, 100, 60000)
 }
 
-// A record of these fields; of a sign-off the first three count.
-fn carried(
+// A sign-on or report of these fields.
+fn placed(
     desk: Desk,
     pages: &mut [u8],
-    size: u16,
+    minute: u16,
     kind: u16,
     radio: u16,
     east: u16,
@@ -145,12 +153,25 @@ fn carried(
     requires { ⌜ length (now pages) ≡ bufferBytes ⌝ }
     ensures { λ _. ⌜ length (now (pages .exit)) ≡ bufferBytes ⌝ }
 {
-    let mut bytes = [0u8; 10];
-    fields::write(&mut bytes, 0, size);
+    let mut bytes = [0u8; 14];
+    fields::write(&mut bytes, 0, 14);
     fields::write(&mut bytes, 2, kind);
     fields::write(&mut bytes, 4, radio);
     fields::write(&mut bytes, 6, east);
     fields::write(&mut bytes, 8, north);
+    fields::write_wide(&mut bytes, 10, minute as u32);
+    told(desk, pages, &bytes)
+}
+
+fn signed_off(desk: Desk, pages: &mut [u8], minute: u16, radio: u16) -> Desk
+    requires { ⌜ length (now pages) ≡ bufferBytes ⌝ }
+    ensures { λ _. ⌜ length (now (pages .exit)) ≡ bufferBytes ⌝ }
+{
+    let mut bytes = [0u8; 10];
+    fields::write(&mut bytes, 0, 10);
+    fields::write(&mut bytes, 2, SIGN_OFF);
+    fields::write(&mut bytes, 4, radio);
+    fields::write_wide(&mut bytes, 6, minute as u32);
     told(desk, pages, &bytes)
 }
 
@@ -159,7 +180,7 @@ fn told(desk: Desk, pages: &mut [u8], bytes: &[u8]) -> Desk
     requires { ⌜ length (now pages) ≡ bufferBytes ⌝ }
     ensures { λ _. ⌜ length (now (pages .exit)) ≡ bufferBytes ⌝ }
 {
-    let mut buffer = [0u8; 6];
+    let mut buffer = [0u8; 10];
     let done = carry::carry(desk, pages, bytes, &mut buffer);
     let answer = done.answer;
     show_dump::print_refused(answer.number);

@@ -73,6 +73,19 @@ pub fn try_marks(name: &[u8], desk: Desk, buffer: &[u8], mark_20: u16, mark_400:
     try_waiting(name, desk, buffer, small::two_reports(mark_20, mark_400));
 }
 
+// With radio 400's report told at another minute.
+pub fn try_minute(name: &[u8], desk: Desk, buffer: &[u8], minute: u32) {
+    let mut waiting = small::waiting_of(desk);
+    let last = waiting.rows[1];
+    waiting.rows[1] = small::told_at(last, minute);
+    try_waiting(name, desk, buffer, waiting);
+}
+
+// With another highest minute.
+pub fn try_highest(name: &[u8], desk: Desk, buffer: &[u8], highest: u32) {
+    try_desk(name, small::with_highest(desk, highest), buffer);
+}
+
 // With an unmarked report more, before the two.
 pub fn try_report(name: &[u8], desk: Desk, buffer: &[u8], radio: u16) {
     let old = small::waiting_of(desk);
@@ -135,11 +148,15 @@ pub const RADIO_AT: usize = 8;
 
 pub const EAST_AT: usize = 10;
 
-pub const THIRD_RADIO_AT: usize = 20;
+pub const LOW_HALF_AT: usize = 14;
 
-pub const LAST_RADIO_AT: usize = 194;
+pub const HIGH_HALF_AT: usize = 16;
 
-pub const LAST_AT: usize = 198;
+pub const THIRD_RADIO_AT: usize = 28;
+
+pub const LAST_RADIO_AT: usize = 318;
+
+pub const LAST_AT: usize = 326;
 
 // The field at `at` is v; what it was.
 fn exchange(buffer: &mut [u8], at: usize, v: u16) -> u16

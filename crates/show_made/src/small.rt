@@ -1,6 +1,6 @@
 // The store that is damaged: one east cut, a low cell (0) and a high cell (1). The low cell's 34 entries are on pages 3 and 5, the high cell's three on page 0.
 // Radio 10 moved from the high to the low cell and radio 7 signed off, so that each has a stale entry in the high cell and a memo line. Radios 20 and 400 wait,
-// 400 since its sign-on.
+// 400 since its sign-on. The highest minute is that of the high cell's entries and of radio 400's report.
 ghost use mathlib.Core.Path.{_≡_};
 ghost use Prim.Native.Nat.{_<_, _≤_};
 ghost use lib.ListN.{length};
@@ -34,6 +34,9 @@ pub const HIGH_FIRST: usize = 0;
 pub const FREE_FRONT: u16 = 1;
 
 pub const LOW_ENTRIES: usize = 34;
+
+// More than a half has, so that both halves of a minute count.
+pub const HIGHEST: u32 = 70000;
 
 // ---- the desk's parts, as they are made: slots in use first
 
@@ -172,20 +175,31 @@ pub fn both_cells() -> Directory {
     )
 }
 
+// A report told at minute 0.
 pub fn report(radio: u16, east: u16, north: u16, new: u16) -> Report {
     Report {
         radio,
         east,
         north,
         new,
+        low: 0,
+        high: 0,
     }
+}
+
+// The same report, told at this minute.
+pub fn told_at(r: Report, minute: u32) -> Report {
+    let mut t = r;
+    t.low = fields::low_half(minute);
+    t.high = fields::high_half(minute);
+    t
 }
 
 // The reports of radios 20 and 400, so marked.
 pub fn two_reports(mark_20: u16, mark_400: u16) -> Waiting {
     let mut rows = [report(0, 0, 0, 0); Desk::WAITING_SLOTS];
-    rows[0] = report(20, 50, 60, mark_20);
-    rows[1] = report(400, 40000, 500, mark_400);
+    rows[0] = told_at(report(20, 50, 60, mark_20), 60000);
+    rows[1] = told_at(report(400, 40000, 500, mark_400), HIGHEST);
     Waiting { n: 2, rows }
 }
 
@@ -251,7 +265,8 @@ pub fn small_desk() -> Desk {
     let grown = with_cells(cut, both_cells(), FREE_FRONT);
     let waits = with_waiting(grown, two_reports(0, 1));
     let missed = with_memo(waits, two_lines(line_7(), line_10()));
-    with_tally(with_on(missed, radios_on(LOW_ENTRIES)), 3)
+    let heard = with_on(missed, radios_on(LOW_ENTRIES));
+    with_highest(with_tally(heard, 3), HIGHEST)
 }
 
 // ---- a desk with another part
@@ -323,6 +338,12 @@ pub fn with_tally(d: Desk, tally: u16) -> Desk {
     with_parts(d, parts)
 }
 
+pub fn with_highest(d: Desk, highest: u32) -> Desk {
+    let mut parts = d.parts;
+    parts.highest = highest;
+    with_parts(d, parts)
+}
+
 // ---- the pages
 
 // The i-th entry of the low cell.
@@ -333,6 +354,7 @@ fn low_entry(i: usize) -> Entry
         radio: (10 * (i + 1)) as u16,
         east: (100 + i) as u16,
         north: (200 + i) as u16,
+        minute: (69000 + i) as u32,
     }
 }
 
@@ -353,6 +375,7 @@ fn high_entry(radio: u16) -> Entry {
         radio,
         east: 40000,
         north: radio,
+        minute: HIGHEST,
     }
 }
 

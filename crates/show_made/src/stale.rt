@@ -54,6 +54,7 @@ fn fill_stale(table: &mut [u16; TABLE_WORDS], first: usize, n: usize)
                 radio: (first + i) as u16,
                 east: 1,
                 north: 1,
+                minute: 0,
             },
         );
         i += 1;

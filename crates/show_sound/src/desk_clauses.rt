@@ -9,13 +9,16 @@ use show_made::damage::try_desk;
 use show_made::damage::try_easts;
 use show_made::damage::try_edges;
 use show_made::damage::try_field;
+use show_made::damage::try_highest;
 use show_made::damage::try_marks;
+use show_made::damage::try_minute;
 use show_made::damage::try_norths;
 use show_made::damage::try_report;
 use show_made::damage::try_waiting;
 use show_made::small;
 use show_made::small::CUT;
 use show_made::small::HIGH_FIRST;
+use show_made::small::HIGHEST;
 use show_made::small::LAST;
 use show_made::small::LOW_FIRST;
 
@@ -28,6 +31,7 @@ pub fn show_desk(desk: Desk, buffer: &mut [u8])
     show_tiles(desk, buffer);
     show_numbers(desk, buffer);
     show_waiting(desk, buffer);
+    show_minutes(desk, buffer);
     show_unused(desk, buffer);
     show_tally(desk, buffer);
 }
@@ -129,6 +133,16 @@ fn show_waiting(desk: Desk, buffer: &[u8]) {
     try_marks(b"mark 2", desk, buffer, 0, 2);
 }
 
+// 02, Job 3: "a sound store has no entry or waiting report above it"
+fn show_minutes(desk: Desk, buffer: &[u8]) {
+    try_minute(b"report at the highest minute", desk, buffer, HIGHEST);
+    try_minute(b"report above it", desk, buffer, HIGHEST + 1);
+    try_minute(b"report above it by a half", desk, buffer, HIGHEST + 65536);
+    try_minute(b"report below it", desk, buffer, 65535);
+    try_highest(b"higher minute", desk, buffer, HIGHEST + 1);
+    try_highest(b"lower minute", desk, buffer, HIGHEST - 1);
+}
+
 // Slots past the count are zero.
 fn show_unused(desk: Desk, buffer: &[u8]) {
     try_easts(b"number past the cuts", desk, buffer, 1, CUT, 50000);
@@ -138,6 +152,8 @@ fn show_unused(desk: Desk, buffer: &[u8]) {
     let mut waiting = small::waiting_of(desk);
     waiting.rows[127] = small::report(0, 0, 0, 1);
     try_waiting(b"number past the reports", desk, buffer, waiting);
+    waiting.rows[127] = small::told_at(small::report(0, 0, 0, 0), 65536);
+    try_waiting(b"minute past the reports", desk, buffer, waiting);
     show_last(desk, buffer);
 }
 

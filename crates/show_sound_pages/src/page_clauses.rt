@@ -8,9 +8,11 @@ use page::BUFFER_BYTES;
 use page::PAGE_BYTES;
 use show_made::damage::CELL_AT;
 use show_made::damage::EAST_AT;
+use show_made::damage::HIGH_HALF_AT;
 use show_made::damage::KIND_AT;
 use show_made::damage::LAST_AT;
 use show_made::damage::LAST_RADIO_AT;
+use show_made::damage::LOW_HALF_AT;
 use show_made::damage::NEXT_AT;
 use show_made::damage::RADIO_AT;
 use show_made::damage::THIRD_RADIO_AT;
@@ -33,13 +35,14 @@ pub fn show_pages(desk: Desk, buffer: &mut [u8])
     requires { ⌜ length (now buffer) ≡ bufferBytes ⌝ }
     ensures { λ _. ⌜ length (now (buffer .exit)) ≡ bufferBytes ⌝ }
 {
-    try_desk(b"25599 bytes", desk, front(buffer, BUFFER_BYTES - 1));
+    try_desk(b"41983 bytes", desk, front(buffer, BUFFER_BYTES - 1));
     show_chains(desk, buffer);
     show_fronts(desk, buffer);
     show_kinds(desk, buffer);
     show_rest(desk, buffer);
     show_counts(desk, buffer);
     show_entries(desk, buffer);
+    show_minutes(desk, buffer);
     show_twice(desk, buffer);
 }
 
@@ -105,8 +108,8 @@ fn show_kinds(desk: Desk, buffer: &mut [u8])
     requires { ⌜ length (now buffer) ≡ bufferBytes ⌝ }
     ensures { λ _. ⌜ length (now (buffer .exit)) ≡ bufferBytes ⌝ }
 {
-    try_field(b"used bytes 27", desk, buffer, HIGH_FIRST, USED_AT, 27);
-    try_field(b"used bytes 206", desk, buffer, LOW_FIRST, USED_AT, 206);
+    try_field(b"used bytes 39", desk, buffer, HIGH_FIRST, USED_AT, 39);
+    try_field(b"used bytes 338", desk, buffer, LOW_FIRST, USED_AT, 338);
     try_field(
         b"first page of kind 3",
         desk,
@@ -216,6 +219,37 @@ fn show_entries(desk: Desk, buffer: &mut [u8])
         LOW_FURTHER,
         EAST_AT,
         CUT,
+    );
+}
+
+// 02, Job 3: "a sound store has no entry or waiting report above it"; the highest minute is 65536 + 4464
+fn show_minutes(desk: Desk, buffer: &mut [u8])
+    requires { ⌜ length (now buffer) ≡ bufferBytes ⌝ }
+    ensures { λ _. ⌜ length (now (buffer .exit)) ≡ bufferBytes ⌝ }
+{
+    try_field(
+        b"entry at the highest minute",
+        desk,
+        buffer,
+        LOW_FURTHER,
+        LOW_HALF_AT,
+        4464,
+    );
+    try_field(
+        b"entry above it",
+        desk,
+        buffer,
+        LOW_FURTHER,
+        LOW_HALF_AT,
+        4465,
+    );
+    try_field(
+        b"entry above it by a half",
+        desk,
+        buffer,
+        LOW_FURTHER,
+        HIGH_HALF_AT,
+        2,
     );
 }
 

@@ -29,13 +29,13 @@ module _ (d : Desk) (b : List ℕ) where
   pub desk-unsound : {a : Bool} → a ≡ deskSound d → not a ≡ true → (false ≡ true → Sound d b) × (Sound d b → false ≡ true)
   desk-unsound {a} e f = unsound d b a f (λ y. e ∙ sound-desk d b y)
 
-  module _ {p : Bool} (says : (p ≡ true → PagesSound b (deskGrid d .cells) (deskGrid d .free)) × (PagesSound b (deskGrid d .cells) (deskGrid d .free) → p ≡ true)) where
+  module _ {p : Bool} (says : (p ≡ true → PagesSound (d .parts .highest) b (deskGrid d .cells) (deskGrid d .free)) × (PagesSound (d .parts .highest) b (deskGrid d .cells) (deskGrid d .free) → p ≡ true)) where
     pub pages-unsound : not p ≡ true → (false ≡ true → Sound d b) × (Sound d b → false ≡ true)
     pages-unsound f = unsound d b p f (λ y. says .1 (desk-pages d b y))
 
     module _ (passed : not p ≡ false) where
       -- what the radios' test may rely on
-      pub pages-passed : PagesSound b (deskGrid d .cells) (deskGrid d .free)
+      pub pages-passed : PagesSound (d .parts .highest) b (deskGrid d .cells) (deskGrid d .free)
       pages-passed = says .0 (not-false p passed)
 
       -- the pages' entries are those of the cells

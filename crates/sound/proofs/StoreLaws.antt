@@ -18,9 +18,9 @@ use Rattle.desk.specs.Views.{everySlot}
 use Rattle.desk.specs.Sound.{Sound}
 use Rattle.desk.proofs.ReadLaws.{Paged}
 use Rattle.desk.proofs.UniqueLaws.{take-slots, same-store}
-use Rattle.sound_clauses.specs.Cells.{rowsOf, chainTest, radiosTest, insideTest}
+use Rattle.sound_clauses.specs.Cells.{rowsOf, chainTest, radiosTest, insideTest, minutesTest}
 use Rattle.sound_clauses.proofs.LoopsLaws.{each-to-map}
-use Rattle.sound_clauses.proofs.CellsLaws.{true-pages, true-chain, true-radios, true-inside}
+use Rattle.sound_clauses.proofs.CellsLaws.{true-pages, true-chain, true-radios, true-inside, true-minutes}
 use Rattle.sound_clauses.proofs.WellLaws.{Passes, passes-well, well-passes}
 use Rattle.memo.proofs.MemoLaws.{well-memo}
 use Rattle.sound_desk.specs.Sound.{deskSound, shown, DeskTests, Shaped}
@@ -36,17 +36,23 @@ abbrev pub rowsTest : Store → Bool
 rowsTest s = entriesTest (s .memo) (s .waiting) (s .on) (s .tally) (rowsOf (s .cells))
 
 module _ (s : Store) where
-  cell-tests : (t : Cell → Bool) → ((c : Cell) → CellSound c → t c ≡ true) → Each CellSound (s .cells) → all t (s .cells) ≡ true
-  cell-tests t h good = each-all t CellSound (s .cells) h good
+  cell-tests : (t : Cell → Bool) → ((c : Cell) → CellSound (s .highest) c → t c ≡ true) → Each (CellSound (s .highest)) (s .cells) → all t (s .cells) ≡ true
+  cell-tests t h good = each-all t (CellSound (s .highest)) (s .cells) h good
 
-  row-tests : Each CellSound (s .cells) → all radiosTest (rowsOf (s .cells)) ≡ true
+  row-tests : Each (CellSound (s .highest)) (s .cells) → all radiosTest (rowsOf (s .cells)) ≡ true
   row-tests good =
       each-all radiosTest (λ es. radiosTest es ≡ true) (rowsOf (s .cells)) (λ es t. t)
       (each-to-map (λ es. radiosTest es ≡ true) (λ c. c .entries) (s .cells)
-      (each-map CellSound (λ c. radiosTest (c .entries) ≡ true) (s .cells) (λ c g. true-radios (c .entries) (g .rising) (g .radios)) good))
+      (each-map (CellSound (s .highest)) (λ c. radiosTest (c .entries) ≡ true) (s .cells) (λ c g. true-radios (c .entries) (g .rising) (g .radios)) good))
+
+  minute-tests : Each (CellSound (s .highest)) (s .cells) → all (minutesTest (s .highest)) (rowsOf (s .cells)) ≡ true
+  minute-tests good =
+      each-all (minutesTest (s .highest)) (λ es. minutesTest (s .highest) es ≡ true) (rowsOf (s .cells)) (λ es t. t)
+      (each-to-map (λ es. minutesTest (s .highest) es ≡ true) (λ c. c .entries) (s .cells)
+      (each-map (CellSound (s .highest)) (λ c. minutesTest (s .highest) (c .entries) ≡ true) (s .cells) (λ c g. true-minutes (s .highest) (c .entries) (g .dated)) good))
 
   -- those of the desk, of the pages and of the radios are all
-  pub tests-pass : DeskTests s → PagesOnce s → Each CellSound (s .cells) → rowsTest s ≡ true → Passes s
+  pub tests-pass : DeskTests s → PagesOnce s → Each (CellSound (s .highest)) (s .cells) → rowsTest s ≡ true → Passes s
   unfolding entriesTest
   tests-pass t once good r = record {
     few = sym (ap (λ (n : ℕ). leb n maxCells) (length-map (s .cells) (λ c. c .number))) ∙ t .few;
@@ -60,6 +66,7 @@ module _ (s : Store) where
     chained = cell-tests (λ c. chainTest (c .chain) (c .entries)) (λ c g. true-chain (c .chain) (c .entries) (g .paged)) good;
     radios = row-tests good;
     placed = cell-tests (λ c. insideTest (c .edges) (c .entries)) (λ c g. true-inside (c .edges) (c .entries) (g .placed)) good;
+    minutes = minute-tests good;
     present = both-left _ _ (both-right _ _ r);
     unmarked = both-left _ _ r;
     memo = t .memo;
@@ -67,6 +74,7 @@ module _ (s : Store) where
     lasts = t .lasts;
     waiting = t .waiting;
     places = t .places;
+    dated = t .dated;
     boxed = t .boxed;
     round = t .round;
     tallied = t .tallied;
@@ -79,7 +87,7 @@ module _ (s : Store) where
 
 -- ---- desk and pages that have passed their own tests
 
-module _ (d : Desk) (b : List ℕ) (shape : Shaped d) (desk : deskSound d ≡ true) (x : PagesSound b (deskGrid d .cells) (deskGrid d .free)) where
+module _ (d : Desk) (b : List ℕ) (shape : Shaped d) (desk : deskSound d ≡ true) (x : PagesSound (d .parts .highest) b (deskGrid d .cells) (deskGrid d .free)) where
   -- the store put together: what the desk shows, with the cells and the free chain that the pages have
   abbrev pub whole : Store
   whole = record {
@@ -90,6 +98,7 @@ module _ (d : Desk) (b : List ℕ) (shape : Shaped d) (desk : deskSound d ≡ tr
     memo = shown d .memo;
     on = shown d .on;
     tally = shown d .tally;
+    highest = shown d .highest;
   }
 
   -- the directory shows the cells of the pages
@@ -118,7 +127,7 @@ module _ (d : Desk) (b : List ℕ) (shape : Shaped d) (desk : deskSound d ≡ tr
         cells = record { n = n i; words = slotWords (slotted maxCells noSlot (l i)) };
         free = f i;
       })
-      (waitingOf (shown d .waiting)) (memoOf (shown d .memo)) (onOf (shown d .on)) (shown d .tally))
+      (waitingOf (shown d .waiting)) (memoOf (shown d .memo)) (onOf (shown d .on)) (shown d .tally) (shown d .highest))
 
   -- it is sound if the radios' tests pass
   pub radios-sound : rowsTest whole ≡ true → Sound d b
@@ -133,7 +142,7 @@ module _ (d : Desk) (b : List ℕ) (shape : Shaped d) (desk : deskSound d ≡ tr
   pub whole-store : (y : Sound d b) → y .store ≡ whole
   whole-store y =
       same-store (y .store) whole b (y .well .once) (store-once x whole refl refl)
-      (each-map _ Paged (y .store .cells) (λ c g. g .paged) (y .well .cells)) (each-map CellSound Paged (x .cells) (λ c g. g .paged) (x .good))
+      (each-map _ Paged (y .store .cells) (λ c g. g .paged) (y .well .cells)) (each-map (CellSound (d .parts .highest)) Paged (x .cells) (λ c g. g .paged) (x .good))
       (sym (y .held) ∙ whole-held) (y .laid) (store-laid x whole refl refl)
 
   -- so it is sound only if they pass

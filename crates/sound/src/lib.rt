@@ -31,7 +31,13 @@ pub fn parts_sound<'a>(
     if !sound_desk::desk_sound(parts, cells, waiting, memo, on) {
         return false;
     }
-    if !sound_pages::pages_sound(pages, cells, parts.frame.cells as usize, parts.frame.free) {
+    if !sound_pages::pages_sound(
+        pages,
+        cells,
+        parts.frame.cells as usize,
+        parts.frame.free,
+        parts.highest,
+    ) {
         return false;
     }
     sound_radios::radios_sound(pages, parts, cells, waiting, memo, on)

@@ -3,9 +3,9 @@ use mathlib.Core.Path.{_≡_}
 use mathlib.Core.Bool.{true}
 use mathlib.Core.List.{List}
 use Prim.Native.Nat.{ℕ, _≤_, _<_}
-use lib.Dec.{ltb}
+use lib.Dec.{leb, ltb}
 use lib.ListN.{length}
-use borrow.Author.Tests.{lt-ltb, ltb-true, eqb-true, eq-eqb}
+use borrow.Author.Tests.{le-leb, leb-true, lt-ltb, ltb-true, eqb-true, eq-eqb}
 use Rattle.terms.specs.Terms.{Fix, maxRadio, pages}
 use Rattle.lists.specs.Rows.{Rows, Rising, UpTo}
 use Rattle.lists.specs.Sums.{count}
@@ -14,7 +14,7 @@ use Rattle.lists.proofs.TestsLaws.{all-each, each-all}
 use Rattle.rules.specs.Limits.{maxCells}
 use Rattle.rules.specs.Grid.{Rect, inside}
 use Rattle.rules.specs.Store.{pagesFor}
-use Rattle.sound_clauses.specs.Cells.{numbersTest, roundTest, pagesTest, chainTest, radiosTest, insideTest}
+use Rattle.sound_clauses.specs.Cells.{numbersTest, roundTest, pagesTest, chainTest, radiosTest, insideTest, minutesTest}
 use Rattle.sound_clauses.proofs.LoopsLaws.{rises-rows, rows-rise, once-true, true-once, at-most-true, true-at-most}
 
 -- ---- numbers
@@ -70,3 +70,11 @@ inside-true edges es e = all-each (λ x. inside edges (x .val .place)) (λ x. in
 pub true-inside : (edges : Rect) (es : Rows Fix) → Each (λ e. inside edges (e .val .place) ≡ true) es → insideTest edges es ≡ true
 unfolding insideTest
 true-inside edges es e = each-all (λ x. inside edges (x .val .place)) (λ x. inside edges (x .val .place) ≡ true) es (λ x t. t) e
+
+pub minutes-true : (highest : ℕ) (es : Rows Fix) → minutesTest highest es ≡ true → Each (λ e. e .val .minute ≤ highest) es
+unfolding minutesTest
+minutes-true highest es e = all-each (λ x. leb (x .val .minute) highest) (λ x. x .val .minute ≤ highest) es (λ x t. leb-true (x .val .minute) highest t) e
+
+pub true-minutes : (highest : ℕ) (es : Rows Fix) → Each (λ e. e .val .minute ≤ highest) es → minutesTest highest es ≡ true
+unfolding minutesTest
+true-minutes highest es e = each-all (λ x. leb (x .val .minute) highest) (λ x. x .val .minute ≤ highest) es (λ x t. le-leb (x .val .minute) highest t) e

@@ -2,11 +2,11 @@
 use mathlib.Core.Path.{_≡_, subst}
 use mathlib.Core.Bool.{true}
 use mathlib.Core.Option.{some}
-use Prim.Native.Nat.{ℕ, _<_}
+use Prim.Native.Nat.{ℕ, _≤_, _<_}
 use native.Mathlib.Omega.{arith}
-use lib.Dec.{ltb}
+use lib.Dec.{leb, ltb}
 use lib.ListN.{length}
-use borrow.Author.Tests.{lt-ltb, ltb-true}
+use borrow.Author.Tests.{le-leb, leb-true, lt-ltb, ltb-true}
 use Rattle.terms.specs.Terms.{maxRadio}
 use Rattle.lists.specs.Rows.{Rows, Rising, UpTo, find}
 use Rattle.lists.specs.Tests.{Each}
@@ -17,11 +17,11 @@ use Rattle.rules.specs.Grid.{Cuts, Box, boxes}
 use Rattle.rules.specs.Store.{Report}
 use Rattle.rules.specs.Flush.{inBox}
 use Rattle.rules.specs.Carry.{waitingIn}
-use Rattle.rules.specs.WellFormed.{InSquare}
+use Rattle.rules.specs.WellFormed.{InSquare, WaitingDated}
 use Rattle.rules.proofs.CutLaws.{inBox-box, boxes-hold}
 use Rattle.sound_clauses.specs.Loops.{risesTo, keys}
 use Rattle.sound_clauses.specs.Grid.{placeTest}
-use Rattle.sound_clauses.specs.Waiting.{waitingTest, placesTest, fewTest}
+use Rattle.sound_clauses.specs.Waiting.{waitingTest, placesTest, datedTest, fewTest}
 use Rattle.sound_clauses.proofs.LoopsLaws.{all-every, sum-cases, rises-rows, rows-rise}
 use Rattle.sound_clauses.proofs.GridLaws.{place-true, true-place}
 
@@ -46,6 +46,18 @@ pub true-places : (ws : Rows Report) → Rising 0 ws → ((r : ℕ) (w : Report)
 unfolding placesTest
 true-places ws a h =
     each-all (λ x. placeTest (x .val .fix .place)) (λ x. InSquare (x .val .fix .place)) ws (λ x s. true-place (x .val .fix .place) s) (find-each (λ _ v. InSquare (v .fix .place)) 0 ws a h)
+
+-- ---- minutes
+
+pub dated-true : (highest : ℕ) (ws : Rows Report) → datedTest highest ws ≡ true → WaitingDated highest ws
+unfolding datedTest
+dated-true highest ws e =
+    all-each (λ w. leb (w .val .fix .minute) highest) (λ w. w .val .fix .minute ≤ highest) ws (λ w t. leb-true (w .val .fix .minute) highest t) e
+
+pub true-dated : (highest : ℕ) (ws : Rows Report) → WaitingDated highest ws → datedTest highest ws ≡ true
+unfolding datedTest
+true-dated highest ws h =
+    each-all (λ w. leb (w .val .fix .minute) highest) (λ w. w .val .fix .minute ≤ highest) ws (λ w t. le-leb (w .val .fix .minute) highest t) h
 
 -- ---- fewer than 8 a memory cell
 

@@ -15,17 +15,17 @@ use Rattle.rules.specs.Limits.{lastMetre, maxCells, maxCuts}
 use Rattle.rules.specs.Grid.{Axis, eastward, northward, inside, Cuts, cutsOf}
 use Rattle.rules.specs.Store.{Cell, Store, pagesFor}
 use Rattle.rules.specs.Carry.{isOn}
-use Rattle.rules.specs.WellFormed.{RisingCuts, InSquare, chains, GoodCell, WellFormed}
+use Rattle.rules.specs.WellFormed.{RisingCuts, InSquare, EntriesDated, chains, GoodCell, WellFormed}
 use Rattle.sound_clauses.specs.Grid.{cutsTest, edgesTest, tileTest}
-use Rattle.sound_clauses.specs.Cells.{numbersOf, edgesOf, rowsOf, numbersTest, roundTest, pagesTest, chainTest, radiosTest, insideTest}
+use Rattle.sound_clauses.specs.Cells.{numbersOf, edgesOf, rowsOf, numbersTest, roundTest, pagesTest, chainTest, radiosTest, insideTest, minutesTest}
 use Rattle.sound_clauses.specs.Radios.{onTest, presentTest, unmarkedTest, memoTest, linesTest, lastsTest}
-use Rattle.sound_clauses.specs.Waiting.{waitingTest, placesTest, fewTest}
+use Rattle.sound_clauses.specs.Waiting.{waitingTest, placesTest, datedTest, fewTest}
 use Rattle.sound_clauses.specs.Round.{tallyTest, staleCounts, boundTest}
 use Rattle.sound_clauses.proofs.LoopsLaws.{each-of-map, each-to-map}
 use Rattle.sound_clauses.proofs.GridLaws.{by-axis, cuts-true, true-cuts, WholeBoxes, edges-true, true-edges, holding-cells, tile-true, true-tile}
-use Rattle.sound_clauses.proofs.CellsLaws.{numbers-true, true-numbers, round-true, true-round, pages-true, true-pages, chain-true, true-chain, radios-true, true-radios, inside-true, true-inside}
+use Rattle.sound_clauses.proofs.CellsLaws.{numbers-true, true-numbers, round-true, true-round, pages-true, true-pages, chain-true, true-chain, radios-true, true-radios, inside-true, true-inside, minutes-true, true-minutes}
 use Rattle.sound_clauses.proofs.RadiosLaws.{on-true, true-on, RowsRise, RowsUpTo, present-true, true-present, unmarked-true, true-unmarked, memo-true, true-memo, lines-true, true-lines, true-lasts}
-use Rattle.sound_clauses.proofs.WaitingLaws.{waiting-true, true-waiting, places-true, true-places, few-true, true-few}
+use Rattle.sound_clauses.proofs.WaitingLaws.{waiting-true, true-waiting, places-true, true-places, dated-true, true-dated, few-true, true-few}
 use Rattle.sound_clauses.proofs.RoundLaws.{tally-true, true-tally, bound-true, true-bound}
 
 -- ---- the tests by name
@@ -42,6 +42,7 @@ pub record Passes (s : Store) : Type 0 where
   pub chained : all (λ c. chainTest (c .chain) (c .entries)) (s .cells) ≡ true
   pub radios : all radiosTest (rowsOf (s .cells)) ≡ true
   pub placed : all (λ c. insideTest (c .edges) (c .entries)) (s .cells) ≡ true
+  pub minutes : all (minutesTest (s .highest)) (rowsOf (s .cells)) ≡ true
   pub present : presentTest (s .memo) (concat (rowsOf (s .cells))) (s .waiting) (s .on) ≡ true
   pub unmarked : unmarkedTest (s .waiting) (s .on) ≡ true
   pub memo : memoTest (s .memo) ≡ true
@@ -49,6 +50,7 @@ pub record Passes (s : Store) : Type 0 where
   pub lasts : lastsTest (s .memo) ≡ true
   pub waiting : waitingTest (s .waiting) ≡ true
   pub places : placesTest (s .waiting) ≡ true
+  pub dated : datedTest (s .highest) (s .waiting) ≡ true
   pub boxed : fewTest (s .cuts) (s .waiting) ≡ true
   pub round : roundTest (numbersOf (s .cells)) ≡ true
   pub tallied : tallyTest (s .tally) ≡ true
@@ -92,6 +94,11 @@ module _ (s : Store) (p : Passes s) where
       all-rows
       (all-each (λ c. insideTest (c .edges) (c .entries)) (λ c. Each (λ e. inside (c .edges) (e .val .place) ≡ true) (c .entries)) (s .cells) (λ c t. inside-true (c .edges) (c .entries) t) (p .placed))
 
+  all-dated : EntriesDated (s .highest) (s .cells)
+  all-dated =
+      each-of-map (λ es. Each (λ e. e .val .minute ≤ s .highest) es) (λ c. c .entries) (s .cells)
+      (all-each (minutesTest (s .highest)) (λ es. Each (λ e. e .val .minute ≤ s .highest) es) (rowsOf (s .cells)) (minutes-true (s .highest)) (p .minutes))
+
   all-tiled : (q : Place) → InSquare q → sumBy (λ c. one-if (inside (c .edges) q)) (s .cells) ≡ 1
   all-tiled q h =
       sym (holding-cells q (s .cells)) ∙ tile-true (s .cuts) (edgesOf (s .cells)) (λ a. cut-facts a .2) (λ a. cut-facts a .1) all-edged (p .tile) q h
@@ -125,6 +132,8 @@ module _ (s : Store) (p : Passes s) where
         few-in-box = few-true (s .cuts) (s .waiting) (p .boxed);
         round = round-true (numbersOf (s .cells)) (numbers-true (numbersOf (s .cells)) (p .numbers)) (p .round);
         tallied = tally-true (s .tally) (p .tallied);
+        entries-dated = all-dated;
+        waiting-dated = dated-true (s .highest) (s .waiting) (p .dated);
         bounded = bound-true (s .memo) (s .cells) (length (s .waiting)) (s .tally) (p .bounded);
       }
 
@@ -147,6 +156,11 @@ module _ (s : Store) (w : WellFormed s) where
       each-all radiosTest (λ es. radiosTest es ≡ true) (rowsOf (s .cells)) (λ es t. t)
       (each-to-map (λ es. radiosTest es ≡ true) (λ c. c .entries) (s .cells) (cell-each (λ c. radiosTest (c .entries) ≡ true) (λ c g. true-radios (c .entries) (g .rising) (g .radios))))
 
+  minutes-pass : all (minutesTest (s .highest)) (rowsOf (s .cells)) ≡ true
+  minutes-pass =
+      each-all (minutesTest (s .highest)) (λ es. Each (λ e. e .val .minute ≤ s .highest) es) (rowsOf (s .cells)) (true-minutes (s .highest))
+      (each-to-map (λ es. Each (λ e. e .val .minute ≤ s .highest) es) (λ c. c .entries) (s .cells) (w .entries-dated))
+
   cells-rise : RowsRise (s .cells)
   cells-rise = cell-each (λ c. Rising 0 (c .entries)) (λ c g. g .rising)
 
@@ -164,6 +178,7 @@ module _ (s : Store) (w : WellFormed s) where
     chained = cell-all (λ c. chainTest (c .chain) (c .entries)) (λ c g. true-chain (c .chain) (c .entries) (g .paged));
     radios = radios-pass;
     placed = cell-all (λ c. insideTest (c .edges) (c .entries)) (λ c g. true-inside (c .edges) (c .entries) (g .placed));
+    minutes = minutes-pass;
     present = true-present (s .memo) (s .cells) (s .waiting) (s .on) cells-rise (w .waiting-rises) (w .rising-on) (w .present);
     unmarked = true-unmarked (s .waiting) (s .on) (w .waiting-rises) (w .unmarked);
     memo = true-memo (s .memo) (w .memo-rises) (w .memo-radios);
@@ -171,6 +186,7 @@ module _ (s : Store) (w : WellFormed s) where
     lasts = true-lasts (s .memo) (s .cells) cells-rise (w .memo-rises) (w .lines);
     waiting = true-waiting (s .waiting) (w .few-wait) (w .waiting-rises) (w .waiting-radios);
     places = true-places (s .waiting) (w .waiting-rises) (w .waiting-placed);
+    dated = true-dated (s .highest) (s .waiting) (w .waiting-dated);
     boxed = true-few (s .cuts) (s .waiting) (w .few-in-box);
     round = true-round (numbersOf (s .cells)) (w .round);
     tallied = true-tally (s .tally) (w .tallied);

@@ -2,7 +2,7 @@
 use mathlib.Core.Bool.{Bool}
 use mathlib.Core.List.{List, map}
 use Prim.Native.Nat.{ℕ}
-use lib.Dec.{eqb, ltb}
+use lib.Dec.{eqb, leb, ltb}
 use lib.ListN.{length}
 use Rattle.terms.specs.Terms.{Fix, maxRadio, pages}
 use Rattle.lists.specs.Rows.{Rows}
@@ -48,3 +48,7 @@ radiosTest es = risesTo maxRadio 0 (keys es)
 -- "Entries lie in their cell's rectangle"
 unfoldable pub insideTest : Rect → Rows Fix → Bool
 insideTest edges es = all (λ e. inside edges (e .val .place)) es
+
+-- no "entry .. above" the highest minute
+unfoldable pub minutesTest : ℕ → Rows Fix → Bool
+minutesTest highest es = all (λ e. leb (e .val .minute) highest) es

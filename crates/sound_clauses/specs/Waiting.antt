@@ -1,6 +1,7 @@
 -- Tests of the waiting reports (01, "A sound store").
 use mathlib.Core.Bool.{Bool}
-use lib.Dec.{ltb}
+use Prim.Native.Nat.{ℕ}
+use lib.Dec.{leb, ltb}
 use lib.ListN.{length}
 use Rattle.terms.specs.Terms.{maxRadio}
 use Rattle.lists.specs.Rows.{Rows}
@@ -19,6 +20,10 @@ waitingTest ws = both (ltb (length ws) fullMemory) (risesTo maxRadio 0 (keys ws)
 -- "A place is east and north, each 0 to 65,535 metres."
 unfoldable pub placesTest : Rows Report → Bool
 placesTest ws = all (λ w. placeTest (w .val .fix .place)) ws
+
+-- no "waiting report above" the highest minute
+unfoldable pub datedTest : ℕ → Rows Report → Bool
+datedTest highest ws = all (λ w. leb (w .val .fix .minute) highest) ws
 
 -- "fewer than 8 a memory cell"
 unfoldable pub fewTest : Cuts → Rows Report → Bool

@@ -44,25 +44,25 @@ use Rattle.sound_desk.proofs.WholeLaws.{on-whole, whole-on, waiting-who
 
 -- ---- what a part that has passed gives to the tests after it
 
-pub waiting-room : {a : Bool} (n : ℕ) (words : List ℕ) → a ≡ waitingSound (waitingWith n words) → not a ≡ false → n ≤ fullMemory
+pub waiting-room : {a : Bool} (highest n : ℕ) (words : List ℕ) → a ≡ waitingSound highest (waitingWith n words) → not a ≡ false → n ≤ fullMemory
 unfolding waitingSound
-waiting-room {a} n words e f =
+waiting-room {a} highest n words e f =
     let h = slots-count reportWeight (fullMemory - 1) n (everyReport words) (both-left (slotsTest reportWeight (fullMemory - 1) n (everyReport words)) _ (sym e ∙ not-false a f)) in
     omega arith
 
 -- ---- waiting reports and radios on
 
-module _ (easts norths : CutList) (w : Waiting) (on : On) {a : Bool} (waits : a ≡ waitingSound w) where
-  pub radios-waiting : not a ≡ true → false ≡ radiosSound easts norths w on
+module _ (highest : ℕ) (easts norths : CutList) (w : Waiting) (on : On) {a : Bool} (waits : a ≡ waitingSound highest w) where
+  pub radios-waiting : not a ≡ true → false ≡ radiosSound highest easts norths w on
   unfolding radiosSound
   radios-waiting f = stops _ waits f
 
   module _ (passed : not a ≡ false) {b : Bool} (heard : b ≡ onSound on) where
-    pub radios-heard : not b ≡ true → false ≡ radiosSound easts norths w on
+    pub radios-heard : not b ≡ true → false ≡ radiosSound highest easts norths w on
     unfolding radiosSound
     radios-heard f = goes waits passed (stops _ heard f)
 
-    pub radios-few : {r : Bool} → not b ≡ false → r ≡ fewSound easts norths w → r ≡ radiosSound easts norths w on
+    pub radios-few : {r : Bool} → not b ≡ false → r ≡ fewSound easts norths w → r ≡ radiosSound highest easts norths w on
     unfolding radiosSound
     radios-few f q = goes waits passed (goes heard f q)
 
@@ -73,7 +73,7 @@ module _ (d : Desk) {a : Bool} (grid : a ≡ gridSound (deskGrid d .easts) (desk
   unfolding deskSound
   desk-grid f = stops _ grid f
 
-  module _ (passed : not a ≡ false) {b : Bool} (radios : b ≡ radiosSound (deskGrid d .easts) (deskGrid d .norths) (deskWaiting d) (deskOn d)) where
+  module _ (passed : not a ≡ false) {b : Bool} (radios : b ≡ radiosSound (d .parts .highest) (deskGrid d .easts) (deskGrid d .norths) (deskWaiting d) (deskOn d)) where
     pub desk-radios : not b ≡ true → false ≡ deskSound d
     unfolding deskSound
     desk-radios f = goes grid passed (stops _ radios f)
@@ -113,19 +113,19 @@ parts : (a b : Bool) → both a b ≡ true → (a ≡ true) × (b ≡ true)
 parts a b e = (both-left a b e, both-right a b e)
 
 -- each part's test
-record Parts (easts norths : CutList) (cells : Directory) (w : Waiting) (memo : Memo) (on : On) (tally : ℕ) : Type 0 where
+record Parts (easts norths : CutList) (cells : Directory) (w : Waiting) (memo : Memo) (on : On) (tally highest : ℕ) : Type 0 where
   east : cutsSound easts ≡ true
   north : cutsSound norths ≡ true
   directory : directorySound cells ≡ true
   edges : edgesSound easts norths cells ≡ true
   tile : tileSound easts norths cells ≡ true
-  waits : waitingSound w ≡ true
+  waits : waitingSound highest w ≡ true
   heard : onSound on ≡ true
   few : fewSound easts norths w ≡ true
   lines : memoSound memo ≡ true
   tallied : tallyTest tally ≡ true
 
-desk-parts : (d : Desk) → deskSound d ≡ true → Parts (deskGrid d .easts) (deskGrid d .norths) (deskGrid d .cells) (deskWaiting d) (deskMemo d) (deskOn d) (d .parts .tally)
+desk-parts : (d : Desk) → deskSound d ≡ true → Parts (deskGrid d .easts) (deskGrid d .norths) (deskGrid d .cells) (deskWaiting d) (deskMemo d) (deskOn d) (d .parts .tally) (d .parts .highest)
 unfolding deskSound gridSound radiosSound
 desk-parts d t =
     let p = parts _ _ t in
@@ -139,14 +139,14 @@ desk-parts d t =
     let m = parts _ _ (q .1) in
     record { east = g .0; north = h .0; directory = k .0; edges = l .0; tile = l .1; waits = w .0; heard = x .0; few = x .1; lines = m .0; tallied = m .1 }
 
-parts-desk : (d : Desk) → Parts (deskGrid d .easts) (deskGrid d .norths) (deskGrid d .cells) (deskWaiting d) (deskMemo d) (deskOn d) (d .parts .tally) → deskSound d ≡ true
+parts-desk : (d : Desk) → Parts (deskGrid d .easts) (deskGrid d .norths) (deskGrid d .cells) (deskWaiting d) (deskMemo d) (deskOn d) (d .parts .tally) (d .parts .highest) → deskSound d ≡ true
 unfolding deskSound gridSound radiosSound
 parts-desk d p =
     both-intro (both-intro (p .east) (both-intro (p .north) (both-intro (p .directory) (both-intro (p .edges) (p .tile)))))
     (both-intro (both-intro (p .waits) (both-intro (p .heard) (p .few))) (both-intro (p .lines) (p .tallied)))
 
 module _ (d : Desk) (shape : Shaped d) (sound : deskSound d ≡ true) where
-  have : Parts (deskGrid d .easts) (deskGrid d .norths) (deskGrid d .cells) (deskWaiting d) (deskMemo d) (deskOn d) (d .parts .tally)
+  have : Parts (deskGrid d .easts) (deskGrid d .norths) (deskGrid d .cells) (deskWaiting d) (deskMemo d) (deskOn d) (d .parts .tally) (d .parts .highest)
   have = desk-parts d sound
 
   cells-whole : deskGrid d .cells ≡ directoryOf (shown d .cells)
@@ -162,10 +162,10 @@ module _ (d : Desk) (shape : Shaped d) (sound : deskSound d ≡ true) where
       let e = cuts-whole (deskGrid d .easts) (shape .easts) (have .east) .0 in
       let n = cuts-whole (deskGrid d .norths) (shape .norths) (have .north) .0 in
       let c = cells-whole in
-      let w = waiting-whole (deskWaiting d) (shape .waiting) (have .waits) .0 in
+      let w = waiting-whole (deskWaiting d) (shape .waiting) (d .parts .highest) (have .waits) .0 in
       let m = memo-whole (deskMemo d) (shape .memo) (have .lines) .0 in
       let o = on-whole (deskOn d) (shape .on) (have .heard) .0 in
-      λ i. deskHolding (record { easts = e i; norths = n i; cells = c i; free = deskGrid d .free }) (w i) (m i) (o i) (d .parts .tally)
+      λ i. deskHolding (record { easts = e i; norths = n i; cells = c i; free = deskGrid d .free }) (w i) (m i) (o i) (d .parts .tally) (d .parts .highest)
 
   few-cells : length (slotsIn (deskGrid d .cells)) ≤ maxCells
   unfolding directoryWith
@@ -176,7 +176,7 @@ module _ (d : Desk) (shape : Shaped d) (sound : deskSound d ≡ true) where
   unfolding edgesSound tileSound fewSound
   desk-tested =
       let c = directory-whole (deskGrid d .cells) (have .directory) (shape .cells) in
-      let w = waiting-whole (deskWaiting d) (shape .waiting) (have .waits) in
+      let w = waiting-whole (deskWaiting d) (shape .waiting) (d .parts .highest) (have .waits) in
       let m = memo-whole (deskMemo d) (shape .memo) (have .lines) in
       let slots = slotsIn (deskGrid d .cells) in
       let cuts = cutsBy (deskGrid d .easts) (deskGrid d .norths) in
@@ -193,6 +193,7 @@ module _ (d : Desk) (shape : Shaped d) (sound : deskSound d ≡ true) where
         lasts = m .3;
         waiting = w .1;
         places = w .2;
+        dated = w .3;
         boxed = have .few;
         round = ap roundTest (shown-numbers slots) ∙ c .2;
         tallied = have .tallied;
@@ -223,7 +224,7 @@ tested-desk s short t =
           ∙ whole-directory (map slotOf (s .cells)) (omega (arith, length-map (s .cells) slotOf, length-map (s .cells) (λ c. c .number))) (ap numbersTest names ∙ t .numbered) (ap roundTest names ∙ t .round);
       edges = ap₂ (λ (x : Cuts) (y : List Rect). all (edgesTest x) y) cuts rects ∙ t .edges;
       tile = ap₂ tileTest cuts rects ∙ t .tile;
-      waits = whole-waiting (s .waiting) (t .waiting) (t .places);
+      waits = whole-waiting (s .highest) (s .waiting) (t .waiting) (t .places) (t .dated);
       heard = whole-on (s .on) (t .on);
       few = ap₂ fewTest cuts waits ∙ t .boxed;
       lines = whole-memo-sound (s .memo) short (t .memo) (t .missed) (t .lasts);
@@ -232,6 +233,7 @@ tested-desk s short t =
 
 -- stores of one desk have the same tests
 pub same-tests : (s t : Store) → deskOf s ≡ deskOf t → DeskTests s → DeskTests t
+unfolding deskOf
 same-tests s t e =
     let cu = same-cuts s t e in
     let sl = same-slots s t e in
@@ -241,7 +243,8 @@ same-tests s t e =
     let me = same-memo s t e in
     let on = same-on s t e in
     let ta = same-tally s t e in
-    transport (λ i. Tests (cu i) (nu i) (ed i) (wa i) (me i) (on i) (ta i))
+    let hi : s .highest ≡ t .highest = ap (λ (d : Desk). d .parts .highest) e in
+    transport (λ i. Tests (cu i) (nu i) (ed i) (wa i) (me i) (on i) (ta i) (hi i))
 
 -- a desk that passes: the tests hold of any store whose desk it is
 pub desk-store : (d : Desk) (s : Store) → Shaped d → d ≡ deskOf s → deskSound d ≡ true → DeskTests s
@@ -263,6 +266,7 @@ well-tests s p = record {
   lasts = p .lasts;
   waiting = p .waiting;
   places = p .places;
+  dated = p .dated;
   boxed = p .boxed;
   round = p .round;
   tallied = p .tallied;

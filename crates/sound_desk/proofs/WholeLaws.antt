@@ -7,10 +7,11 @@ use Prim.Native.Nat.{ℕ, _-_, _*_, _≤_, _<_}
 use native.Mathlib.Omega.{arith}
 use lib.Dec.{eqb, leb, ltb}
 use lib.ListN.{length, length-map}
-use borrow.Author.Tests.{ltb-true, leb-true, eqb-true, ne-eqb}
+use borrow.Author.Tests.{lt-ltb, ltb-true, leb-true, eqb-true, ne-eqb}
 use Rattle.terms.specs.Terms.{Place, maxRadio, maxOn}
 use Rattle.lists.specs.Rows.{Rows}
 use Rattle.lists.specs.Tests.{one-if, both, either, all}
+use Rattle.lists.specs.Words.{lowHalf}
 use Rattle.lists.proofs.TestsLaws.{both-left, both-right, both-intro, either-cases}
 use Rattle.rules.specs.Limits.{fullMemory}
 use Rattle.rules.specs.Store.{Report as StoreReport, Line as StoreLine}
@@ -26,13 +27,13 @@ use Rattle.memo.specs.Memo.{rowOf, linesOf}
 use Rattle.memo.proofs.MemoLaws.{lines-memo, count-memo}
 use Rattle.sound_clauses.specs.Loops.{risesTo, keys}
 use Rattle.sound_clauses.specs.Radios.{onTest, memoTest, lastsTest}
-use Rattle.sound_clauses.specs.Waiting.{waitingTest, placesTest}
+use Rattle.sound_clauses.specs.Waiting.{waitingTest, placesTest, datedTest}
 use Rattle.sound_directory.specs.Sound.{slotsTest, number}
 use Rattle.sound_directory.proofs.SlotLaws.{slots-used, slots-slotted, slotted-slots}
 use Rattle.waiting.specs.Waiting.{rowOf as reportRow, reportsOf}
 use Rattle.waiting.proofs.WaitingLaws.{report-row, reports-waitingOf, every-size}
 use Rattle.waiting.proofs.OnLaws.{radios-onOf}
-use Rattle.sound_rows.specs.Sound.{onSound, reportWeight, reportMarked, reportsTest, waitingSound, lineWeight, lineMarked, missedTest, memoSound}
+use Rattle.sound_rows.specs.Sound.{onSound, reportWeight, reportLaid, reportsTest, waitingSound, lineWeight, lineMarked, missedTest, memoSound}
 use Rattle.sound_rows.proofs.CodeLaws.{keys-radios, heard, kept, noted, linesRest, linesOk}
 
 -- there and back
@@ -72,32 +73,42 @@ report-nothing x e =
     let a : x .east ≡ 0 = omega arith in
     let o : x .north ≡ 0 = omega arith in
     let m : x .new ≡ 0 = omega arith in
-    λ i. record { radio = r i; east = a i; north = o i; new = m i }
+    let l : x .low ≡ 0 = omega arith in
+    let u : x .high ≡ 0 = omega arith in
+    λ i. record { radio = r i; east = a i; north = o i; new = m i; low = l i; high = u i }
 
-report-back : (x : Report) → reportMarked x ≡ true → x ≡ reportOf (reportRow x)
-report-back x t = sym (report-row x (leb-true (x .new) 1 t))
+report-back : (x : Report) → reportLaid x ≡ true → x ≡ reportOf (reportRow x)
+report-back x t =
+    sym (report-row x (leb-true (x .new) 1 (both-left (leb (x .new) 1) (ltb (x .low) 65536) t), ltb-true (x .low) 65536 (both-right (leb (x .new) 1) (ltb (x .low) 65536) t)))
 
 mark-le : (b : Bool) → leb (one-if b) 1 ≡ true
 mark-le true = refl
 mark-le false = refl
 
-module _ (w : Waiting) where
-  waiting-laid : length (w .words) ≡ reportFields * fullMemory → slotsTest reportWeight (fullMemory - 1) (w .n) (everyReport (w .words)) ≡ true → all reportMarked (kept w) ≡ true → w ≡ waitingOf (reportsOf w)
+module _ (w : Waiting) (size : length (w .words) ≡ reportFields * fullMemory) where
+  waiting-laid : slotsTest reportWeight (fullMemory - 1) (w .n) (everyReport (w .words)) ≡ true → all reportLaid (kept w) ≡ true → w ≡ waitingOf (reportsOf w)
   unfolding reportsOf
-  waiting-laid size s m =
+  waiting-laid s m =
       let l = every-size (w .words) size in
       let n = slots-used reportWeight (fullMemory - 1) (w .n) (everyReport (w .words)) s fullMemory l (omega arith) ∙ sym (length-map (kept w) reportRow) in
-      let a = slots-slotted reportWeight (fullMemory - 1) (w .n) (everyReport (w .words)) s fullMemory l (omega arith) noReport report-nothing ∙ ap (slotted fullMemory noReport) (map-back reportOf reportRow reportMarked (kept w) report-back m) in
+      let a = slots-slotted reportWeight (fullMemory - 1) (w .n) (everyReport (w .words)) s fullMemory l (omega arith) noReport report-nothing ∙ ap (slotted fullMemory noReport) (map-back reportOf reportRow reportLaid (kept w) report-back m) in
       waiting-is (w .words) (w .n) (map reportRow (kept w)) size n a
 
-  pub waiting-whole : length (w .words) ≡ reportFields * fullMemory → waitingSound w ≡ true → (w ≡ waitingOf (reportsOf w)) × (waitingTest (reportsOf w) ≡ true) × (placesTest (reportsOf w) ≡ true)
+  pub waiting-whole : (highest : ℕ) → waitingSound highest w ≡ true
+      → (w ≡ waitingOf (reportsOf w)) × (waitingTest (reportsOf w) ≡ true) × (placesTest (reportsOf w) ≡ true) × (datedTest highest (reportsOf w) ≡ true)
   unfolding waitingSound reportsTest
-  waiting-whole l t =
-      let s = both-left (slotsTest reportWeight (fullMemory - 1) (w .n) (everyReport (w .words))) (reportsTest w) t in
-      let o = both-right (slotsTest reportWeight (fullMemory - 1) (w .n) (everyReport (w .words))) (reportsTest w) t in
-      let a = both-left (waitingTest (reportsOf w)) (both (all reportMarked (kept w)) (placesTest (reportsOf w))) o in
-      let b = both-right (waitingTest (reportsOf w)) (both (all reportMarked (kept w)) (placesTest (reportsOf w))) o in
-      (waiting-laid l s (both-left (all reportMarked (kept w)) (placesTest (reportsOf w)) b), a, both-right (all reportMarked (kept w)) (placesTest (reportsOf w)) b)
+  waiting-whole highest t =
+      let s = both-left (slotsTest reportWeight (fullMemory - 1) (w .n) (everyReport (w .words))) (reportsTest highest w) t in
+      let o = both-right (slotsTest reportWeight (fullMemory - 1) (w .n) (everyReport (w .words))) (reportsTest highest w) t in
+      let rest = both (placesTest (reportsOf w)) (datedTest highest (reportsOf w)) in
+      let a = both-left (waitingTest (reportsOf w)) (both (all reportLaid (kept w)) rest) o in
+      let b = both-right (waitingTest (reportsOf w)) (both (all reportLaid (kept w)) rest) o in
+      let c = both-right (all reportLaid (kept w)) rest b in (
+        waiting-laid s (both-left (all reportLaid (kept w)) rest b),
+        a,
+        both-left (placesTest (reportsOf w)) (datedTest highest (reportsOf w)) c,
+        both-right (placesTest (reportsOf w)) (datedTest highest (reportsOf w)) c,
+      )
 
 waiting-few : (l : Rows StoreReport) → waitingTest l ≡ true → length l < fullMemory
 unfolding waitingTest
@@ -107,16 +118,18 @@ waiting-slots : (l : Rows StoreReport) → length l < fullMemory → slotsTest r
 unfolding waitingOf
 waiting-slots l h = rw (reports-of-words, ← length-map l reportOf) (slotted-slots reportWeight (fullMemory - 1) fullMemory noReport (map reportOf l) refl (rw (length-map l reportOf) (omega arith)))
 
-reports-marked : (l : Rows StoreReport) → all reportMarked (map reportOf l) ≡ true
+reports-laid : (l : Rows StoreReport) → all reportLaid (map reportOf l) ≡ true
 unfolding all
-reports-marked [] = refl
-reports-marked (x ∷ xs) = both-intro (mark-le (x .val .new)) (reports-marked xs)
+reports-laid [] = refl
+reports-laid (x ∷ xs) = both-intro (both-intro (mark-le (x .val .new)) (lt-ltb (lowHalf (x .val .fix .minute)) 65536 (omega arith))) (reports-laid xs)
 
-pub whole-waiting : (l : Rows StoreReport) → waitingTest l ≡ true → placesTest l ≡ true → waitingSound (waitingOf l) ≡ true
+pub whole-waiting : (highest : ℕ) (l : Rows StoreReport) → waitingTest l ≡ true → placesTest l ≡ true → datedTest highest l ≡ true → waitingSound highest (waitingOf l) ≡ true
 unfolding waitingSound reportsTest
-whole-waiting l t u =
+whole-waiting highest l t u v =
     both-intro (waiting-slots l (waiting-few l t))
-    (both-intro (ap waitingTest (reports-waitingOf l) ∙ t) (both-intro (ap (all reportMarked) (take-waiting l) ∙ reports-marked l) (ap placesTest (reports-waitingOf l) ∙ u)))
+    (both-intro (ap waitingTest (reports-waitingOf l) ∙ t)
+    (both-intro (ap (all reportLaid) (take-waiting l) ∙ reports-laid l)
+    (both-intro (ap placesTest (reports-waitingOf l) ∙ u) (ap (datedTest highest) (reports-waitingOf l) ∙ v))))
 
 -- ---- the memo
 

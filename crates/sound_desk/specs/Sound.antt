@@ -22,7 +22,7 @@ use Rattle.sound_clauses.specs.Grid.{cutsTest, edgesTest, tileTest}
 use Rattle.sound_clauses.specs.Cells.{numbersOf, edgesOf, numbersTest, roundTest}
 use Rattle.sound_clauses.specs.Radios.{onTest, memoTest, lastsTest}
 use Rattle.sound_clauses.specs.Round.{tallyTest}
-use Rattle.sound_clauses.specs.Waiting.{waitingTest, placesTest, fewTest}
+use Rattle.sound_clauses.specs.Waiting.{waitingTest, placesTest, datedTest, fewTest}
 use Rattle.sound_grid.specs.Sound.{gridSound}
 use Rattle.waiting.specs.Waiting.{reportsOf}
 use Rattle.sound_rows.specs.Sound.{onSound, waitingSound, missedTest, memoSound}
@@ -35,13 +35,13 @@ fewSound easts norths w = fewTest (cutsBy easts norths) (reportsOf w)
 
 -- ---- the desk
 
-unfoldable pub radiosSound : CutList → CutList → Waiting → On → Bool
-radiosSound easts norths w on = both (waitingSound w) (both (onSound on) (fewSound easts norths w))
+unfoldable pub radiosSound : ℕ → CutList → CutList → Waiting → On → Bool
+radiosSound highest easts norths w on = both (waitingSound highest w) (both (onSound on) (fewSound easts norths w))
 
 unfoldable pub deskSound : Desk → Bool
 deskSound d =
     both (gridSound (deskGrid d .easts) (deskGrid d .norths) (deskGrid d .cells))
-    (both (radiosSound (deskGrid d .easts) (deskGrid d .norths) (deskWaiting d) (deskOn d)) (both (memoSound (deskMemo d)) (tallyTest (d .parts .tally))))
+    (both (radiosSound (d .parts .highest) (deskGrid d .easts) (deskGrid d .norths) (deskWaiting d) (deskOn d)) (both (memoSound (deskMemo d)) (tallyTest (d .parts .tally))))
 
 -- ---- what it says
 
@@ -55,11 +55,12 @@ shown d = record {
   memo = linesOf (deskMemo d);
   on = radiosOf (deskOn d);
   tally = d .parts .tally;
+  highest = d .parts .highest;
 }
 
 -- the mirror's tests that look neither at chains nor at entries, by what they look at
 pub record Tests (cuts : Cuts) (numbers : List ℕ) (rects : List Rect) (waits : Rows StoreReport)
-    (lines : Rows StoreLine) (heard : Rows (Unit {0})) (c : ℕ) : Type 0 where
+    (lines : Rows StoreLine) (heard : Rows (Unit {0})) (c highest : ℕ) : Type 0 where
   pub few : leb (length numbers) maxCells ≡ true
   pub on : onTest heard ≡ true
   pub easts : cutsTest (cuts .easts) ≡ true
@@ -72,12 +73,13 @@ pub record Tests (cuts : Cuts) (numbers : List ℕ) (rects : List Rect) (waits :
   pub lasts : lastsTest lines ≡ true
   pub waiting : waitingTest waits ≡ true
   pub places : placesTest waits ≡ true
+  pub dated : datedTest highest waits ≡ true
   pub boxed : fewTest cuts waits ≡ true
   pub round : roundTest numbers ≡ true
   pub tallied : tallyTest c ≡ true
 
 abbrev pub DeskTests : Store → Type 0
-DeskTests s = Tests (s .cuts) (numbersOf (s .cells)) (edgesOf (s .cells)) (s .waiting) (s .memo) (s .on) (s .tally)
+DeskTests s = Tests (s .cuts) (numbersOf (s .cells)) (edgesOf (s .cells)) (s .waiting) (s .memo) (s .on) (s .tally) (s .highest)
 
 -- each array has its slots: a value of the type always does
 pub record Shaped (d : Desk) : Type 0 where

@@ -54,11 +54,11 @@ fn radios_sound<'a>(
     requires { ⌜ (parts .frame .easts .n ≤ maxCuts) × (parts .frame .norths .n ≤ maxCuts) × (length (now waiting) ≡ reportFields * fullMemory)
         × (length (now on) ≡ maxOn) ⌝ }
     ensures { λ r. ⌜ r
-        ≡ radiosSound (parts .frame .easts) (parts .frame .norths) (waitingWith (parts .waiting) (now (waiting .entry)))
+        ≡ radiosSound (parts .highest) (parts .frame .easts) (parts .frame .norths) (waitingWith (parts .waiting) (now (waiting .entry)))
         (onWith (parts .on) (now (on .entry))) ⌝ }
 {
     let n = parts.waiting as usize;
-    if !sound_rows::waiting_sound(waiting, n) {
+    if !sound_rows::waiting_sound(waiting, n, parts.highest) {
         return false;
     }
     if !sound_rows::on_sound(on, parts.on as usize) {

@@ -22,7 +22,7 @@ use Rattle.page.specs.Page.{pageBytes, headBytes, kindFree, used, kind, next, c
 use Rattle.page_layout.specs.Layout.{top, laidOut}
 use Rattle.page.specs.declared.Header.{Header}
 use Rattle.desk.specs.declared.Slot.{Slot}
-use Rattle.sound_page.specs.PageTest.{isPage, fullOrLast, startsAbove, lastRadio, insideOf, pageOk}
+use Rattle.sound_page.specs.PageTest.{isPage, fullOrLast, startsAbove, lastRadio, belongs, pageOk}
 use Rattle.sound_page.proofs.FreeLaws.{free-used, free-zeros}
 
 -- ---- lists: two tests
@@ -121,48 +121,48 @@ last-some low b n e c f g =
     ap (λ (x : Row Fix). x .key) g ∙ sym (last-snoc low (tab (n - 1) (entryAt b)) (entryAt b (n - 1)))
     ∙ ap (lastRadio low) (sym (tab-suc (n - 1) (entryAt b)) ∙ ap (λ k. tab k (entryAt b)) (q ∙ c))
 
--- ---- all_inside
+-- ---- all_belong
 
-module _ (s : Slot) (b : List ℕ) (n i : ℕ) (below : i < n) {e : Entry} (read : rowOf e ≡ entryAt b i) {r : Bool} (one : r ≡ insideOf s (rowOf e)) where
-  inside-open : all (insideOf s) (drop i (tab n (entryAt b))) ≡ both r (all (insideOf s) (drop (i + 1) (tab n (entryAt b))))
-  inside-open =
+module _ (highest : ℕ) (s : Slot) (b : List ℕ) (n i : ℕ) (below : i < n) {e : Entry} (read : rowOf e ≡ entryAt b i) {r : Bool} (one : r ≡ belongs highest s (rowOf e)) where
+  belong-open : all (belongs highest s) (drop i (tab n (entryAt b))) ≡ both r (all (belongs highest s) (drop (i + 1) (tab n (entryAt b))))
+  belong-open =
       let l = length-tab n (entryAt b) in
-      let q : insideOf s (entryAt b i) ≡ r = ap (insideOf s) (sym read) ∙ sym one in
+      let q : belongs highest s (entryAt b i) ≡ r = ap (belongs highest s) (sym read) ∙ sym one in
       rw (drop-cons (tab n (entryAt b)) i noRow (omega arith), getD-tab n (entryAt b) i noRow below, all-cons, q, add-one i)
 
-  module _ {t : Bool} (so : all (insideOf s) (drop i (tab n (entryAt b))) ≡ t) where
-    pub inside-no : not r ≡ true → false ≡ t
-    inside-no h = both-no _ (not-true r h) ∙ sym inside-open ∙ so
+  module _ {t : Bool} (so : all (belongs highest s) (drop i (tab n (entryAt b))) ≡ t) where
+    pub belong-no : not r ≡ true → false ≡ t
+    belong-no h = both-no _ (not-true r h) ∙ sym belong-open ∙ so
 
-    pub inside-turn : not r ≡ false → all (insideOf s) (drop (i + 1) (tab n (entryAt b))) ≡ t
-    inside-turn h = both-next _ (not-false r h) ∙ sym inside-open ∙ so
+    pub belong-turn : not r ≡ false → all (belongs highest s) (drop (i + 1) (tab n (entryAt b))) ≡ t
+    belong-turn h = both-next _ (not-false r h) ∙ sym belong-open ∙ so
 
-pub inside-end : (s : Slot) (b : List ℕ) {n i : ℕ} {t : Bool} → n ≤ i → all (insideOf s) (drop i (tab n (entryAt b))) ≡ t → true ≡ t
+pub belong-end : (highest : ℕ) (s : Slot) (b : List ℕ) {n i : ℕ} {t : Bool} → n ≤ i → all (belongs highest s) (drop i (tab n (entryAt b))) ≡ t → true ≡ t
 unfolding all
-inside-end s b {n} {i} h so = let l = length-tab n (entryAt b) in rw (drop-of-length-le (tab n (entryAt b)) {i = i} (omega arith)) at so
+belong-end highest s b {n} {i} h so = let l = length-tab n (entryAt b) in rw (drop-of-length-le (tab n (entryAt b)) {i = i} (omega arith)) at so
 
 -- ---- page_ok: the sections grow with the tests passed
 
-module _ (s : Slot) (k low : ℕ) (b : List ℕ) {a : Bool} (head : a ≡ isPage k (s .number) b) where
-  pub ok-not-page : not a ≡ true → false ≡ pageOk s k low b
+module _ (highest : ℕ) (s : Slot) (k low : ℕ) (b : List ℕ) {a : Bool} (head : a ≡ isPage k (s .number) b) where
+  pub ok-not-page : not a ≡ true → false ≡ pageOk highest s k low b
   unfolding pageOk
   ok-not-page t = both-no _ (sym head ∙ not-true a t)
 
   module _ (is : not a ≡ false) {f : Bool} (full : f ≡ fullOrLast b) where
-    pub ok-not-full : not f ≡ true → false ≡ pageOk s k low b
+    pub ok-not-full : not f ≡ true → false ≡ pageOk highest s k low b
     unfolding pageOk
     ok-not-full t = both-no _ (sym full ∙ not-true f t) ∙ both-next _ (sym head ∙ not-false a is)
 
     module _ (filled : not f ≡ false) {n : ℕ} (counted : n ≡ count b) {o : Bool} (above : o ≡ startsAbove low (tab n (entryAt b))) where
-      rest-ok : both o (all (insideOf s) (tab n (entryAt b))) ≡ pageOk s k low b
+      rest-ok : both o (all (belongs highest s) (tab n (entryAt b))) ≡ pageOk highest s k low b
       unfolding pageOk entries
       rest-ok =
-          ap (λ (x : Bool). both x (all (insideOf s) (tab n (entryAt b)))) above
-          ∙ ap (λ (x : ℕ). both (startsAbove low (tab x (entryAt b))) (all (insideOf s) (tab x (entryAt b)))) counted
+          ap (λ (x : Bool). both x (all (belongs highest s) (tab n (entryAt b)))) above
+          ∙ ap (λ (x : ℕ). both (startsAbove low (tab x (entryAt b))) (all (belongs highest s) (tab x (entryAt b)))) counted
           ∙ both-next _ (sym full ∙ not-false f filled) ∙ both-next _ (sym head ∙ not-false a is)
 
-      pub ok-not-above : not o ≡ true → false ≡ pageOk s k low b
+      pub ok-not-above : not o ≡ true → false ≡ pageOk highest s k low b
       ok-not-above t = both-no _ (not-true o t) ∙ rest-ok
 
-      pub ok-inside : not o ≡ false → {r : Bool} → r ≡ all (insideOf s) (tab n (entryAt b)) → r ≡ pageOk s k low b
-      ok-inside t e = e ∙ both-next _ (not-false o t) ∙ rest-ok
+      pub ok-belong : not o ≡ false → {r : Bool} → r ≡ all (belongs highest s) (tab n (entryAt b)) → r ≡ pageOk highest s k low b
+      ok-belong t e = e ∙ both-next _ (not-false o t) ∙ rest-ok

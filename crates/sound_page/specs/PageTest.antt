@@ -1,8 +1,8 @@
--- The test of one page by itself: laid out, of its kind and cell, full or the last, radios above those before it, entries in the cell's rectangle.
+-- The test of one page by itself: laid out, of its kind and cell, full or the last, radios above those before it, entries in the cell's rectangle and not above the highest minute.
 use mathlib.Core.Bool.{Bool, true}
 use mathlib.Core.List.{List, [], _∷_}
 use Prim.Native.Nat.{ℕ}
-use lib.Dec.{eqb, ltb}
+use lib.Dec.{eqb, leb, ltb}
 use Rattle.terms.specs.Terms.{Fix, pageEntries, noPage}
 use Rattle.lists.specs.Rows.{Row, Rows}
 use Rattle.lists.specs.Tests.{both, either, all}
@@ -33,10 +33,14 @@ lastRadio low (e ∷ es) = lastRadio (e .key) es
 abbrev pub insideOf : Slot → Row Fix → Bool
 insideOf s e = inside (edgesOf s) (e .val .place)
 
+-- it lies in the cell's rectangle, and is not above the highest minute
+abbrev pub belongs : ℕ → Slot → Row Fix → Bool
+belongs highest s e = both (insideOf s e) (leb (e .val .minute) highest)
+
 -- a page of the cell's chain, the last radio before it being low
-unfoldable pub pageOk : Slot → ℕ → ℕ → List ℕ → Bool
-pageOk s k low b =
+unfoldable pub pageOk : ℕ → Slot → ℕ → ℕ → List ℕ → Bool
+pageOk highest s k low b =
     both (isPage k (s .number) b)
     (both (fullOrLast b)
     (both (startsAbove low (entries b))
-    (all (insideOf s) (entries b))))
+    (all (belongs highest s) (entries b))))

@@ -8,7 +8,7 @@ ghost use Rattle.lists.specs.Tests.{all};
 ghost use Rattle.entries.specs.Entries.{rowOf};
 ghost use Rattle.page.specs.Page.{pageBytes, kindFree, next, entryAt, entries};
 ghost use Rattle.rules.specs.Grid.{within};
-ghost use Rattle.sound_page.specs.PageTest.{isPage, fullOrLast, startsAbove, lastRadio, insideOf, pageOk};
+ghost use Rattle.sound_page.specs.PageTest.{isPage, fullOrLast, startsAbove, lastRadio, insideOf, belongs, pageOk};
 use desk::Slot;
 use entries::Entry;
 use page::HEAD_BYTES;
@@ -101,15 +101,22 @@ fn is_inside(e: Entry, s: Slot) -> bool
     is_between(s.west, s.east, e.east) & is_between(s.south, s.north, e.north)
 }
 
-// The first n entries lie in the cell's rectangle.
-fn all_inside(page: &[u8], n: usize, s: Slot) -> bool
+// The entry lies there, and is not above the highest minute.
+fn belongs(e: Entry, s: Slot, highest: u32) -> bool
+    ensures { λ r. ⌜ r ≡ belongs highest s (rowOf e) ⌝ }
+{
+    is_inside(e, s) & (e.minute <= highest)
+}
+
+// The first n entries lie in the cell's rectangle, and none is above the highest minute.
+fn all_belong(page: &[u8], n: usize, s: Slot, highest: u32) -> bool
     requires { ⌜ (length (now page) ≡ pageBytes) × (n ≤ pageEntries) ⌝ }
-    ensures { λ r. ⌜ r ≡ all (insideOf s) (tab n (entryAt (now (page .entry)))) ⌝ }
+    ensures { λ r. ⌜ r ≡ all (belongs highest s) (tab n (entryAt (now (page .entry)))) ⌝ }
 {
     let mut i: usize = 0;
     while i < n {
         let e = page::read_entry(page, i);
-        if !is_inside(e, s) {
+        if !belongs(e, s, highest) {
             return false;
         }
         i += 1;
@@ -118,9 +125,9 @@ fn all_inside(page: &[u8], n: usize, s: Slot) -> bool
 }
 
 // A page of the cell's chain, of this kind; the last radio before it is `low`.
-pub fn page_ok(page: &[u8], s: Slot, kind: u16, low: u16) -> bool
+pub fn page_ok(page: &[u8], s: Slot, highest: u32, kind: u16, low: u16) -> bool
     requires { ⌜ length (now page) ≡ pageBytes ⌝ }
-    ensures { λ r. ⌜ r ≡ pageOk s kind low (now (page .entry)) ⌝ }
+    ensures { λ r. ⌜ r ≡ pageOk highest s kind low (now (page .entry)) ⌝ }
 {
     if !is_page(page, kind, s.number) {
         return false;
@@ -132,7 +139,7 @@ pub fn page_ok(page: &[u8], s: Slot, kind: u16, low: u16) -> bool
     if !starts_above(page, n, low) {
         return false;
     }
-    all_inside(page, n, s)
+    all_belong(page, n, s, highest)
 }
 
 pub fn next_of(page: &[u8]) -> usize

@@ -23,7 +23,7 @@ use Rattle.page_layout.specs.Layout.{kindFits}
 use Rattle.page.proofs.PageLaws.{page-fields, entries-pageOf}
 use Rattle.desk.specs.declared.Slot.{Slot}
 use Rattle.desk.specs.Layout.{At, leaves, freeLeaves}
-use Rattle.sound_page.specs.PageTest.{isPage, lastRadio, insideOf, pageOk}
+use Rattle.sound_page.specs.PageTest.{isPage, lastRadio, belongs, pageOk}
 use Rattle.sound_pages.specs.Walks.{Walk, unmarked, passed, failed, chainTest, freeTest}
 use Rattle.sound_pages.proofs.MarksLaws.{Marked, Room, Passes, unmarked-bounds, mark-none, mark-cons, room-unmarked, room-rest}
 use Rattle.sound_pages.proofs.PageLaws.{CellPage, bytes-page, free-right, free-left, next-free, cell-right, cell-left, rising-join, rising-split}
@@ -109,27 +109,27 @@ free-passes b (suc fuel) m (p ∷ ps) l h r a =
 
 -- ---- the chain of a cell: one step
 
-pub chain-spent : (b : List ℕ) (s : Slot) (m : List Bool) (k low p : ℕ) → chainTest 0 b s m k low p ≡ failed m
+pub chain-spent : (highest : ℕ) (b : List ℕ) (s : Slot) (m : List Bool) (k low p : ℕ) → chainTest highest 0 b s m k low p ≡ failed m
 unfolding chainTest
-chain-spent b s m k low p = refl
+chain-spent highest b s m k low p = refl
 
-module _ (fuel : ℕ) (b : List ℕ) (s : Slot) (m : List Bool) (k low p : ℕ) where
-  pub chain-out : unmarked m p ≡ false → chainTest (suc fuel) b s m k low p ≡ failed m
+module _ (highest fuel : ℕ) (b : List ℕ) (s : Slot) (m : List Bool) (k low p : ℕ) where
+  pub chain-out : unmarked m p ≡ false → chainTest highest (suc fuel) b s m k low p ≡ failed m
   unfolding chainTest
   chain-out t = rw t
 
   module _ (t : unmarked m p ≡ true) where
-    pub chain-bad : pageOk s k low (pageAt b p) ≡ false → chainTest (suc fuel) b s m k low p ≡ failed m
+    pub chain-bad : pageOk highest s k low (pageAt b p) ≡ false → chainTest highest (suc fuel) b s m k low p ≡ failed m
     unfolding chainTest
     chain-bad u = rw (t, u)
 
-    module _ (u : pageOk s k low (pageAt b p) ≡ true) where
-      pub chain-last : eqb (next (pageAt b p)) noPage ≡ true → chainTest (suc fuel) b s m k low p ≡ passed (set m p true)
+    module _ (u : pageOk highest s k low (pageAt b p) ≡ true) where
+      pub chain-last : eqb (next (pageAt b p)) noPage ≡ true → chainTest highest (suc fuel) b s m k low p ≡ passed (set m p true)
       unfolding chainTest
       chain-last v = rw (t, u, v)
 
       pub chain-more : eqb (next (pageAt b p)) noPage ≡ false
-          → chainTest (suc fuel) b s m k low p ≡ chainTest fuel b s (set m p true) kindFurther (lastRadio low (entries (pageAt b p))) (next (pageAt b p))
+          → chainTest highest (suc fuel) b s m k low p ≡ chainTest highest fuel b s (set m p true) kindFurther (lastRadio low (entries (pageAt b p))) (next (pageAt b p))
       unfolding chainTest
       chain-more v = rw (t, u, v)
 
@@ -139,14 +139,14 @@ module _ (fuel : ℕ) (b : List ℕ) (s : Slot) (m : List Bool) (k low p : ℕ) 
 unfoldable pub need : ℕ → ℕ → ℕ
 need k e = max (one-if (eqb k kindFirst)) ((e + (pageEntries - 1)) / pageEntries)
 
-pub record Chain (b : List ℕ) (s : Slot) (m : List Bool) (k low p : ℕ) (w : Walk) : Type 0 where
+pub record Chain (highest : ℕ) (b : List ℕ) (s : Slot) (m : List Bool) (k low p : ℕ) (w : Walk) : Type 0 where
   pub more : List ℕ
   pub rows : Rows Fix
   pub laid : Each (At b) (leaves k (s .number) (p ∷ more) rows)
   pub paged : suc (length more) ≡ need k (length rows)
   pub rising : Rising low rows
   pub radios : UpTo maxRadio rows
-  pub placed : Each (λ e. insideOf s e ≡ true) rows
+  pub belong : Each (λ e. belongs highest s e ≡ true) rows
   pub marked : Marked m (λ q. count q (p ∷ more)) (w .marks)
 
 need-last : (k n : ℕ) → kindFirst ≤ k → k ≤ kindFurther → (k ≡ kindFurther → 1 ≤ n) → n ≤ pageEntries → 1 ≡ need k n
@@ -160,9 +160,9 @@ need-more : (k e : ℕ) → suc (need kindFurther e) ≡ need k (pageEntries + e
 unfolding need
 need-more k e = by-cases (eqb k kindFirst) (λ t. rw t (omega arith)) (λ t. rw t (omega arith))
 
-module _ (b : List ℕ) (small : Bytes b) (whole : length b ≡ bufferBytes) (s : Slot) where
-  module _ (m : List Bool) (k low p : ℕ) (size : length m ≡ pages) (kinds : kindFirst ≤ k) (t : unmarked m p ≡ true) (c : CellPage s k low (pageAt b p)) where
-    chain-end : next (pageAt b p) ≡ noPage → Chain b s m k low p (passed (set m p true))
+module _ (highest : ℕ) (b : List ℕ) (small : Bytes b) (whole : length b ≡ bufferBytes) (s : Slot) where
+  module _ (m : List Bool) (k low p : ℕ) (size : length m ≡ pages) (kinds : kindFirst ≤ k) (t : unmarked m p ≡ true) (c : CellPage highest s k low (pageAt b p)) where
+    chain-end : next (pageAt b p) ≡ noPage → Chain highest b s m k low p (passed (set m p true))
     unfolding leaves
     chain-end e =
         let g = c .page in
@@ -173,12 +173,12 @@ module _ (b : List ℕ) (small : Bytes b) (whole : length b ≡ bufferBytes) (s 
           paged = need-last k _ kinds (g .known) (g .further) (g .few);
           rising = c .rising;
           radios = g .radios;
-          placed = c .placed;
+          belong = c .belong;
           marked = mark-cons m p [] size t (mark-none (set m p true) (length-set m p true ∙ size));
         }
 
     chain-step : (w : Walk) → eqb (next (pageAt b p)) noPage ≡ false
-        → Chain b s (set m p true) kindFurther (lastRadio low (entries (pageAt b p))) (next (pageAt b p)) w → Chain b s m k low p w
+        → Chain highest b s (set m p true) kindFurther (lastRadio low (entries (pageAt b p))) (next (pageAt b p)) w → Chain highest b s m k low p w
     unfolding leaves
     chain-step w v r =
         let g = c .page in
@@ -191,22 +191,22 @@ module _ (b : List ℕ) (small : Bytes b) (whole : length b ≡ bufferBytes) (s 
           paged = ap suc (r .paged) ∙ need-more k (length (r .rows)) ∙ rw (length-append, n);
           rising = rising-join low xs (r .rows) (c .rising) (r .rising);
           radios = each-append (λ e. e .key ≤ maxRadio) xs (r .rows) (g .radios) (r .radios);
-          placed = each-append (λ e. insideOf s e ≡ true) xs (r .rows) (c .placed) (r .placed);
+          belong = each-append (λ e. belongs highest s e ≡ true) xs (r .rows) (c .belong) (r .belong);
           marked = mark-cons m p _ size t (r .marked);
         }
 
-  pub chain-passed : (fuel : ℕ) (m : List Bool) (k low p : ℕ) → length m ≡ pages → kindFirst ≤ k → chainTest fuel b s m k low p .ok ≡ true → Chain b s m k low p (chainTest fuel b s m k low p)
-  chain-passed zero m k low p l f = rw (chain-spent b s m k low p) (λ h. failed-not m h)
+  pub chain-passed : (fuel : ℕ) (m : List Bool) (k low p : ℕ) → length m ≡ pages → kindFirst ≤ k → chainTest highest fuel b s m k low p .ok ≡ true → Chain highest b s m k low p (chainTest highest fuel b s m k low p)
+  chain-passed zero m k low p l f = rw (chain-spent highest b s m k low p) (λ h. failed-not m h)
   chain-passed (suc fuel) m k low p l f =
       by-cases (unmarked m p)
-      (λ t. by-cases (pageOk s k low (pageAt b p))
-      (λ u. let c = cell-right s k low (pageAt b p) (bytes-page b p small whole (unmarked-bounds m p t .0)) u in
+      (λ t. by-cases (pageOk highest s k low (pageAt b p))
+      (λ u. let c = cell-right highest s k low (pageAt b p) (bytes-page b p small whole (unmarked-bounds m p t .0)) u in
       by-cases (eqb (next (pageAt b p)) noPage)
-      (λ v. rw (chain-last fuel b s m k low p t u v) (λ h. chain-end m k low p l f t c (eqb-true _ _ v)))
-      (λ v. rw (chain-more fuel b s m k low p t u v)
+      (λ v. rw (chain-last highest fuel b s m k low p t u v) (λ h. chain-end m k low p l f t c (eqb-true _ _ v)))
+      (λ v. rw (chain-more highest fuel b s m k low p t u v)
       (λ h. chain-step m k low p l f t c _ v (chain-passed fuel (set m p true) kindFurther _ _ (length-set m p true ∙ l) (omega arith) h))))
-      (λ u. rw (chain-bad fuel b s m k low p t u) (λ h. failed-not m h)))
-      (λ t. rw (chain-out fuel b s m k low p t) (λ h. failed-not m h))
+      (λ u. rw (chain-bad highest fuel b s m k low p t u) (λ h. failed-not m h)))
+      (λ t. rw (chain-out highest fuel b s m k low p t) (λ h. failed-not m h))
 
 -- ---- the chain of a cell: a chain passes
 
@@ -228,42 +228,42 @@ need-two k e n h =
     (λ t. let g = rw t at h in (omega arith, omega arith))
     (λ t. let g = rw t at h in (omega arith, omega arith))
 
-module _ (b : List ℕ) (s : Slot) where
+module _ (highest : ℕ) (b : List ℕ) (s : Slot) where
   pass-last : (fuel : ℕ) (m : List Bool) (k low p : ℕ) (es : Rows Fix) → length m ≡ pages → Room m (λ q. count q (p ∷ [])) → length es ≤ pageEntries → kindFits k (length es) ≡ true
-      → pageAt b p ≡ pageOf k noPage (s .number) es → Rising low es → UpTo maxRadio es → Each (λ e. insideOf s e ≡ true) es
-      → Passes m (λ q. count q (p ∷ [])) (chainTest (suc fuel) b s m k low p)
+      → pageAt b p ≡ pageOf k noPage (s .number) es → Rising low es → UpTo maxRadio es → Each (λ e. belongs highest s e ≡ true) es
+      → Passes m (λ q. count q (p ∷ [])) (chainTest highest (suc fuel) b s m k low p)
   pass-last fuel m k low p es l r few fits a up to i =
       let t = room-unmarked m p [] r in
-      let u : pageOk s k low (pageAt b p) ≡ true = rw a (cell-left s k low noPage es few fits (either-left _ refl) up to i) in
+      let u : pageOk highest s k low (pageAt b p) ≡ true = rw a (cell-left highest s k low noPage es few fits (either-left _ refl) up to i) in
       let x : next (pageAt b p) ≡ noPage = rw a (page-fields k noPage (s .number) es .2) in
-      rw (chain-last fuel b s m k low p t u (eq-eqb _ _ x)) (record { good = refl; marked = mark-cons m p [] l t (mark-none (set m p true) (length-set m p true ∙ l)) })
+      rw (chain-last highest fuel b s m k low p t u (eq-eqb _ _ x)) (record { good = refl; marked = mark-cons m p [] l t (mark-none (set m p true) (length-set m p true ∙ l)) })
 
   abbrev Left : ℕ → Type 0
   Left fuel =
       (m : List Bool) (k low p : ℕ) (ps : List ℕ) (es : Rows Fix) → length m ≡ pages → length ps < fuel → Room m (λ q. count q (p ∷ ps)) → Each (At b) (leaves k (s .number) (p ∷ ps) es)
-      → kindFirst ≤ k → k ≤ kindFurther → suc (length ps) ≡ need k (length es) → Rising low es → UpTo maxRadio es → Each (λ e. insideOf s e ≡ true) es
-      → Passes m (λ q. count q (p ∷ ps)) (chainTest fuel b s m k low p)
+      → kindFirst ≤ k → k ≤ kindFurther → suc (length ps) ≡ need k (length es) → Rising low es → UpTo maxRadio es → Each (λ e. belongs highest s e ≡ true) es
+      → Passes m (λ q. count q (p ∷ ps)) (chainTest highest fuel b s m k low p)
 
   -- a full page, and the rest of the chain
   pass-more : (fuel : ℕ) → Left fuel → (m : List Bool) (k low p q : ℕ) (ps : List ℕ) (xs ys : Rows Fix) → length m ≡ pages → suc (length ps) < suc fuel
       → Room m (λ u. count u (p ∷ q ∷ ps)) → kindFirst ≤ k → k ≤ kindFurther → length xs ≡ pageEntries → pageAt b p ≡ pageOf k q (s .number) xs
       → Each (At b) (leaves kindFurther (s .number) (q ∷ ps) ys) → suc (length ps) ≡ need kindFurther (length ys)
-      → Rising low (xs ++ ys) → UpTo maxRadio (xs ++ ys) → Each (λ e. insideOf s e ≡ true) (xs ++ ys)
-      → Passes m (λ u. count u (p ∷ q ∷ ps)) (chainTest (suc fuel) b s m k low p)
+      → Rising low (xs ++ ys) → UpTo maxRadio (xs ++ ys) → Each (λ e. belongs highest s e ≡ true) (xs ++ ys)
+      → Passes m (λ u. count u (p ∷ q ∷ ps)) (chainTest highest (suc fuel) b s m k low p)
   pass-more fuel ih m k low p q ps xs ys l h r f g n a rest o up to i =
       let t = room-unmarked m p (q ∷ ps) r in
       let r′ = room-rest m p (q ∷ ps) l r in
       let y = unmarked-bounds (set m p true) q (room-unmarked (set m p true) q ps r′) .0 in
       let sp = rising-split low xs ys up in
       let tp = each-split (λ e. e .key ≤ maxRadio) xs ys to in
-      let ip = each-split (λ e. insideOf s e ≡ true) xs ys i in
+      let ip = each-split (λ e. belongs highest s e ≡ true) xs ys i in
       let few : length xs ≤ pageEntries = omega arith in
-      let u : pageOk s k low (pageAt b p) ≡ true =
-      rw a (cell-left s k low q xs few (chain-fits k (length xs) f g (λ z. omega arith)) (either-right _ (eq-eqb (length xs) pageEntries n)) (sp .0) (tp .0) (ip .0)) in
+      let u : pageOk highest s k low (pageAt b p) ≡ true =
+      rw a (cell-left highest s k low q xs few (chain-fits k (length xs) f g (λ z. omega arith)) (either-right _ (eq-eqb (length xs) pageEntries n)) (sp .0) (tp .0) (ip .0)) in
       let x : next (pageAt b p) ≡ q = rw a (page-fields k q (s .number) xs .2) in
       let e : entries (pageAt b p) ≡ xs = rw a (entries-pageOf k q (s .number) xs few) in
       let z = ih (set m p true) kindFurther (lastRadio low xs) q ps ys (length-set m p true ∙ l) (omega arith) r′ rest (omega arith) (omega arith) o (sp .1) (tp .1) (ip .1) in
-      rw (chain-more fuel b s m k low p t u (ne-eqb (next (pageAt b p)) noPage (omega arith)), e, x) (record { good = z .good; marked = mark-cons m p (q ∷ ps) l t (z .marked) })
+      rw (chain-more highest fuel b s m k low p t u (ne-eqb (next (pageAt b p)) noPage (omega arith)), e, x) (record { good = z .good; marked = mark-cons m p (q ∷ ps) l t (z .marked) })
 
   left-suc : (fuel : ℕ) → Left fuel → Left (suc fuel)
   unfolding leaves

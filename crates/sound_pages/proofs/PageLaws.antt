@@ -6,7 +6,7 @@ use Prim.Native.Nat.{ℕ, _+_, _*_, _≤_, _<_}
 use native.Mathlib.Omega.{arith}
 use lib.Dec.{eqb, ltb}
 use lib.ListN.{length, List·getD-eq-default}
-use borrow.Author.Tests.{eqb-true, eq-eqb, lt-ltb, ltb-true, ltb-false}
+use borrow.Author.Tests.{eqb-true, eq-eqb, le-leb, leb-true, lt-ltb, ltb-true, ltb-false}
 use Rattle.terms.specs.Terms.{Fix, maxRadio, pages, pageEntries, noPage, noCell}
 use Rattle.lists.specs.Rows.{Rows, Rising, UpTo}
 use Rattle.lists.specs.Tests.{both, either, Each}
@@ -14,7 +14,7 @@ use Rattle.lists.specs.Words.{Bytes}
 use Rattle.lists.proofs.Cases.{by-cases}
 use Rattle.lists.proofs.PartsLaws.{getD-part}
 use Rattle.lists.proofs.RowsLaws.{rising-less}
-use Rattle.lists.proofs.TestsLaws.{both-left, both-right, both-intro, either-cases, each-all, all-each}
+use Rattle.lists.proofs.TestsLaws.{both-left, both-right, both-intro, either-cases, each-map, each-zip, each-all, all-each}
 use Rattle.page.specs.Page.{pageBytes, kindFree, kindFurther, pageOf, freePageOf, kind, next, cell, count, entries}
 use Rattle.page.specs.Buffer.{bufferBytes, pageAt}
 use Rattle.page_layout.specs.Layout.{kindFits}
@@ -22,7 +22,7 @@ use Rattle.page.proofs.BufferLaws.{length-pageAt}
 use Rattle.page_layout.proofs.LayoutLaws.{laid-out, laid-out-rows, page-passes}
 use Rattle.page.proofs.PageLaws.{length-entries, page-fields, count-pageOf, entries-pageOf}
 use Rattle.desk.specs.declared.Slot.{Slot}
-use Rattle.sound_page.specs.PageTest.{isPage, fullOrLast, startsAbove, lastRadio, insideOf, pageOk}
+use Rattle.sound_page.specs.PageTest.{isPage, fullOrLast, startsAbove, lastRadio, insideOf, belongs, pageOk}
 
 -- ---- lists: radios from page to page
 
@@ -106,17 +106,31 @@ pub next-free : (n : ℕ) → next (freePageOf n) ≡ n
 unfolding freePageOf
 next-free n = page-fields kindFree n noCell [] .2
 
+-- ---- entries that belong to a cell: in its rectangle, and none above the highest minute
+
+module _ (highest : ℕ) (s : Slot) (es : Rows Fix) where
+  pub belong-placed : Each (λ e. belongs highest s e ≡ true) es → Each (λ e. insideOf s e ≡ true) es
+  belong-placed h = each-map (λ e. belongs highest s e ≡ true) (λ e. insideOf s e ≡ true) es (λ e t. both-left _ _ t) h
+
+  pub belong-dated : Each (λ e. belongs highest s e ≡ true) es → Each (λ e. e .val .minute ≤ highest) es
+  belong-dated h = each-map (λ e. belongs highest s e ≡ true) (λ e. e .val .minute ≤ highest) es (λ e t. leb-true (e .val .minute) highest (both-right _ _ t)) h
+
+  pub belong-both : Each (λ e. insideOf s e ≡ true) es → Each (λ e. e .val .minute ≤ highest) es → Each (λ e. belongs highest s e ≡ true) es
+  belong-both h d =
+      each-zip (λ e. insideOf s e ≡ true) (λ e. e .val .minute ≤ highest) (λ e. belongs highest s e ≡ true) es
+      (λ e t m. both-intro t (le-leb (e .val .minute) highest m)) h d
+
 -- ---- a page of a cell
 
-pub record CellPage (s : Slot) (k low : ℕ) (b : List ℕ) : Type 0 where
+pub record CellPage (highest : ℕ) (s : Slot) (k low : ℕ) (b : List ℕ) : Type 0 where
   pub page : IsPage k (s .number) b
   pub full : (next b ≡ noPage → ⊥) → length (entries b) ≡ pageEntries
   pub rising : Rising low (entries b)
-  pub placed : Each (λ e. insideOf s e ≡ true) (entries b)
+  pub belong : Each (λ e. belongs highest s e ≡ true) (entries b)
 
-pub cell-right : (s : Slot) (k low : ℕ) (b : List ℕ) → Bytes b → pageOk s k low b ≡ true → CellPage s k low b
+pub cell-right : (highest : ℕ) (s : Slot) (k low : ℕ) (b : List ℕ) → Bytes b → pageOk highest s k low b ≡ true → CellPage highest s k low b
 unfolding pageOk fullOrLast
-cell-right s k low b small t =
+cell-right highest s k low b small t =
     let p = page-right k (s .number) b small (both-left _ _ t) in
     let u = both-right _ _ t in
     let v = both-right _ _ u in
@@ -124,13 +138,13 @@ cell-right s k low b small t =
       page = p;
       full = λ n. length-entries b ∙ either-cases (eqb (next b) noPage) (eqb (count b) pageEntries) (both-left _ _ u) (λ e. absurd (n (eqb-true _ _ e))) (eqb-true (count b) pageEntries);
       rising = above-rising low (entries b) (both-left _ _ v) (p .rising);
-      placed = all-each (insideOf s) (λ e. insideOf s e ≡ true) (entries b) (λ e h. h) (both-right _ _ v);
+      belong = all-each (belongs highest s) (λ e. belongs highest s e ≡ true) (entries b) (λ e h. h) (both-right _ _ v);
     }
 
-pub cell-left : (s : Slot) (k low n : ℕ) (es : Rows Fix) → length es ≤ pageEntries → kindFits k (length es) ≡ true → either (eqb n noPage) (eqb (length es) pageEntries) ≡ true
-    → Rising low es → UpTo maxRadio es → Each (λ e. insideOf s e ≡ true) es → pageOk s k low (pageOf k n (s .number) es) ≡ true
+pub cell-left : (highest : ℕ) (s : Slot) (k low n : ℕ) (es : Rows Fix) → length es ≤ pageEntries → kindFits k (length es) ≡ true → either (eqb n noPage) (eqb (length es) pageEntries) ≡ true
+    → Rising low es → UpTo maxRadio es → Each (λ e. belongs highest s e ≡ true) es → pageOk highest s k low (pageOf k n (s .number) es) ≡ true
 unfolding pageOk fullOrLast
-cell-left s k low n es few fits full r u i =
+cell-left highest s k low n es few fits full r u i =
     rw (page-fields k n (s .number) es .2, count-pageOf k n (s .number) es few, entries-pageOf k n (s .number) es few)
     (both-intro (page-left k n (s .number) es few fits (rising-less 0 low es (omega arith) r) u)
-    (both-intro full (both-intro (rising-above low es r) (each-all (insideOf s) (λ e. insideOf s e ≡ true) es (λ e h. h) i))))
+    (both-intro full (both-intro (rising-above low es r) (each-all (belongs highest s) (λ e. belongs highest s e ≡ true) es (λ e h. h) i))))

@@ -27,6 +27,7 @@ use Rattle.desk.specs.Views.{everySlot, edgesOf}
 use Rattle.sound_pages.specs.PagesSound.{CellSound, PagesSound}
 use Rattle.sound_pages.specs.Walks.{Walk, noMarks, passed, failed, slotTest, slotsTest, frontTest, restTest, pagesTest}
 use Rattle.sound_pages.proofs.MarksLaws.{Marked, Room, Passes, mark-none, mark-then, room-length, length-noMarks, no-mark, all-marked, marked-all}
+use Rattle.sound_pages.proofs.PageLaws.{belong-placed, belong-dated, belong-both}
 use Rattle.sound_pages.proofs.ChainLaws.{failed-not, need, Chain, chain-passed, chain-passes, free-passed, free-passes}
 
 -- ---- the pages of the cells' chains
@@ -40,87 +41,88 @@ count-cells q c cells = sum-append (λ x. one-if (eqb q x)) (c .chain) (chainsOf
 
 -- ---- one step
 
-module _ (b : List ℕ) (m : List Bool) where
-  pub slots-none : slotsTest b m [] ≡ passed m
+module _ (highest : ℕ) (b : List ℕ) (m : List Bool) where
+  pub slots-none : slotsTest highest b m [] ≡ passed m
   unfolding slotsTest
   slots-none = refl
 
   module _ (s : Slot) (ss : List Slot) where
-    pub slots-out : slotTest b m s .ok ≡ false → slotsTest b m (s ∷ ss) ≡ failed (slotTest b m s .marks)
+    pub slots-out : slotTest highest b m s .ok ≡ false → slotsTest highest b m (s ∷ ss) ≡ failed (slotTest highest b m s .marks)
     unfolding slotsTest
     slots-out t = rw t
 
-    pub slots-more : slotTest b m s .ok ≡ true → slotsTest b m (s ∷ ss) ≡ slotsTest b (slotTest b m s .marks) ss
+    pub slots-more : slotTest highest b m s .ok ≡ true → slotsTest highest b m (s ∷ ss) ≡ slotsTest highest b (slotTest highest b m s .marks) ss
     unfolding slotsTest
     slots-more t = rw t
 
 -- ---- what passes
 
-pub record Slots (b : List ℕ) (m : List Bool) (ss : List Slot) (w : Walk) : Type 0 where
+pub record Slots (highest : ℕ) (b : List ℕ) (m : List Bool) (ss : List Slot) (w : Walk) : Type 0 where
   pub cells : List Cell
   pub shown : ss ≡ map slotOf cells
   pub laid : Each (At b) (cellsLeaves cells)
-  pub good : Each CellSound cells
+  pub good : Each (CellSound highest) cells
   pub marked : Marked m (λ q. count q (chainsOf cells)) (w .marks)
 
-slots-end : (b : List ℕ) (m : List Bool) → length m ≡ pages → Slots b m [] (passed m)
+slots-end : (highest : ℕ) (b : List ℕ) (m : List Bool) → length m ≡ pages → Slots highest b m [] (passed m)
 unfolding cellsLeaves concat
-slots-end b m l = record { cells = []; shown = refl; laid = tt; good = tt; marked = mark-none m l }
+slots-end highest b m l = record { cells = []; shown = refl; laid = tt; good = tt; marked = mark-none m l }
 
-slots-cons : (b : List ℕ) (m : List Bool) (s : Slot) (ss : List Slot) (v w : Walk) → Chain b s m kindFirst 0 (s .first) v → Slots b (v .marks) ss w → Slots b m (s ∷ ss) w
+slots-cons : (highest : ℕ) (b : List ℕ) (m : List Bool) (s : Slot) (ss : List Slot) (v w : Walk) → Chain highest b s m kindFirst 0 (s .first) v → Slots highest b (v .marks) ss w → Slots highest b m (s ∷ ss) w
 unfolding cellsLeaves cellLeaves concat need pagesFor
-slots-cons b m s ss v w c r =
+slots-cons highest b m s ss v w c r =
     let x : Cell = record { number = s .number; edges = edgesOf s; chain = s .first ∷ c .more; entries = c .rows } in
     record {
       cells = x ∷ r .cells;
       shown = ap (λ (l : List Slot). s ∷ l) (r .shown);
       laid = each-append (At b) (cellLeaves x) (cellsLeaves (r .cells)) (c .laid) (r .laid);
-      good = (record { paged = c .paged; rising = c .rising; radios = c .radios; placed = c .placed }, r .good);
+      good = (record { paged = c .paged; rising = c .rising; radios = c .radios; placed = belong-placed highest s (c .rows) (c .belong); dated = belong-dated highest s (c .rows) (c .belong) }, r .good);
       marked = mark-then _ (c .marked) (r .marked) (λ q. count-cells q x (r .cells));
     }
 
-module _ (b : List ℕ) (small : Bytes b) (whole : length b ≡ bufferBytes) where
-  slot-passed : (m : List Bool) (s : Slot) → length m ≡ pages → slotTest b m s .ok ≡ true → Chain b s m kindFirst 0 (s .first) (slotTest b m s)
+module _ (highest : ℕ) (b : List ℕ) (small : Bytes b) (whole : length b ≡ bufferBytes) where
+  slot-passed : (m : List Bool) (s : Slot) → length m ≡ pages → slotTest highest b m s .ok ≡ true → Chain highest b s m kindFirst 0 (s .first) (slotTest highest b m s)
   unfolding slotTest
-  slot-passed m s l t = chain-passed b small whole s pages m kindFirst 0 (s .first) l (omega arith) t
+  slot-passed m s l t = chain-passed highest b small whole s pages m kindFirst 0 (s .first) l (omega arith) t
 
-  pub slots-passed : (m : List Bool) (ss : List Slot) → length m ≡ pages → slotsTest b m ss .ok ≡ true → Slots b m ss (slotsTest b m ss)
-  slots-passed m [] l = rw (slots-none b m) (λ h. slots-end b m l)
+  pub slots-passed : (m : List Bool) (ss : List Slot) → length m ≡ pages → slotsTest highest b m ss .ok ≡ true → Slots highest b m ss (slotsTest highest b m ss)
+  slots-passed m [] l = rw (slots-none highest b m) (λ h. slots-end highest b m l)
   slots-passed m (s ∷ ss) l =
-      by-cases (slotTest b m s .ok)
-      (λ t. let c = slot-passed m s l t in rw (slots-more b m s ss t) (λ h. slots-cons b m s ss _ _ c (slots-passed _ ss (c .marked .size) h)))
-      (λ t. rw (slots-out b m s ss t) (λ h. failed-not (slotTest b m s .marks) h))
+      by-cases (slotTest highest b m s .ok)
+      (λ t. let c = slot-passed m s l t in rw (slots-more highest b m s ss t) (λ h. slots-cons highest b m s ss _ _ c (slots-passed _ ss (c .marked .size) h)))
+      (λ t. rw (slots-out highest b m s ss t) (λ h. failed-not (slotTest highest b m s .marks) h))
 
 -- ---- cells pass
 
-module _ (b : List ℕ) where
+module _ (highest : ℕ) (b : List ℕ) where
   cell-passes : (m : List Bool) (n : ℕ) (edges : Rect) (chain : List ℕ) (es : Rows Fix) → length m ≡ pages → Room m (λ q. count q chain)
-      → Each (At b) (cellLeaves (record { number = n; edges = edges; chain = chain; entries = es })) → CellSound (record { number = n; edges = edges; chain = chain; entries = es })
-      → Passes m (λ q. count q chain) (slotTest b m (slotOf (record { number = n; edges = edges; chain = chain; entries = es })))
+      → Each (At b) (cellLeaves (record { number = n; edges = edges; chain = chain; entries = es })) → CellSound highest (record { number = n; edges = edges; chain = chain; entries = es })
+      → Passes m (λ q. count q chain) (slotTest highest b m (slotOf (record { number = n; edges = edges; chain = chain; entries = es })))
   unfolding cellLeaves slotTest need pagesFor
   cell-passes m n edges [] es l r a g = let z = g .paged in absurd (omega arith)
   cell-passes m n edges (p ∷ ps) es l r a g =
       let k = room-length m (p ∷ ps) r in
-      chain-passes b (slotOf (record { number = n; edges = edges; chain = p ∷ ps; entries = es })) pages m kindFirst 0 p ps es l (omega arith) r a (omega arith) (omega arith) (g .paged) (g .rising) (g .radios) (g .placed)
+      chain-passes highest b (slotOf (record { number = n; edges = edges; chain = p ∷ ps; entries = es })) pages m kindFirst 0 p ps es l (omega arith) r a (omega arith) (omega arith) (g .paged) (g .rising) (g .radios)
+      (belong-both highest (slotOf (record { number = n; edges = edges; chain = p ∷ ps; entries = es })) es (g .placed) (g .dated))
 
-  pub cells-pass : (m : List Bool) (cells : List Cell) → length m ≡ pages → Room m (λ q. count q (chainsOf cells)) → Each (At b) (cellsLeaves cells) → Each CellSound cells
-      → Passes m (λ q. count q (chainsOf cells)) (slotsTest b m (map slotOf cells))
+  pub cells-pass : (m : List Bool) (cells : List Cell) → length m ≡ pages → Room m (λ q. count q (chainsOf cells)) → Each (At b) (cellsLeaves cells) → Each (CellSound highest) cells
+      → Passes m (λ q. count q (chainsOf cells)) (slotsTest highest b m (map slotOf cells))
   unfolding cellsLeaves concat
-  cells-pass m [] l r a g = rw (slots-none b m) (record { good = refl; marked = mark-none m l })
+  cells-pass m [] l r a g = rw (slots-none highest b m) (record { good = refl; marked = mark-none m l })
   cells-pass m (c ∷ cells) l r a g =
       let e = each-split (At b) (cellLeaves c) (cellsLeaves cells) a in
       let t = cell-passes m (c .number) (c .edges) (c .chain) (c .entries) l (λ q. omega (arith, r q, count-cells q c cells)) (e .0) (g .0) in
-      let i = cells-pass (slotTest b m (slotOf c) .marks) cells (t .marked .size) (λ q. omega (arith, r q, t .marked .so q, count-cells q c cells)) (e .1) (g .1) in
-      rw (slots-more b m (slotOf c) (map slotOf cells) (t .good)) (record { good = i .good; marked = mark-then _ (t .marked) (i .marked) (λ q. count-cells q c cells) })
+      let i = cells-pass (slotTest highest b m (slotOf c) .marks) cells (t .marked .size) (λ q. omega (arith, r q, t .marked .so q, count-cells q c cells)) (e .1) (g .1) in
+      rw (slots-more highest b m (slotOf c) (map slotOf cells) (t .good)) (record { good = i .good; marked = mark-then _ (t .marked) (i .marked) (λ q. count-cells q c cells) })
 
 -- ---- the theorem
 
 -- the first slots are no more than there are
-pub sound-few : (b : List ℕ) (d : Directory) (free : ℕ) → length (everySlot (d .words)) ≡ maxCells → PagesSound b d free → d .n ≤ maxCells
-sound-few b d free l s = omega (arith, s .number, length-take (d .n) (everySlot (d .words)), ap length (s .shown), length-map (s .cells) slotOf)
+pub sound-few : (highest : ℕ) (b : List ℕ) (d : Directory) (free : ℕ) → length (everySlot (d .words)) ≡ maxCells → PagesSound highest b d free → d .n ≤ maxCells
+sound-few highest b d free l s = omega (arith, s .number, length-take (d .n) (everySlot (d .words)), ap length (s .shown), length-map (s .cells) slotOf)
 
-module _ (b : List ℕ) (d : Directory) (free : ℕ) (small : Bytes b) (slots : length (everySlot (d .words)) ≡ maxCells) where
-  pub test-sound : pagesTest b d free ≡ true → PagesSound b d free
+module _ (highest : ℕ) (b : List ℕ) (d : Directory) (free : ℕ) (small : Bytes b) (slots : length (everySlot (d .words)) ≡ maxCells) where
+  pub test-sound : pagesTest highest b d free ≡ true → PagesSound highest b d free
   unfolding pagesTest restTest frontTest
   test-sound t =
       let whole = eqb-true _ _ (both-left _ _ t) in
@@ -128,7 +130,7 @@ module _ (b : List ℕ) (d : Directory) (free : ℕ) (small : Bytes b) (slots : 
       let few = leb-true (d .n) maxCells (both-left _ _ t₁) in
       let t₂ = both-right _ _ t₁ in
       let t₃ = both-right _ _ t₂ in
-      let c = slots-passed b small whole noMarks _ length-noMarks (both-left _ _ t₂) in
+      let c = slots-passed highest b small whole noMarks _ length-noMarks (both-left _ _ t₂) in
       let f = free-passed b small whole pages _ free (c .marked .size) (both-left _ _ t₃) in
       record {
         cells = c .cells;
@@ -143,15 +145,15 @@ module _ (b : List ℕ) (d : Directory) (free : ℕ) (small : Bytes b) (slots : 
         good = c .good;
       }
 
-  pub sound-test : PagesSound b d free → pagesTest b d free ≡ true
+  pub sound-test : PagesSound highest b d free → pagesTest highest b d free ≡ true
   unfolding pagesTest restTest frontTest
   sound-test s =
       let once : (p : ℕ) → count p (chainsOf (s .cells)) + count p (s .freeChain) ≡ one-if (ltb p pages) = λ p. sym (sum-append (λ x. one-if (eqb p x)) (chainsOf (s .cells)) (s .freeChain)) ∙ s .once p in
-      let c = cells-pass b noMarks (s .cells) length-noMarks (λ q. omega (arith, no-mark q, once q)) (s .leaf) (s .good) in
-      let m = slotsTest b noMarks (map slotOf (s .cells)) .marks in
+      let c = cells-pass highest b noMarks (s .cells) length-noMarks (λ q. omega (arith, no-mark q, once q)) (s .leaf) (s .good) in
+      let m = slotsTest highest b noMarks (map slotOf (s .cells)) .marks in
       let r : Room m (λ q. count q (s .freeChain)) = λ q. omega (arith, no-mark q, once q, c .marked .so q) in
       let f = free-passes b pages m (s .freeChain) (c .marked .size) (room-length m (s .freeChain) r) r (s .freeLeaf) in
       both-intro (eq-eqb _ _ (s .size))
-      (both-intro (le-leb (d .n) maxCells (sound-few b d free slots s))
+      (both-intro (le-leb (d .n) maxCells (sound-few highest b d free slots s))
       (rw (s .shown, s .front)
       (both-intro (c .good) (both-intro (f .good) (marked-all _ (f .marked .size) (λ q. omega (arith, no-mark q, once q, c .marked .so q, f .marked .so q)))))))

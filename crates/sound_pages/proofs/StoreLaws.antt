@@ -1,12 +1,12 @@
 -- What a caller needs: the pages of a sound store are sound, and cells and free chain of sound pages make directory and layout of a store.
 use mathlib.Core.List.{List, _++_, map}
 use mathlib.Core.Path.{_≡_, refl, sym, ap₂, _∙_, subst}
-use Prim.Native.Nat.{ℕ}
+use Prim.Native.Nat.{ℕ, _≤_}
 use Rattle.terms.specs.Terms.{noPage}
 use Rattle.lists.specs.Chains.{firstOf}
 use Rattle.lists.specs.Sums.{concat, count}
 use Rattle.lists.specs.Tests.{Each}
-use Rattle.lists.proofs.TestsLaws.{each-map, each-append, each-split}
+use Rattle.lists.proofs.TestsLaws.{each-zip, each-append, each-split}
 use Rattle.rules.specs.Store.{Cell, Store}
 use Rattle.rules.specs.WellFormed.{chains, GoodCell, WellFormed, PagesOnce}
 use Rattle.desk.specs.Held.{Directory, deskGrid}
@@ -18,7 +18,7 @@ use Rattle.sound_pages.specs.PagesSound.{CellSound, PagesSound}
 
 -- ---- from a store
 
-pub store-pages : (s : Store) (b : List ℕ) → WellFormed s → Laid s b → PagesSound b (directoryOf (s .cells)) (firstOf noPage (s .free))
+pub store-pages : (s : Store) (b : List ℕ) → WellFormed s → Laid s b → PagesSound (s .highest) b (directoryOf (s .cells)) (firstOf noPage (s .free))
 unfolding directoryOf storeLeaves chains
 store-pages s b w l =
     let a = each-split (At b) (cellsLeaves (s .cells)) (freeLeaves (s .free)) (l .leaf) in
@@ -32,17 +32,18 @@ store-pages s b w l =
       leaf = a .0;
       freeLeaf = a .1;
       once = w .once;
-      good = each-map (GoodCell (s .cuts)) CellSound (s .cells) (λ c g. record { paged = g .paged; rising = g .rising; radios = g .radios; placed = g .placed }) (w .cells);
+      good = each-zip (GoodCell (s .cuts)) (λ c. Each (λ e. e .val .minute ≤ s .highest) (c .entries)) (CellSound (s .highest)) (s .cells)
+          (λ c g d. record { paged = g .paged; rising = g .rising; radios = g .radios; placed = g .placed; dated = d }) (w .cells) (w .entries-dated);
     }
 
 -- the pages of a sound desk are sound
-pub desk-pages : (d : Desk) (b : List ℕ) → Sound d b → PagesSound b (deskGrid d .cells) (deskGrid d .free)
+pub desk-pages : (d : Desk) (b : List ℕ) → Sound d b → PagesSound (d .parts .highest) b (deskGrid d .cells) (deskGrid d .free)
 unfolding deskOf gridOf
-desk-pages d b s = subst (λ (x : Desk). PagesSound b (deskGrid x .cells) (deskGrid x .free)) (sym (s .held)) (store-pages (s .store) b (s .well) (s .laid))
+desk-pages d b s = subst (λ (x : Desk). PagesSound (x .parts .highest) b (deskGrid x .cells) (deskGrid x .free)) (sym (s .held)) (store-pages (s .store) b (s .well) (s .laid))
 
 -- ---- to a store
 
-module _ {b : List ℕ} {d : Directory} {free : ℕ} (x : PagesSound b d free) where
+module _ {highest : ℕ} {b : List ℕ} {d : Directory} {free : ℕ} (x : PagesSound highest b d free) where
   -- and a store with these cells and this free chain, whatever else it holds, is laid out so
   pub store-once : (s : Store) → s .cells ≡ x .cells → s .free ≡ x .freeChain → PagesOnce s
   unfolding chains

@@ -44,38 +44,38 @@ module _ (m : List Bool) (p : ℕ) {r : Bool} (test : r ≡ unmarked m p) (passe
 
 -- ---- walk_chain
 
-module _ (b : List ℕ) (s : Slot) (fuel : ℕ) (m : List Bool) (k low p : ℕ) {t : Walk} where
-  pub chain-tired : fuel ≤ 0 → chainTest fuel b s m k low p ≡ t → failed m ≡ t
-  chain-tired h so = let q : fuel ≡ 0 = omega arith in sym (chain-spent b s m k low p) ∙ rw q at so
+module _ (highest : ℕ) (b : List ℕ) (s : Slot) (fuel : ℕ) (m : List Bool) (k low p : ℕ) {t : Walk} where
+  pub chain-tired : fuel ≤ 0 → chainTest highest fuel b s m k low p ≡ t → failed m ≡ t
+  chain-tired h so = let q : fuel ≡ 0 = omega arith in sym (chain-spent highest b s m k low p) ∙ rw q at so
 
-  module _ (some : 0 < fuel) (so : chainTest fuel b s m k low p ≡ t) {r : Bool} (fresh : r ≡ unmarked m p) where
-    again : chainTest (suc (fuel - 1)) b s m k low p ≡ t
+  module _ (some : 0 < fuel) (so : chainTest highest fuel b s m k low p ≡ t) {r : Bool} (fresh : r ≡ unmarked m p) where
+    again : chainTest highest (suc (fuel - 1)) b s m k low p ≡ t
     again = let q : suc (fuel - 1) ≡ fuel = omega arith in rw q so
 
     pub chain-met : not r ≡ true → failed m ≡ t
-    chain-met u = sym (chain-out (fuel - 1) b s m k low p (sym fresh ∙ not-true r u)) ∙ again
+    chain-met u = sym (chain-out highest (fuel - 1) b s m k low p (sym fresh ∙ not-true r u)) ∙ again
 
-    module _ (u : not r ≡ false) {g : List ℕ} (page : g ≡ pageAt b p) {v : Bool} (ok : v ≡ pageOk s k low g) where
+    module _ (u : not r ≡ false) {g : List ℕ} (page : g ≡ pageAt b p) {v : Bool} (ok : v ≡ pageOk highest s k low g) where
       unmarked-so : unmarked m p ≡ true
       unmarked-so = sym fresh ∙ not-false r u
 
-      ok-is : pageOk s k low (pageAt b p) ≡ v
-      ok-is = ap (pageOk s k low) (sym page) ∙ sym ok
+      ok-is : pageOk highest s k low (pageAt b p) ≡ v
+      ok-is = ap (pageOk highest s k low) (sym page) ∙ sym ok
 
       pub chain-wrong : not v ≡ true → failed m ≡ t
-      chain-wrong x = sym (chain-bad (fuel - 1) b s m k low p unmarked-so (ok-is ∙ not-true v x)) ∙ again
+      chain-wrong x = sym (chain-bad highest (fuel - 1) b s m k low p unmarked-so (ok-is ∙ not-true v x)) ∙ again
 
       module _ (x : not v ≡ false) {n : ℕ} (following : n ≡ next g) where
         next-so : next (pageAt b p) ≡ n
         next-so = ap next (sym page) ∙ sym following
 
         pub chain-ends : n ≡ noPage → passed (set m p true) ≡ t
-        chain-ends y = sym (chain-last (fuel - 1) b s m k low p unmarked-so (ok-is ∙ not-false v x) (eq-eqb _ _ (next-so ∙ y))) ∙ again
+        chain-ends y = sym (chain-last highest (fuel - 1) b s m k low p unmarked-so (ok-is ∙ not-false v x) (eq-eqb _ _ (next-so ∙ y))) ∙ again
 
-        pub chain-goes-on : (n ≡ noPage → ⊥) → {l : ℕ} → l ≡ lastRadio low (entries g) → chainTest (fuel - 1) b s (set m p true) kindFurther l n ≡ t
+        pub chain-goes-on : (n ≡ noPage → ⊥) → {l : ℕ} → l ≡ lastRadio low (entries g) → chainTest highest (fuel - 1) b s (set m p true) kindFurther l n ≡ t
         chain-goes-on y last =
             rw (last, page, ← next-so)
-            (sym (chain-more (fuel - 1) b s m k low p unmarked-so (ok-is ∙ not-false v x) (ne-eqb _ _ (λ z. y (sym next-so ∙ z)))) ∙ again)
+            (sym (chain-more highest (fuel - 1) b s m k low p unmarked-so (ok-is ∙ not-false v x) (ne-eqb _ _ (λ z. y (sym next-so ∙ z)))) ∙ again)
 
 -- ---- walk_run, walk_free
 
@@ -121,28 +121,28 @@ run-less fuel h e = omega (arith, ap leftBy e)
 
 -- ---- walk_slots
 
-module _ (b ws : List ℕ) (n : ℕ) (m : List Bool) (i : ℕ) {t : Walk} (so : slotsTest b m (drop i (take n (everySlot ws))) ≡ t) where
+module _ (highest : ℕ) (b ws : List ℕ) (n : ℕ) (m : List Bool) (i : ℕ) {t : Walk} (so : slotsTest highest b m (drop i (take n (everySlot ws))) ≡ t) where
   pub slots-end : n ≤ i → passed m ≡ t
-  slots-end h = sym (slots-none b m) ∙ rw (used-none (everySlot ws) n i h) at so
+  slots-end h = sym (slots-none highest b m) ∙ rw (used-none (everySlot ws) n i h) at so
 
   module _ (below : i < n) (few : n ≤ maxCells) (size : length ws ≡ slotFields * maxCells) {s : Slot} (read : s ≡ getD (everySlot ws) i noSlot)
-      {r : Bool} {m′ : List Bool} (walk : record { ok = r; marks = m′ } ≡ slotTest b m s) where
-    slots-open : slotsTest b m (s ∷ drop (i + 1) (take n (everySlot ws))) ≡ t
+      {r : Bool} {m′ : List Bool} (walk : record { ok = r; marks = m′ } ≡ slotTest highest b m s) where
+    slots-open : slotsTest highest b m (s ∷ drop (i + 1) (take n (everySlot ws))) ≡ t
     slots-open =
         let l = length-slots ws size in
-        ap (λ (x : Slot). slotsTest b m (x ∷ drop (i + 1) (take n (everySlot ws)))) read
-        ∙ ap (slotsTest b m) (sym (used-cons (everySlot ws) n i noSlot (omega arith) below))
+        ap (λ (x : Slot). slotsTest highest b m (x ∷ drop (i + 1) (take n (everySlot ws)))) read
+        ∙ ap (slotsTest highest b m) (sym (used-cons (everySlot ws) n i noSlot (omega arith) below))
         ∙ so
 
     pub slots-fail : not r ≡ true → failed m′ ≡ t
     slots-fail e =
         ap (λ (x : Walk). failed (x .marks)) walk
-        ∙ sym (slots-out b m s (drop (i + 1) (take n (everySlot ws))) (sym (ap (λ (x : Walk). x .ok) walk) ∙ not-true r e)) ∙ slots-open
+        ∙ sym (slots-out highest b m s (drop (i + 1) (take n (everySlot ws))) (sym (ap (λ (x : Walk). x .ok) walk) ∙ not-true r e)) ∙ slots-open
 
-    pub slots-turn : not r ≡ false → slotsTest b m′ (drop (i + 1) (take n (everySlot ws))) ≡ t
+    pub slots-turn : not r ≡ false → slotsTest highest b m′ (drop (i + 1) (take n (everySlot ws))) ≡ t
     slots-turn e =
-        ap (λ (x : Walk). slotsTest b (x .marks) (drop (i + 1) (take n (everySlot ws)))) walk
-        ∙ sym (slots-more b m s (drop (i + 1) (take n (everySlot ws))) (sym (ap (λ (x : Walk). x .ok) walk) ∙ not-false r e)) ∙ slots-open
+        ap (λ (x : Walk). slotsTest highest b (x .marks) (drop (i + 1) (take n (everySlot ws)))) walk
+        ∙ sym (slots-more highest b m s (drop (i + 1) (take n (everySlot ws))) (sym (ap (λ (x : Walk). x .ok) walk) ∙ not-false r e)) ∙ slots-open
 
 -- ---- the free chain, after the walk over the directory
 
@@ -164,38 +164,38 @@ module _ (b : List ℕ) (free : ℕ) (r : Bool) (m : List Bool) where
 
 -- ---- pages_sound
 
-abbrev Says : List ℕ → Directory → ℕ → Bool → Type 0
-Says b d free r = (r ≡ true → PagesSound b d free) × (PagesSound b d free → r ≡ true)
+abbrev Says : ℕ → List ℕ → Directory → ℕ → Bool → Type 0
+Says highest b d free r = (r ≡ true → PagesSound highest b d free) × (PagesSound highest b d free → r ≡ true)
 
 -- the test has failed, and there are no such cells
-says-no : {b : List ℕ} {d : Directory} {free : ℕ} → (PagesSound b d free → ⊥) → Says b d free false
+says-no : {highest : ℕ} {b : List ℕ} {d : Directory} {free : ℕ} → (PagesSound highest b d free → ⊥) → Says highest b d free false
 says-no n = ((λ t. let z : _≡_ {A = ℕ} 0 1 = cc in absurd (omega arith)), (λ s. absurd (n s)))
 
-pub sound-short : (b : List ℕ) (d : Directory) (free : ℕ) → (length b ≡ bufferBytes → ⊥) → Says b d free false
-sound-short b d free n = says-no (λ s. n (s .size))
+pub sound-short : (highest : ℕ) (b : List ℕ) (d : Directory) (free : ℕ) → (length b ≡ bufferBytes → ⊥) → Says highest b d free false
+sound-short highest b d free n = says-no (λ s. n (s .size))
 
-module _ (b : List ℕ) (d : Directory) (free : ℕ) (sized : length (d .words) ≡ slotFields * maxCells) where
+module _ (highest : ℕ) (b : List ℕ) (d : Directory) (free : ℕ) (sized : length (d .words) ≡ slotFields * maxCells) where
   slots : length (everySlot (d .words)) ≡ maxCells
   slots = length-slots (d .words) sized
 
-  pub sound-many : maxCells < d .n → Says b d free false
-  sound-many h = says-no (λ s. omega (arith, sound-few b d free slots s))
+  pub sound-many : maxCells < d .n → Says highest b d free false
+  sound-many h = says-no (λ s. omega (arith, sound-few highest b d free slots s))
 
-  module _ (small : Bytes b) (whole : length b ≡ bufferBytes) (few : d .n ≤ maxCells) {z : List Bool} (none : z ≡ noMarks) {r : Bool} {m : List Bool} (walk : record { ok = r; marks = m } ≡ slotsTest b z (take (d .n) (everySlot (d .words)))) where
-    sound-walked : {v : Bool} → v ≡ restTest b free (record { ok = r; marks = m }) → Says b d free v
+  module _ (small : Bytes b) (whole : length b ≡ bufferBytes) (few : d .n ≤ maxCells) {z : List Bool} (none : z ≡ noMarks) {r : Bool} {m : List Bool} (walk : record { ok = r; marks = m } ≡ slotsTest highest b z (take (d .n) (everySlot (d .words)))) where
+    sound-walked : {v : Bool} → v ≡ restTest b free (record { ok = r; marks = m }) → Says highest b d free v
     unfolding pagesTest
     sound-walked e =
         let g =
-        e ∙ ap (restTest b free) (walk ∙ ap (λ (z : List Bool). slotsTest b z (take (d .n) (everySlot (d .words)))) none)
+        e ∙ ap (restTest b free) (walk ∙ ap (λ (z : List Bool). slotsTest highest b z (take (d .n) (everySlot (d .words)))) none)
         ∙ both-next _ (le-leb (d .n) maxCells few) ∙ both-next _ (eq-eqb (length b) bufferBytes whole) in
-        ((λ t. test-sound b d free small slots (sym g ∙ t)), (λ s. g ∙ sound-test b d free small slots s))
+        ((λ t. test-sound highest b d free small slots (sym g ∙ t)), (λ s. g ∙ sound-test highest b d free small slots s))
 
-    pub sound-no-cells : not r ≡ true → Says b d free false
+    pub sound-no-cells : not r ≡ true → Says highest b d free false
     sound-no-cells e = sound-walked (rest-failed b free r m e)
 
     module _ (good : not r ≡ false) {f : Bool} {k : List Bool} (rest : record { ok = f; marks = k } ≡ frontTest b m free) where
-      pub sound-no-chain : not f ≡ true → Says b d free false
+      pub sound-no-chain : not f ≡ true → Says highest b d free false
       sound-no-chain e = sound-walked (rest-no-chain b free r m good rest e)
 
-      pub sound-all : not f ≡ false → {v : Bool} → v ≡ all (λ x. x) k → Says b d free v
+      pub sound-all : not f ≡ false → {v : Bool} → v ≡ all (λ x. x) k → Says highest b d free v
       sound-all e g = sound-walked (rest-all b free r m good rest e g)

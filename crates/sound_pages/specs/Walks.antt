@@ -39,24 +39,25 @@ abbrev pub failed : List Bool → Walk
 failed m = record { ok = false; marks = m }
 
 -- a cell's chain from page p on
-unfoldable pub chainTest : ℕ → List ℕ → Slot → List Bool → ℕ → ℕ → ℕ → Walk
-chainTest zero b s m k low p = failed m
-chainTest (suc fuel) b s m k low p =
+unfoldable pub chainTest : ℕ → ℕ → List ℕ → Slot → List Bool → ℕ → ℕ → ℕ → Walk
+chainTest highest zero b s m k low p = failed m
+chainTest highest (suc fuel) b s m k low p =
     cond (unmarked m p)
-    (cond (pageOk s k low (pageAt b p))
+    (cond (pageOk highest s k low (pageAt b p))
     (cond (eqb (next (pageAt b p)) noPage) (passed (set m p true))
-    (chainTest fuel b s (set m p true) kindFurther (lastRadio low (entries (pageAt b p))) (next (pageAt b p))))
+    (chainTest highest fuel b s (set m p true) kindFurther (lastRadio low (entries (pageAt b p))) (next (pageAt b p))))
     (failed m))
     (failed m)
 
 -- the chain of a slot
-unfoldable pub slotTest : List ℕ → List Bool → Slot → Walk
-slotTest b m s = chainTest pages b s m kindFirst 0 (s .first)
+unfoldable pub slotTest : ℕ → List ℕ → List Bool → Slot → Walk
+slotTest highest b m s = chainTest highest pages b s m kindFirst 0 (s .first)
 
 -- the chains of the slots, one after the other
-unfoldable pub slotsTest : List ℕ → List Bool → List Slot → Walk
-slotsTest b m [] = passed m
-slotsTest b m (s ∷ ss) = cond (slotTest b m s .ok) (slotsTest b (slotTest b m s .marks) ss) (failed (slotTest b m s .marks))
+unfoldable pub slotsTest : ℕ → List ℕ → List Bool → List Slot → Walk
+slotsTest highest b m [] = passed m
+slotsTest highest b m (s ∷ ss) =
+    cond (slotTest highest b m s .ok) (slotsTest highest b (slotTest highest b m s .marks) ss) (failed (slotTest highest b m s .marks))
 
 -- the free chain from page p on
 unfoldable pub freeTest : ℕ → List ℕ → List Bool → ℕ → Walk
@@ -84,6 +85,6 @@ frontTest b m front = freeTest pages b m front
 unfoldable pub restTest : List ℕ → ℕ → Walk → Bool
 restTest b free w = both (w .ok) (both (frontTest b (w .marks) free .ok) (all (λ x. x) (frontTest b (w .marks) free .marks)))
 
-unfoldable pub pagesTest : List ℕ → Directory → ℕ → Bool
-pagesTest b d free =
-    both (eqb (length b) bufferBytes) (both (leb (d .n) maxCells) (restTest b free (slotsTest b noMarks (take (d .n) (everySlot (d .words))))))
+unfoldable pub pagesTest : ℕ → List ℕ → Directory → ℕ → Bool
+pagesTest highest b d free =
+    both (eqb (length b) bufferBytes) (both (leb (d .n) maxCells) (restTest b free (slotsTest highest b noMarks (take (d .n) (everySlot (d .words))))))

@@ -61,9 +61,9 @@ fn all_marked(marks: [bool; PAGES]) -> bool
 // Each answers whether it passes. The marks are lent, for each cell would get a copy of them.
 
 // The chain of a cell, by next page; each page is marked.
-fn walk_chain<'a>(pages: &'a [u8], s: Slot, marks: &'a mut [bool; PAGES]) -> bool
+fn walk_chain<'a>(pages: &'a [u8], s: Slot, highest: u32, marks: &'a mut [bool; PAGES]) -> bool
     requires { ⌜ length (now pages) ≡ bufferBytes ⌝ }
-    ensures { λ r. ⌜ record { ok = r; marks = now (marks .exit) } ≡ slotTest (now (pages .entry)) (now (marks .entry)) s ⌝ }
+    ensures { λ r. ⌜ record { ok = r; marks = now (marks .exit) } ≡ slotTest highest (now (pages .entry)) (now (marks .entry)) s ⌝ }
 {
     let mut p = s.first as usize;
     let mut kind: u16 = KIND_FIRST;
@@ -74,7 +74,7 @@ fn walk_chain<'a>(pages: &'a [u8], s: Slot, marks: &'a mut [bool; PAGES]) -> boo
             return false;
         }
         let page = page::page_at(pages, p);
-        if !sound_page::page_ok(page, s, kind, low) {
+        if !sound_page::page_ok(page, s, highest, kind, low) {
             return false;
         }
         marks[p] = true;
@@ -147,16 +147,17 @@ fn walk_slots<'a>(
     pages: &'a [u8],
     cells: &'a [u16; Desk::CELL_WORDS],
     n: usize,
+    highest: u32,
     marks: &'a mut [bool; PAGES],
 ) -> bool
     requires { ⌜ (length (now pages) ≡ bufferBytes) × (n ≤ maxCells) × (length (now cells) ≡ slotFields * maxCells) ⌝ }
     ensures { λ r. ⌜ record { ok = r; marks = now (marks .exit) }
-        ≡ slotsTest (now (pages .entry)) (now (marks .entry)) (take n (everySlot (now (cells .entry)))) ⌝ }
+        ≡ slotsTest highest (now (pages .entry)) (now (marks .entry)) (take n (everySlot (now (cells .entry)))) ⌝ }
 {
     let mut i: usize = 0;
     while i < n {
         let s = desk::slot_at(cells, i);
-        if !walk_chain(pages, s, marks) {
+        if !walk_chain(pages, s, highest, marks) {
             return false;
         }
         i += 1;
@@ -170,10 +171,11 @@ pub fn pages_sound<'a>(
     cells: &'a [u16; Desk::CELL_WORDS],
     n: usize,
     free: u16,
+    highest: u32,
 ) -> bool
     requires { ⌜ length (now cells) ≡ slotFields * maxCells ⌝ }
-    ensures { λ r. ⌜ (r ≡ true → PagesSound (now (pages .entry)) (directoryIn n (now (cells .entry))) free)
-        × (PagesSound (now (pages .entry)) (directoryIn n (now (cells .entry))) free → r ≡ true) ⌝ }
+    ensures { λ r. ⌜ (r ≡ true → PagesSound highest (now (pages .entry)) (directoryIn n (now (cells .entry))) free)
+        × (PagesSound highest (now (pages .entry)) (directoryIn n (now (cells .entry))) free → r ≡ true) ⌝ }
 {
     if pages.len() != PAGE_BYTES * PAGES {
         return false;
@@ -182,7 +184,7 @@ pub fn pages_sound<'a>(
         return false;
     }
     let mut marks = no_marks();
-    if !walk_slots(pages, cells, n, &mut marks) {
+    if !walk_slots(pages, cells, n, highest, &mut marks) {
         return false;
     }
     if !walk_free(pages, &mut marks, free) {

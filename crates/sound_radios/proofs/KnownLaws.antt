@@ -54,7 +54,7 @@ pub record Known (b : List ℕ) (d : Desk) : Type 0 where
 within : {A B : Type 0} (f : A → B) (n size : ℕ) (xs : List A) → length xs ≡ size → n ≡ length (map f (take n xs)) → n ≤ size
 within f n size xs l e = omega (arith, length-map (take n xs) f, length-take n xs)
 
-module _ (b : List ℕ) (d : Desk) (shape : Shaped d) (sound : deskSound d ≡ true) (sheets : PagesSound b (deskGrid d .cells) (deskGrid d .free)) where
+module _ (b : List ℕ) (d : Desk) (shape : Shaped d) (sound : deskSound d ≡ true) (sheets : PagesSound (d .parts .highest) b (deskGrid d .cells) (deskGrid d .free)) where
   counts : (deskGrid d .cells .n ≡ length (map cellOf (slotsIn (deskGrid d .cells)))) × (deskMemo d .n ≡ length (linesOf (deskMemo d))) × (deskOn d .n ≡ length (radiosOf (deskOn d))) × (deskWaiting d .n ≡ length (reportsOf (deskWaiting d)))
   unfolding deskOf gridOf directoryOf memoOf onOf waitingOf
   counts =

@@ -44,13 +44,13 @@ one-row {Val} q l r = rw (passing-found (λ _. true) 0 q l r) (few (find l q))
     few none = omega arith
     few (some v) = omega arith
 
-module _ {b : List ℕ} {d : Directory} {free : ℕ} (x : PagesSound b d free) where
+module _ {highest : ℕ} {b : List ℕ} {d : Directory} {free : ℕ} (x : PagesSound highest b d free) where
   -- a store of these cells and this free chain alone
   abbrev bare : Store
-  bare = record { cuts = record { easts = []; norths = [] }; cells = x .cells; free = x .freeChain; waiting = []; memo = []; on = []; tally = 0 }
+  bare = record { cuts = record { easts = []; norths = [] }; cells = x .cells; free = x .freeChain; waiting = []; memo = []; on = []; tally = 0; highest = highest }
 
   paged : Each Paged (x .cells)
-  paged = each-map CellSound Paged (x .cells) (λ c g. g .paged) (x .good)
+  paged = each-map (CellSound highest) Paged (x .cells) (λ c g. g .paged) (x .good)
 
   entries-read : Each (λ c. entriesFrom b (firstOf noPage (c .chain)) ≡ c .entries) (x .cells)
   unfolding entriesFrom entriesOn
@@ -67,7 +67,7 @@ module _ {b : List ℕ} {d : Directory} {free : ℕ} (x : PagesSound b d free) w
       ∙ map-each (λ c. entriesFrom b (firstOf noPage (c .chain))) (λ c. c .entries) (x .cells) entries-read
 
   pub radios-read : UpTo maxRadio (concat (rowsRead b d))
-  radios-read = rw rows-read (each-concat-map (λ e. e .key ≤ maxRadio) (λ c. c .entries) (x .cells) (each-map CellSound (λ c. UpTo maxRadio (c .entries)) (x .cells) (λ c g. g .radios) (x .good)))
+  radios-read = rw rows-read (each-concat-map (λ e. e .key ≤ maxRadio) (λ c. c .entries) (x .cells) (each-map (CellSound highest) (λ c. UpTo maxRadio (c .entries)) (x .cells) (λ c g. g .radios) (x .good)))
 
   -- one a radio in each cell
   pub once-read : d .n ≤ maxCells → (q : ℕ) → keyed q (concat (rowsRead b d)) ≤ maxCells
@@ -77,7 +77,7 @@ module _ {b : List ℕ} {d : Directory} {free : ℕ} (x : PagesSound b d free) w
         arith,
         passing-concat (λ _. true) q (rowsOf (x .cells)),
         sum-map (passing (λ _. true) q) (λ c. c .entries) (x .cells),
-        sum-le-each (λ c. passing (λ _. true) q (c .entries)) (λ _. 1) (x .cells) (each-map CellSound (λ c. passing (λ _. true) q (c .entries) ≤ 1) (x .cells) (λ c g. one-row q (c .entries) (g .rising)) (x .good)),
+        sum-le-each (λ c. passing (λ _. true) q (c .entries)) (λ _. 1) (x .cells) (each-map (CellSound highest) (λ c. passing (λ _. true) q (c .entries) ≤ 1) (x .cells) (λ c g. one-row q (c .entries) (g .rising)) (x .good)),
         length-sum (x .cells),
         x .number,
       ))

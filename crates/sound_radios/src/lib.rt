@@ -67,7 +67,7 @@ pub fn radios_sound<'a>(
     requires { ⌜ (length (now cells) ≡ slotFields * maxCells) × (length (now waiting) ≡ reportFields * fullMemory)
         × (length (now memo) ≡ lineFields * lineSlots) × (length (now on) ≡ maxOn)
         × (deskSound (deskWith parts (now cells) (now waiting) (now memo) (now on)) ≡ true)
-        × PagesSound (now pages) (directoryIn (parts .frame .cells) (now cells)) (parts .frame .free) ⌝ }
+        × PagesSound (parts .highest) (now pages) (directoryIn (parts .frame .cells) (now cells)) (parts .frame .free) ⌝ }
     ensures { λ r. ⌜ r
         ≡ entriesTest (linesOf (memoIn (parts .lines) (now (memo .entry)))) (reportsOf (waitingWith (parts .waiting) (now (waiting .entry))))
         (radiosOf (onWith (parts .on) (now (on .entry)))) (parts .tally) (rowsRead (now (pages .entry)) (directoryIn (parts .frame .cells)

@@ -63,22 +63,22 @@ module _ (on : On) where
 
 -- ---- waiting reports
 
-module _ (w : Waiting) where
-  abbrev pub kept : List Report
-  kept = take (w .n) (everyReport (w .words))
+abbrev pub kept : Waiting → List Report
+kept w = take (w .n) (everyReport (w .words))
 
-  pub waiting-long : fullMemory - 1 < w .n → false ≡ waitingSound w
+module _ (highest : ℕ) (w : Waiting) where
+  pub waiting-long : fullMemory - 1 < w .n → false ≡ waitingSound highest w
   unfolding waitingSound
-  waiting-long h = sym (both-left-false (reportsTest w) (slots-long reportWeight (fullMemory - 1) (w .n) (everyReport (w .words)) h))
+  waiting-long h = sym (both-left-false (reportsTest highest w) (slots-long reportWeight (fullMemory - 1) (w .n) (everyReport (w .words)) h))
 
   module _ {b : Bool} (said : b ≡ eqb (weighs reportWeight (w .n) (everyReport (w .words))) 0) where
-    pub waiting-unclear : not b ≡ true → false ≡ waitingSound w
+    pub waiting-unclear : not b ≡ true → false ≡ waitingSound highest w
     unfolding waitingSound
-    waiting-unclear f = sym (both-left-false (reportsTest w) (slots-unclear reportWeight (fullMemory - 1) (w .n) (everyReport (w .words)) said f))
+    waiting-unclear f = sym (both-left-false (reportsTest highest w) (slots-unclear reportWeight (fullMemory - 1) (w .n) (everyReport (w .words)) said f))
 
-    pub waiting-tested : {r : Bool} → w .n ≤ fullMemory - 1 → not b ≡ false → r ≡ reportsTest w → r ≡ waitingSound w
+    pub waiting-tested : {r : Bool} → w .n ≤ fullMemory - 1 → not b ≡ false → r ≡ reportsTest highest w → r ≡ waitingSound highest w
     unfolding waitingSound
-    waiting-tested h f q = q ∙ sym (true-both (reportsTest w) (slots-clear reportWeight (fullMemory - 1) (w .n) (everyReport (w .words)) h said f))
+    waiting-tested h f q = q ∙ sym (true-both (reportsTest highest w) (slots-clear reportWeight (fullMemory - 1) (w .n) (everyReport (w .words)) h said f))
 
 -- ---- the memo
 

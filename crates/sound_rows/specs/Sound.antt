@@ -1,12 +1,14 @@
 -- The test of soundness as far as it looks at radios on, at waiting reports or at memo lines, each by itself (01, "A sound store"). They may be in any
 -- condition, with a count beyond their slots or anything in the slots that are not used.
 use mathlib.Core.Bool.{Bool}
+use mathlib.Core.List.{List}
 use Prim.Native.Nat.{ℕ, _+_, _-_}
 use lib.Dec.{eqb, leb, ltb}
-use lib.ListN.{take}
+use lib.ListN.{getD, take}
 use Rattle.terms.specs.Terms.{maxOn}
 use Rattle.lists.specs.Rows.{Rows}
 use Rattle.lists.specs.Tests.{both, either, all}
+use Rattle.lists.specs.Words.{wide}
 use Rattle.rules.specs.Limits.{fullMemory}
 use Rattle.rules.specs.Store.{Line as StoreLine}
 use Rattle.desk.specs.declared.Report.{Report}
@@ -16,7 +18,7 @@ use Rattle.desk.specs.Layout.{lineSlots}
 use Rattle.desk.specs.Views.{everyReport, linesIn, radiosOf}
 use Rattle.memo.specs.Memo.{lastOf, linesOf}
 use Rattle.sound_clauses.specs.Radios.{onTest, memoTest, lastTest, lastsTest}
-use Rattle.sound_clauses.specs.Waiting.{waitingTest, placesTest}
+use Rattle.sound_clauses.specs.Waiting.{waitingTest, placesTest, datedTest}
 use Rattle.sound_directory.specs.Sound.{slotsTest, number}
 use Rattle.waiting.specs.Waiting.{reportsOf}
 
@@ -28,21 +30,28 @@ onSound on = both (slotsTest number maxOn (on .n) (on .radios)) (onTest (radiosO
 -- ---- waiting reports
 
 abbrev pub reportWeight : Report → ℕ
-reportWeight x = x .radio + x .east + x .north + x .new
+reportWeight x = x .radio + x .east + x .north + x .new + x .low + x .high
 
 -- 1 or 0
 abbrev pub isMark : ℕ → Bool
 isMark x = leb x 1
 
-abbrev pub reportMarked : Report → Bool
-reportMarked x = isMark (x .new)
+-- as a row lays it out: marked 1 or 0, and the lower half of its minute has 16 bits
+abbrev pub reportLaid : Report → Bool
+reportLaid x = both (isMark (x .new)) (ltb (x .low) 65536)
+
+-- the minute of slot i, in the columns of its halves, is not above the highest
+abbrev pub isDated : ℕ → List ℕ → List ℕ → ℕ → Bool
+isDated highest lows highs i = leb (wide (getD lows i 0) (getD highs i 0)) highest
 
 -- what is tested of the reports that wait
-unfoldable pub reportsTest : Waiting → Bool
-reportsTest w = both (waitingTest (reportsOf w)) (both (all reportMarked (take (w .n) (everyReport (w .words)))) (placesTest (reportsOf w)))
+unfoldable pub reportsTest : ℕ → Waiting → Bool
+reportsTest highest w =
+    both (waitingTest (reportsOf w))
+    (both (all reportLaid (take (w .n) (everyReport (w .words)))) (both (placesTest (reportsOf w)) (datedTest highest (reportsOf w))))
 
-unfoldable pub waitingSound : Waiting → Bool
-waitingSound w = both (slotsTest reportWeight (fullMemory - 1) (w .n) (everyReport (w .words))) (reportsTest w)
+unfoldable pub waitingSound : ℕ → Waiting → Bool
+waitingSound highest w = both (slotsTest reportWeight (fullMemory - 1) (w .n) (everyReport (w .words))) (reportsTest highest w)
 
 -- ---- the memo
 

@@ -11,8 +11,9 @@ ghost use Rattle.rules.specs.Limits.{fullMemory};
 ghost use Rattle.desk.specs.Layout.{reportFields, lineSlots, lineFields};
 ghost use Rattle.desk.specs.Held.{waitingWith, memoIn, onWith};
 ghost use Rattle.desk.specs.Views.{everyReport};
+ghost use Rattle.sound_clauses.specs.Loops.{allTo};
 ghost use Rattle.sound_directory.specs.Sound.{weighs, number};
-ghost use Rattle.sound_rows.specs.Sound.{onSound, reportWeight, isMark, reportsTest, waitingSound, lineTest, memoSound};
+ghost use Rattle.sound_rows.specs.Sound.{onSound, reportWeight, isMark, isDated, reportsTest, waitingSound, lineTest, memoSound};
 use desk::Desk;
 use desk::Line;
 use sound_directory::goes_on;
@@ -28,7 +29,11 @@ const NORTHS: usize = 2;
 
 const MARKS: usize = 3;
 
-const LINE_SLOTS: usize = Desk::MAX_LINES + 1;
+const LOWS: usize = 4;
+
+const HIGHS: usize = 5;
+
+const LINE_SLOTS: usize = Desk::LINE_SLOTS;
 
 const MARKED: u16 = 1;
 
@@ -84,7 +89,13 @@ fn reports_clear(waiting: &[u16], n: usize) -> bool
     if !column_clear(waiting, NORTHS, n) {
         return false;
     }
-    column_clear(waiting, MARKS, n)
+    if !column_clear(waiting, MARKS, n) {
+        return false;
+    }
+    if !column_clear(waiting, LOWS, n) {
+        return false;
+    }
+    column_clear(waiting, HIGHS, n)
 }
 
 // Whether each of the first n is 1 or 0. It never leaves early, so that many marks are looked at at a time.
@@ -101,21 +112,39 @@ fn are_marks(marks: &[u16], n: usize) -> bool
     so
 }
 
-// Whether the radios of the first n rise and each is marked; their places are some, for fields have 16 bits.
-fn reports_ok(waiting: &[u16], n: usize) -> bool
+// Whether none of the first n minutes, in halves, is above the highest. It never leaves early, so that many are looked at at a time.
+fn are_dated(lows: &[u16], highs: &[u16], n: usize, highest: u32) -> bool
+    requires { ⌜ (n ≤ length (now lows)) × (n ≤ length (now highs)) ⌝ }
+    ensures { λ r. ⌜ r ≡ allTo n (isDated highest (now (lows .entry)) (now (highs .entry))) ⌝ }
+{
+    let mut so = true;
+    let mut i: usize = 0;
+    while i < n {
+        so = so & (fields::wide_of(lows[i], highs[i]) <= highest);
+        i += 1;
+    }
+    so
+}
+
+// Whether the radios of the first n rise, each is marked, and none is above the highest minute; their places are some, and their minutes' lower halves are such,
+// for fields have 16 bits.
+fn reports_ok(waiting: &[u16], n: usize, highest: u32) -> bool
     requires { ⌜ (n < fullMemory) × (length (now waiting) ≡ reportFields * fullMemory) ⌝ }
-    ensures { λ r. ⌜ r ≡ reportsTest (waitingWith n (now (waiting .entry))) ⌝ }
+    ensures { λ r. ⌜ r ≡ reportsTest highest (waitingWith n (now (waiting .entry))) ⌝ }
 {
     if !rises(column(waiting, RADIOS), n, terms::MAX_RADIO) {
         return false;
     }
-    are_marks(column(waiting, MARKS), n)
+    if !are_marks(column(waiting, MARKS), n) {
+        return false;
+    }
+    are_dated(column(waiting, LOWS), column(waiting, HIGHS), n, highest)
 }
 
-// Whether the waiting reports are sound: the slots past them are zero, their radios rise and each is marked.
-pub fn waiting_sound<'a>(waiting: &'a [u16; Desk::WAITING_WORDS], n: usize) -> bool
+// Whether the waiting reports are sound: the slots past them are zero, their radios rise, each is marked, and none is above the highest minute.
+pub fn waiting_sound<'a>(waiting: &'a [u16; Desk::WAITING_WORDS], n: usize, highest: u32) -> bool
     requires { ⌜ length (now waiting) ≡ reportFields * fullMemory ⌝ }
-    ensures { λ r. ⌜ r ≡ waitingSound (waitingWith n (now (waiting .entry))) ⌝ }
+    ensures { λ r. ⌜ r ≡ waitingSound highest (waitingWith n (now (waiting .entry))) ⌝ }
 {
     if Desk::MAX_WAITING < n {
         return false;
@@ -123,7 +152,7 @@ pub fn waiting_sound<'a>(waiting: &'a [u16; Desk::WAITING_WORDS], n: usize) -> b
     if !reports_clear(waiting, n) {
         return false;
     }
-    reports_ok(waiting, n)
+    reports_ok(waiting, n, highest)
 }
 
 // ---- the memo

@@ -9,7 +9,7 @@ use lib.Dec.{eqb, ltb}
 use lib.ListN.{length, getD, set, replicate, length-set, length-replicate, getD-replicate}
 use lib.Seq.{getD-set-same, getD-set-other}
 use borrow.Author.Tests.{eqb-true, eqb-false, ltb-true, ltb-false}
-use Rattle.terms.specs.Terms.{Place, Fix}
+use Rattle.terms.specs.Terms.{Fix}
 use Rattle.lists.specs.Rows.{Row, Rows, Rising, find, rank, alter, putRow, passed}
 use Rattle.lists.specs.Sums.{filter}
 use Rattle.lists.specs.Tests.{isSome, orElse}

@@ -29,14 +29,19 @@ noCell = 65535
 abbrev pub fieldBytes : ℕ
 fieldBytes = 2
 
+-- "a 32-bit minute"
+abbrev pub minuteBytes : ℕ
+minuteBytes = 4
+
 -- "A place is east and north, each 0 to 65,535 metres."
 pub record Place : Type 0 where
   pub east : ℕ
   pub north : ℕ
 
--- what an entry has of its radio, and what its latest report told
+-- what an entry has of its radio, and what its latest report told: "each waiting report and page entry carries the minute of its report"
 pub record Fix : Type 0 where
   pub place : Place
+  pub minute : ℕ
 
-abbrev pub fixAt : ℕ → ℕ → Fix
-fixAt east north = record { place = record { east = east; north = north } }
+abbrev pub fixAt : ℕ → ℕ → ℕ → Fix
+fixAt east north minute = record { place = record { east = east; north = north }; minute = minute }

@@ -3,7 +3,7 @@ use mathlib.Core.Bool.{Bool, true, false, not}
 use mathlib.Core.List.{List, [], _∷_, _++_, map}
 use mathlib.Core.Logic.{_≢_}
 use mathlib.Core.Option.{Option, none, some}
-use mathlib.Core.Path.{_≡_, refl, sym, ap, _∙_}
+use mathlib.Core.Path.{_≡_, refl, sym, ap, _∙_, ap₂}
 use Prim.Native.Nat.{ℕ, zero, suc, _+_, _-_, _*_, _/_, _≤_, _<_}
 use native.Mathlib.Numerals.{add-one}
 use native.Mathlib.Omega.{arith}
@@ -13,6 +13,8 @@ use lib.Seq.{take-suc, getD-take}
 use Rattle.terms.specs.Terms.{fixAt}
 use Rattle.lists.specs.Parts.{insertAt, removeAt}
 use Rattle.lists.specs.Rows.{Row, Rows, Rising, find, rank, alter, insert}
+use Rattle.lists.specs.Words.{wide, lowHalf, highHalf}
+use Rattle.lists.proofs.WordsLaws.{wide-halves, low-wide, high-wide}
 use Rattle.lists.specs.Tests.{one-if}
 use Rattle.lists.proofs.Cases.{none-some, some-injective}
 use Rattle.lists.proofs.SearchLaws.{Between, between-start, between-up, between-down}
@@ -31,13 +33,13 @@ use Rattle.waiting.specs.declared.Standing.the-variants.{At, Before}
 use Rattle.waiting.specs.declared.Waited.{Waited}
 use Rattle.waiting.specs.declared.Waited.the-variants.{Found, Missing}
 use Rattle.waiting.specs.Standing.{standingOf, standing}
-use Rattle.waiting.specs.Waiting.{waits, rowOf, reportsOf, WholeWaiting, waitedOf, laidReport}
+use Rattle.waiting.specs.Waiting.{waits, GoodReport, rowOf, reportsOf, WholeWaiting, waitedOf, laidReport}
 use Rattle.waiting.proofs.SlotsLaws.{getD-mapped, length-slotted, Slots, slots-get, slots-set, slots-open, slots-close, standing-at, standing-other, standing-past, at-inside, at-find, at-key, before-inside, before-find, alter-found, alter-at, alter-at-none, alter-before, alter-before-none}
 
 -- ---- the same rows, as the desk's array and as a list
 
 abbrev pub noRow : Row StoreReport
-noRow = record { key = 0; val = record { fix = fixAt 0 0; new = false } }
+noRow = record { key = 0; val = record { fix = fixAt 0 0 0; new = false } }
 
 -- a mark of 0 or 1 is that of its row
 mark-of : (n : ℕ) → n ≤ 1 → one-if (not (eqb n 0)) ≡ n
@@ -45,15 +47,22 @@ mark-of zero h = refl
 mark-of (suc zero) h = refl
 mark-of (suc (suc n)) h = absurd (omega arith)
 
-pub report-row : (w : Report) → w .new ≤ 1 → reportOf (rowOf w) ≡ w
-report-row w h = let e = mark-of (w .new) h in λ i. record { radio = w .radio; east = w .east; north = w .north; new = e i }
+pub report-row : (w : Report) → GoodReport w → reportOf (rowOf w) ≡ w
+report-row w h =
+    let e = mark-of (w .new) (h .0) in
+    let l = low-wide (w .low) (w .high) (h .1) in
+    let u = high-wide (w .low) (w .high) (h .1) in
+    λ i. record { radio = w .radio; east = w .east; north = w .north; new = e i; low = l i; high = u i }
 
 not-zero : (b : Bool) → not (eqb (one-if b) 0) ≡ b
 not-zero true = refl
 not-zero false = refl
 
 pub row-report : (x : Row StoreReport) → rowOf (reportOf x) ≡ x
-row-report x = let e = not-zero (x .val .new) in λ i. record { key = x .key; val = record { fix = x .val .fix; new = e i } }
+row-report x =
+    let e = not-zero (x .val .new) in
+    let m = wide-halves (x .val .fix .minute) in
+    λ i. record { key = x .key; val = record { fix = record { place = x .val .fix .place; minute = m i }; new = e i } }
 
 rows-reports : (l : Rows StoreReport) → map rowOf (map reportOf l) ≡ l
 rows-reports [] = refl
@@ -143,10 +152,10 @@ module _ {n : ℕ} {ws : List ℕ} (r : ℕ) {k : ℕ} (whole : WholeWaiting (wa
 -- ---- stores and loops
 
 module _ {n : ℕ} {ws : List ℕ} (whole : WholeWaiting (waitingWith n ws)) {vs : List ℕ} (size : length vs ≡ reportFields * fullMemory) where
-  pub laid-set : (i : ℕ) (e : Report) → e .new ≤ 1 → i < n → everyReport vs ≡ set (everyReport ws) i e → waitingWith (n) vs ≡ waitingOf (set (reportsOf (waitingWith n ws)) i (rowOf e))
+  pub laid-set : (i : ℕ) (e : Report) → GoodReport e → i < n → everyReport vs ≡ set (everyReport ws) i e → waitingWith (n) vs ≡ waitingOf (set (reportsOf (waitingWith n ws)) i (rowOf e))
   laid-set i e m h wrote = laid-slots (rw (report-row e m) at (slots-set (in-slots (waitingWith n ws) whole) i (rowOf e) h)) wrote size
 
-  pub laid-open : (a : ℕ) (e : Report) {i : ℕ} {ys : List Report} → e .new ≤ 1 → n < fullMemory → Opened (everyReport ws) (n) i ys → a ≤ i → i ≤ a → everyReport vs ≡ set ys a e
+  pub laid-open : (a : ℕ) (e : Report) {i : ℕ} {ys : List Report} → GoodReport e → n < fullMemory → Opened (everyReport ws) (n) i ys → a ≤ i → i ≤ a → everyReport vs ≡ set ys a e
       → waitingWith (n + 1) vs ≡ waitingOf (insertAt (reportsOf (waitingWith n ws)) a (rowOf e))
   laid-open a e {i} {ys} m f o g h wrote =
       let z : i ≡ a = omega arith in
@@ -231,13 +240,23 @@ one-if-le false = omega arith
 mark-le : (w : Waiting) (r : ℕ) {m : ℕ} → m ≡ one-if (wasNew (find (reportsOf w) r)) → m ≤ 1
 mark-le w r e = rw e (one-if-le (wasNew (find (reportsOf w) r)))
 
-put-keeps : (w : Waiting) (r east north : ℕ) {m : ℕ} {v : Waiting} → Rising 0 (reportsOf w) → m ≡ one-if (wasNew (find (reportsOf w) r))
-    → v ≡ waitingOf (insert r (waits (record { radio = r; east = east; north = north; new = m })) (reportsOf w))
-    → v ≡ waitingOf (alter (λ x. some (record { fix = fixAt east north; new = wasNew x })) r (reportsOf w))
-put-keeps w r east north {m} a e f =
-    let kept : Option StoreReport → Option StoreReport = λ x. some (record { fix = fixAt east north; new = wasNew x }) in
+-- the lower half of a minute has 16 bits
+pub low-narrow : (minute : ℕ) {low : ℕ} → low ≡ lowHalf minute → low < 65536
+low-narrow minute e = omega (arith, e)
+
+pub put-marked : (w : Waiting) (r east north minute : ℕ) {low high : ℕ} {v : Waiting} → low ≡ lowHalf minute → high ≡ highHalf minute
+    → v ≡ waitingOf (insert r (waits (record { radio = r; east = east; north = north; new = 1; low = low; high = high })) (reportsOf w))
+    → v ≡ waitingOf (insert r (record { fix = fixAt east north minute; new = true }) (reportsOf w))
+put-marked w r east north minute l u f =
+    f ∙ ap (λ (t : ℕ). waitingOf (insert r (record { fix = fixAt east north t; new = true }) (reportsOf w))) (ap₂ wide l u ∙ wide-halves minute)
+
+put-keeps : (w : Waiting) (r east north minute : ℕ) {low high m : ℕ} {v : Waiting} → low ≡ lowHalf minute → high ≡ highHalf minute → Rising 0 (reportsOf w) → m ≡ one-if (wasNew (find (reportsOf w) r))
+    → v ≡ waitingOf (insert r (waits (record { radio = r; east = east; north = north; new = m; low = low; high = high })) (reportsOf w))
+    → v ≡ waitingOf (alter (λ x. some (record { fix = fixAt east north minute; new = wasNew x })) r (reportsOf w))
+put-keeps w r east north minute {m = m} l u a e f =
+    let kept : Option StoreReport → Option StoreReport = λ x. some (record { fix = fixAt east north minute; new = wasNew x }) in
     let q : not (eqb m 0) ≡ wasNew (find (reportsOf w) r) = ap (λ (n : ℕ). not (eqb n 0)) e ∙ not-zero (wasNew (find (reportsOf w) r)) in
-    f ∙ ap waitingOf (alter-found _ kept 0 r (reportsOf w) a (ap (λ (b : Bool). some (record { fix = fixAt east north; new = b })) q))
+    f ∙ ap waitingOf (alter-found _ kept 0 r (reportsOf w) a (ap₂ (λ (t : ℕ) (b : Bool). some (record { fix = fixAt east north t; new = b })) (ap₂ wide l u ∙ wide-halves minute) q))
 
 -- the mark is kept where a report of the radio waits, and else there is none
 module _ {n : ℕ} {ws : List ℕ} (r : ℕ) {k : ℕ} {o : Standing} (whole : WholeWaiting (waitingWith n ws)) (rising : Rising 0 (reportsOf (waitingWith n ws)))
@@ -249,12 +268,12 @@ module _ {n : ℕ} {ws : List ℕ} (r : ℕ) {k : ℕ} {o : Standing} (whole : W
     pub mark-at-le : x .new ≤ 1
     mark-at-le = mark-le (waitingWith n ws) r mark-at
 
-    pub keep-at : (east north : ℕ) {v : Waiting} → v ≡ waitingOf (set (reportsOf (waitingWith n ws)) k (rowOf (record { radio = r; east = east; north = north; new = x .new })))
-        → v ≡ waitingOf (alter (λ x. some (record { fix = fixAt east north; new = wasNew x })) r (reportsOf (waitingWith n ws)))
-    keep-at east north f = put-keeps (waitingWith n ws) r east north rising mark-at (put-at n ws (record { radio = r; east = east; north = north; new = x .new }) rising told here f)
+    pub keep-at : (east north minute : ℕ) {low high : ℕ} {v : Waiting} → low ≡ lowHalf minute → high ≡ highHalf minute → v ≡ waitingOf (set (reportsOf (waitingWith n ws)) k (rowOf (record { radio = r; east = east; north = north; new = x .new; low = low; high = high })))
+        → v ≡ waitingOf (alter (λ x. some (record { fix = fixAt east north minute; new = wasNew x })) r (reportsOf (waitingWith n ws)))
+    keep-at east north minute {low} {high} l u f = put-keeps (waitingWith n ws) r east north minute l u rising mark-at (put-at n ws (record { radio = r; east = east; north = north; new = x .new; low = low; high = high }) rising told here f)
 
-  pub keep-before : (east north : ℕ) {v : Waiting} → o ≡ Before k → v ≡ waitingOf (insertAt (reportsOf (waitingWith n ws)) k (rowOf (record { radio = r; east = east; north = north; new = 0 })))
-      → v ≡ waitingOf (alter (λ x. some (record { fix = fixAt east north; new = wasNew x })) r (reportsOf (waitingWith n ws)))
-  keep-before east north e f =
-      put-keeps (waitingWith n ws) r east north rising (mark-none r (find (reportsOf (waitingWith n ws)) r) (report-missing r whole rising told e))
-      (put-before n ws (record { radio = r; east = east; north = north; new = 0 }) rising told e f)
+  pub keep-before : (east north minute : ℕ) {low high : ℕ} {v : Waiting} → low ≡ lowHalf minute → high ≡ highHalf minute → o ≡ Before k → v ≡ waitingOf (insertAt (reportsOf (waitingWith n ws)) k (rowOf (record { radio = r; east = east; north = north; new = 0; low = low; high = high })))
+      → v ≡ waitingOf (alter (λ x. some (record { fix = fixAt east north minute; new = wasNew x })) r (reportsOf (waitingWith n ws)))
+  keep-before east north minute {low} {high} l u e f =
+      put-keeps (waitingWith n ws) r east north minute l u rising (mark-none r (find (reportsOf (waitingWith n ws)) r) (report-missing r whole rising told e))
+      (put-before n ws (record { radio = r; east = east; north = north; new = 0; low = low; high = high }) rising told e f)

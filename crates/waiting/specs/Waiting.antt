@@ -8,6 +8,7 @@ use lib.Dec.{eqb}
 use lib.ListN.{take}
 use Rattle.terms.specs.Terms.{Fix, fixAt}
 use Rattle.lists.specs.Rows.{Row, Rows, Rising}
+use Rattle.lists.specs.Words.{wide}
 use Rattle.desk.specs.Views.{everyReport}
 use Rattle.rules.specs.Limits.{fullMemory}
 use Rattle.rules.specs.Store.{Report as StoreReport}
@@ -18,11 +19,15 @@ use Rattle.waiting.specs.declared.Waited.{Waited}
 use Rattle.waiting.specs.declared.Waited.the-variants.{Found, Missing}
 
 abbrev pub fixOf : Report → Fix
-fixOf w = fixAt (w .east) (w .north)
+fixOf w = fixAt (w .east) (w .north) (wide (w .low) (w .high))
 
 -- what it told, with a mark
 abbrev pub waits : Report → StoreReport
 waits w = record { fix = fixOf w; new = not (eqb (w .new) 0) }
+
+-- a report as a row lays it out: its mark is 0 or 1, and the lower half of its minute has 16 bits
+abbrev pub GoodReport : Report → Type 0
+GoodReport w = (w .new ≤ 1) × (w .low < 65536)
 
 -- a report as a row: its radio is the key
 abbrev pub rowOf : Report → Row StoreReport

@@ -12,14 +12,14 @@ use Rattle.rules.specs.Carry.{isOn, onCount, signedOn, reported, signedOff, box
 use Rattle.rules.specs.Cut.{lowCount, cutsThrough, fits, difference, existingCut, median, medianCut, chosenCut}
 use Rattle.rules.specs.Flush.{enter, enterEach, inBox, flushedInto, grown, addCut, unusedNumber, lowCell, highCell, splitAt, below, joinable, neighbour, joinedWith, reshaped, cellOfBox, flush}
 use Rattle.rules.specs.Grid.{stripe, stripeLow, boxOf, cornerOf, boxes}
-use Rattle.rules.specs.Records.{lengthField, kindField, lengthOf, radioField, placeField, fixField, rectField, requestOf, notAtHand, unknownKind, wrongLength, noRadio, noFix, reversed, onAlready, notOn, noRoom, refusal}
+use Rattle.rules.specs.Records.{lengthField, kindField, lengthOf, radioField, placeField, minuteField, fixField, rectField, requestOf, notAtHand, unknownKind, wrongLength, noRadio, noFix, tooEarly, reversed, onAlready, notOn, noRoom, refusal}
 use Rattle.rules.specs.Store.{fresh, cellAt, others, pagesFor, settled, freeAfter}
 use Rattle.rules.specs.Sweep.{lowerEach, sweptEntries, sweptMemo, swept, sweepFront, tick}
 use Rattle.rules.specs.Worked.{Seen, after, seen, shortPoints, longPoints, Sees, Starred}
 use Rattle.rules.proofs.ShortPoints.{short-points}
 
 long-points : Sees longPoints
-unfolding walk settledChain settledFree part put tab insertAt removeAt find rank alter merge sortIn sort firstAbove sumBy filter concat sumTo both either all firstAt firstThat best firstSome le word isOn onCount signedOn reported signedOff boxToFlush waitingIn flushDue afterReport liveIn storedIn latest listOf found bytesOf answered carriedOut carry lowCount cutsThrough fits difference existingCut median medianCut chosenCut enter enterEach inBox flushedInto grown addCut unusedNumber lowCell highCell splitAt below joinable neighbour joinedWith reshaped cellOfBox flush stripe stripeLow boxOf cornerOf boxes lengthField kindField lengthOf radioField placeField fixField rectField requestOf notAtHand unknownKind wrongLength noRadio noFix reversed onAlready notOn noRoom refusal fresh cellAt others pagesFor settled freeAfter lowerEach sweptEntries sweptMemo swept sweepFront tick after seen longPoints
+unfolding walk settledChain settledFree part put tab insertAt removeAt find rank alter merge sortIn sort firstAbove sumBy filter concat sumTo both either all firstAt firstThat best firstSome le word isOn onCount signedOn reported signedOff boxToFlush waitingIn flushDue afterReport liveIn storedIn latest listOf found bytesOf answered carriedOut carry lowCount cutsThrough fits difference existingCut median medianCut chosenCut enter enterEach inBox flushedInto grown addCut unusedNumber lowCell highCell splitAt below joinable neighbour joinedWith reshaped cellOfBox flush stripe stripeLow boxOf cornerOf boxes lengthField kindField lengthOf radioField placeField minuteField fixField rectField requestOf notAtHand unknownKind wrongLength noRadio noFix tooEarly reversed onAlready notOn noRoom refusal fresh cellAt others pagesFor settled freeAfter lowerEach sweptEntries sweptMemo swept sweepFront tick after seen longPoints
 long-points = refl
 
 pub starred : Starred

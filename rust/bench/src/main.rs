@@ -1,11 +1,11 @@
 //! Times the desk, one core, beside the plain list on the same calls.
 //!
-//! 512 radios walk in steps of 200 m; one call in eight is a range of 1 % of the square. Prints nanoseconds a call: the
-//! mean of reports and of ranges, and of the times of single ones the 99.9th percentile and the greatest (`p999`,
-//! `most`); the best of the soundness test alone, on the store that the walk leaves (`test`) and on a made one with
-//! more to look at (`test-made`); the greatest time of a report on stores made to be slow (`worst-..`). `--smoke` makes
-//! a short run; `--worst` also prints all stores that were tried for the worst; `--calls FILE` also writes the calls,
-//! records one after the other.
+//! 512 radios walk in steps of 200 m; one call in eight is a range of 1 % of the square; a minute passes with every
+//! 512th call. Prints nanoseconds a call: the mean of reports and of ranges, and of the times of single ones the 99.9th
+//! percentile and the greatest (`p999`, `most`); the best of the soundness test alone, on the store that the walk leaves
+//! (`test`) and on a made one with more to look at (`test-made`); the greatest time of a report on stores made to be
+//! slow (`worst-..`). `--smoke` makes a short run; `--worst` also prints all stores that were tried for the worst;
+//! `--calls FILE` also writes the calls, records one after the other.
 #![forbid(unsafe_code)]
 mod found;
 mod made;

@@ -1,5 +1,5 @@
 //! Stores made whole. A plan says where entries lie and which reports wait; who is on and the memo follow from these.
-use boragefile::{CutList, Desk, Line, Report, Slot, Store, ENTRY_BYTES, NONE, PAGES, PAGE_BYTES};
+use boragefile::{CutList, Desk, Line, Report, Slot, Store, NONE, PAGES, PAGE_BYTES, PAGE_ENTRY_BYTES};
 use std::collections::BTreeMap;
 
 /// East and north.
@@ -9,10 +9,14 @@ pub type Entry = (u16, Place);
 
 /// Used bytes, kind, next page and cell.
 const HEAD_BYTES: usize = 8;
-const PAGE_ENTRIES: usize = (PAGE_BYTES - HEAD_BYTES) / ENTRY_BYTES;
+const PAGE_ENTRIES: usize = (PAGE_BYTES - HEAD_BYTES) / PAGE_ENTRY_BYTES;
 const KIND_FREE: u16 = 1;
 const KIND_FIRST: u16 = 2;
 const KIND_FURTHER: u16 = 3;
+/// The minute of all entries, of the reports that wait and of those that come, and the highest minute.
+pub const MINUTE: u32 = 30_000_000;
+/// Radio, east, north and the halves of the minute.
+type Fields = [u16; PAGE_ENTRY_BYTES / 2];
 
 /// A cell's least and greatest coordinates.
 #[derive(Clone, Copy)]
@@ -47,6 +51,7 @@ impl Plan {
         desk.parts.frame.easts = cut_list(&self.easts);
         desk.parts.frame.norths = cut_list(&self.norths);
         desk.parts.tally = self.tally;
+        desk.parts.highest = MINUTE;
         self.fill_cells(desk, pages);
         self.fill_waiting(desk);
         self.fill_on(desk);
@@ -128,9 +133,11 @@ impl Plan {
 
 impl Cell {
     /// Its entries by rising radio, as pages have them.
-    fn entries(&self) -> Vec<[u16; 3]> {
+    fn entries(&self) -> Vec<Fields> {
         let both = self.live.iter().chain(&self.stale);
-        let mut entries: Vec<[u16; 3]> = both.map(|(radio, (east, north))| [*radio, *east, *north]).collect();
+        let (low, high) = (MINUTE as u16, (MINUTE >> 16) as u16);
+        let fields = |(radio, (east, north)): &Entry| [*radio, *east, *north, low, high];
+        let mut entries: Vec<Fields> = both.map(fields).collect();
         entries.sort_unstable();
         entries
     }
@@ -155,7 +162,7 @@ fn page_or_none(page: usize, end: usize) -> u16 {
 }
 
 /// A cell's entries on as many pages as they need, from `first` on. Answers the page behind these.
-fn fill_chain(pages: &mut [u8], first: usize, cell: u16, entries: &[[u16; 3]]) -> usize {
+fn fill_chain(pages: &mut [u8], first: usize, cell: u16, entries: &[Fields]) -> usize {
     let end = first + entries.len().div_ceil(PAGE_ENTRIES).max(1);
     let mut parts = entries.chunks(PAGE_ENTRIES);
     for page in first..end {
@@ -167,9 +174,9 @@ fn fill_chain(pages: &mut [u8], first: usize, cell: u16, entries: &[[u16; 3]]) -
 }
 
 /// A page with its kind, next page and cell.
-fn fill_page(pages: &mut [u8], page: usize, [kind, next, cell]: [u16; 3], entries: &[[u16; 3]]) {
+fn fill_page(pages: &mut [u8], page: usize, [kind, next, cell]: [u16; 3], entries: &[Fields]) {
     let bytes = &mut pages[page * PAGE_BYTES..][..PAGE_BYTES];
-    let used = (HEAD_BYTES + ENTRY_BYTES * entries.len()) as u16;
+    let used = (HEAD_BYTES + PAGE_ENTRY_BYTES * entries.len()) as u16;
     let head = [used, kind, next, cell];
     bytes.fill(0);
     for (bytes, field) in bytes.chunks_exact_mut(2).zip(head.iter().chain(entries.as_flattened())) {
@@ -200,7 +207,7 @@ impl Sizes {
         Sizes {
             cells: parts.frame.cells.into(),
             on: parts.on.into(),
-            entries: bytes / ENTRY_BYTES,
+            entries: bytes / PAGE_ENTRY_BYTES,
             pages: used.count(),
             lines: parts.lines.into(),
             waiting: parts.waiting.into(),

@@ -1,4 +1,4 @@
-//! The calls that are timed: 512 radios walk in steps of 200 m.
+//! The calls that are timed: 512 radios walk in steps of 200 m, and a minute passes with every 512th call.
 use boragefile::Record;
 use conformance::Xorshift;
 use std::f64::consts::TAU;
@@ -9,6 +9,8 @@ const STEP: f64 = 200.0;
 const SIDE: u16 = 6553;
 /// The reports of a group; its last call is a range.
 pub const REPORTS: usize = 7;
+/// Calls of one minute: about one of each radio. The walk is over long before a place is too old.
+const CALLS_A_MINUTE: usize = 512;
 
 /// Everyone's sign-on, then the calls in groups: seven reports and a range.
 pub struct Walk {
@@ -27,18 +29,21 @@ impl Walk {
                 radio,
                 east: *east,
                 north: *north,
+                minute: 0,
             }
             .to_bytes()
         });
         let sign_ons = sign_ons.collect();
-        let groups = (0..calls / (REPORTS + 1)).map(|_| {
-            let reports = (0..REPORTS).map(|_| step(&mut random, &mut places)).collect();
+        let groups = (0..calls / (REPORTS + 1)).map(|group| {
+            let minute = (group * (REPORTS + 1) / CALLS_A_MINUTE) as u32;
+            let reports = (0..REPORTS).map(|_| step(&mut random, &mut places, minute)).collect();
             let (west, south) = (random.within(0, 65535 - SIDE), random.within(0, 65535 - SIDE));
             let range = Record::Range {
                 west,
                 east: west + SIDE,
                 south,
                 north: south + SIDE,
+                minute,
             };
             (reports, range.to_bytes())
         });
@@ -60,7 +65,7 @@ impl Walk {
 }
 
 /// Some radio goes a step in some direction and reports.
-fn step(random: &mut Xorshift, places: &mut [(u16, u16)]) -> Vec<u8> {
+fn step(random: &mut Xorshift, places: &mut [(u16, u16)], minute: u32) -> Vec<u8> {
     let walker = random.below(places.len());
     let direction = TAU * f64::from(random.coordinate()) / 65536.0;
     let moved = |from: u16, by: f64| (f64::from(from) + STEP * by).round().clamp(0.0, 65535.0) as u16;
@@ -71,6 +76,7 @@ fn step(random: &mut Xorshift, places: &mut [(u16, u16)]) -> Vec<u8> {
         radio: walker as u16 + 1,
         east,
         north,
+        minute,
     }
     .to_bytes()
 }

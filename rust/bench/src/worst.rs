@@ -1,7 +1,7 @@
 //! Stores on which one report takes long.
 use crate::found;
 use crate::made::{self, made_store};
-use crate::plan::{Cell, Edges, Entry, Plan, Sizes};
+use crate::plan::{Cell, Edges, Entry, Plan, Sizes, MINUTE};
 use crate::tails::Run;
 use boragefile::{Record, Report};
 use std::time::Duration;
@@ -149,6 +149,7 @@ pub fn report((radio, (east, north)): Entry) -> Report {
         east,
         north,
         new: 0,
+        minute: MINUTE,
     }
 }
 
@@ -157,6 +158,7 @@ fn record(report: &Report) -> Vec<u8> {
         radio: report.radio,
         east: report.east,
         north: report.north,
+        minute: report.minute,
     }
     .to_bytes()
 }

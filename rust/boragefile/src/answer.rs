@@ -12,7 +12,7 @@ use std::fmt;
 /// #![deny(unused_must_use)]
 /// # use boragefile::{Record, Store};
 /// # let mut store = Store::fresh();
-/// store.call(&Record::SignOff { radio: 7 }.to_bytes(), &mut []);
+/// store.call(&Record::SignOff { radio: 7, minute: 0 }.to_bytes(), &mut []);
 /// ```
 #[must_use = "the call may be turned down"]
 #[derive(Clone, Copy, PartialEq, Eq, Debug)]
@@ -32,12 +32,12 @@ pub enum Answer<'b> {
     },
 }
 
-/// Why a call was turned down: one of twelve checks. A later request's number is greater, wherever its check stands: [`Refusal::ALL`] has
+/// Why a call was turned down: one of thirteen checks. A later request's number is greater, wherever its check stands: [`Refusal::ALL`] has
 /// the checking order.
 #[derive(Clone, Copy, PartialEq, Eq, PartialOrd, Ord, Debug)]
 #[repr(u16)]
 pub enum Refusal {
-    /// Number 1: the page buffer isn't 25,600 bytes.
+    /// Number 1: the page buffer isn't 41,984 bytes.
     PageBuffer = 1,
     /// Number 2: the store isn't sound.
     Unsound,
@@ -61,11 +61,13 @@ pub enum Refusal {
     AnswerBuffer,
     /// Number 12: a sign-on or report has the place (0,0), which a handheld without a satellite fix sends. It is checked after 6 and before 7.
     NoFix,
+    /// Number 13: a record of any kind has a minute below the store's highest. It is checked after 12 and before 7.
+    TooEarly,
 }
 
 impl Refusal {
     /// All of them, in checking order.
-    pub const ALL: [Refusal; 12] = [
+    pub const ALL: [Refusal; 13] = [
         Refusal::PageBuffer,
         Refusal::Unsound,
         Refusal::Length,
@@ -73,6 +75,7 @@ impl Refusal {
         Refusal::LengthOfKind,
         Refusal::Radio,
         Refusal::NoFix,
+        Refusal::TooEarly,
         Refusal::Rectangle,
         Refusal::AlreadyOn,
         Refusal::NotOn,
@@ -85,7 +88,7 @@ impl Refusal {
         Refusal::ALL.into_iter().find(|refusal| refusal.number() == number)
     }
 
-    /// Its number, 1 to 12.
+    /// Its number, 1 to 13.
     pub fn number(self) -> u16 {
         self as u16
     }
@@ -93,7 +96,7 @@ impl Refusal {
     /// It in words.
     pub fn words(self) -> &'static str {
         match self {
-            Refusal::PageBuffer => "the page buffer isn't 25,600 bytes",
+            Refusal::PageBuffer => "the page buffer isn't 41,984 bytes",
             Refusal::Unsound => "the store isn't sound",
             Refusal::Length => "fewer than 4 bytes are at hand, or the length is below 4 or above what is at hand",
             Refusal::Kind => "the kind isn't 1 to 4",
@@ -105,6 +108,7 @@ impl Refusal {
             Refusal::Full => "a sign-on comes while 512 are on",
             Refusal::AnswerBuffer => "the answer buffer is too small for the radios found",
             Refusal::NoFix => "a sign-on or report has the place (0,0): the radio has no fix",
+            Refusal::TooEarly => "the minute is below the store's highest",
         }
     }
 }
@@ -169,7 +173,7 @@ impl<'b> Answer<'b> {
                 count: numbers.count.into(),
             },
             None => {
-                assert_eq!(numbers.number, 0, "an answer's number is 0 to 12");
+                assert_eq!(numbers.number, 0, "an answer's number is 0 to 13");
                 Answer::Accepted {}
             }
         }
@@ -190,13 +194,13 @@ mod tests {
 
     #[test]
     fn each_number_has_its_refusal_and_words() {
-        for number in 1..=12 {
+        for number in 1..=13 {
             let refusal = Refusal::from_number(number).unwrap();
             assert_eq!(refusal.number(), number);
             assert!(!refusal.to_string().is_empty());
         }
         assert_eq!(Refusal::from_number(0), None);
-        assert_eq!(Refusal::from_number(13), None);
+        assert_eq!(Refusal::from_number(14), None);
     }
 
     #[test]

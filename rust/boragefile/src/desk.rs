@@ -1,10 +1,10 @@
 //! The desk, field by field as the proved code has it: first its parts, with every count, then four arrays. Every field is a
-//! 16-bit number, with nothing between the fields. Slots past a count are zero.
+//! 16-bit number but the highest minute, which has 32 bits, with nothing between the fields. Slots past a count are zero.
 use std::mem::{align_of, offset_of, size_of};
 use std::slice;
 
 /// The bytes of a desk.
-pub const DESK_BYTES: usize = 14402;
+pub const DESK_BYTES: usize = 14928;
 
 /// The cuts of one direction, rising.
 #[allow(missing_docs)]
@@ -42,6 +42,8 @@ pub struct Parts {
     pub on: u16,
     /// Accepted sign-ons, reports and sign-offs since the last sweep of the round.
     pub tally: u16,
+    /// The highest minute of an accepted sign-on, report or sign-off; 0 in a fresh store.
+    pub highest: u32,
 }
 
 /// A cell of the directory: its number, its edges and the first page of its chain.
@@ -65,10 +67,11 @@ pub struct Report {
     pub east: u16,
     pub north: u16,
     pub new: u16,
+    pub minute: u32,
 }
 
-/// The waiting reports, by rising radio, field by field: report i has number i of each. There is room for one more than may
-/// wait between two calls.
+/// The waiting reports, by rising radio, field by field: report i has number i of each. `lows` and `highs` are the lower and
+/// higher halves of the minutes. There is room for one more than may wait between two calls.
 #[allow(missing_docs)]
 #[repr(C)]
 #[derive(Clone, PartialEq, Eq, Debug)]
@@ -77,6 +80,8 @@ pub struct Waiting {
     pub easts: [u16; 128],
     pub norths: [u16; 128],
     pub news: [u16; 128],
+    pub lows: [u16; 128],
+    pub highs: [u16; 128],
 }
 
 /// A memo line; `placed` is 1 where it has a place, and 0, with the place zero, where it has none.
@@ -101,25 +106,26 @@ pub struct Desk {
     pub cells: [Slot; 64],
     /// [`Desk::reports_in_use`].
     pub waiting: Waiting,
-    /// The memo, by rising radio, with room for one line more than there may be between two calls: [`Desk::lines_in_use`].
-    pub memo: [Line; 1151],
+    /// The memo, by rising radio, with room for two lines more than there may be between two calls: [`Desk::lines_in_use`].
+    pub memo: [Line; 1152],
     /// The radios on, rising: [`Desk::radios_on`].
     pub on: [u16; 512],
 }
 
-// The archive's sizes. A desk of so many bytes has room for its 7,201 numbers and for nothing between them.
+// The archive's sizes, in numbers of 16 bits; the highest minute is two of them. A desk of so many bytes has room for its 7,464
+// numbers, and for nothing between them.
 const _: () = assert!(size_of::<CutList>() == 2 * (1 + 15));
 const _: () = assert!(size_of::<Frame>() == 2 * (2 * 16 + 2));
-const _: () = assert!(size_of::<Parts>() == 2 * (34 + 4));
+const _: () = assert!(size_of::<Parts>() == 2 * (34 + 4 + 2));
 const _: () = assert!(size_of::<Slot>() == 2 * 6);
-const _: () = assert!(size_of::<Waiting>() == 2 * 4 * 128);
+const _: () = assert!(size_of::<Waiting>() == 2 * 6 * 128);
 const _: () = assert!(size_of::<Line>() == 2 * 5);
-const _: () = assert!(size_of::<Desk>() == 2 * (38 + 64 * 6 + 4 * 128 + 1151 * 5 + 512));
-const _: () = assert!(size_of::<Desk>() == DESK_BYTES && align_of::<Desk>() == 2);
-const _: () = assert!(offset_of!(Desk, cells) == 2 * 38);
-const _: () = assert!(offset_of!(Desk, waiting) == 2 * (38 + 384));
-const _: () = assert!(offset_of!(Desk, memo) == 2 * (38 + 384 + 512));
-const _: () = assert!(offset_of!(Desk, on) == 2 * (38 + 384 + 512 + 5755));
+const _: () = assert!(size_of::<Desk>() == 2 * (40 + 64 * 6 + 6 * 128 + 1152 * 5 + 512));
+const _: () = assert!(size_of::<Desk>() == DESK_BYTES && align_of::<Desk>() == 4);
+const _: () = assert!(offset_of!(Desk, cells) == 2 * 40);
+const _: () = assert!(offset_of!(Desk, waiting) == 2 * (40 + 384));
+const _: () = assert!(offset_of!(Desk, memo) == 2 * (40 + 384 + 768));
+const _: () = assert!(offset_of!(Desk, on) == 2 * (40 + 384 + 768 + 5760));
 
 /// As many of these as the count says, or all where it is beyond them.
 fn counted<T>(slots: &[T], count: u16) -> &[T] {
@@ -145,6 +151,7 @@ impl Waiting {
             east: self.easts[i],
             north: self.norths[i],
             new: self.news[i],
+            minute: u32::from(self.lows[i]) | u32::from(self.highs[i]) << 16,
         }
     }
 
@@ -158,6 +165,8 @@ impl Waiting {
         self.easts[i] = report.east;
         self.norths[i] = report.north;
         self.news[i] = report.new;
+        self.lows[i] = report.minute as u16;
+        self.highs[i] = (report.minute >> 16) as u16;
     }
 }
 
@@ -177,6 +186,7 @@ impl Desk {
                 lines: 0,
                 on: 0,
                 tally: 0,
+                highest: 0,
             },
             cells: [Slot::default(); 64],
             waiting: Waiting {
@@ -184,8 +194,10 @@ impl Desk {
                 easts: [0; 128],
                 norths: [0; 128],
                 news: [0; 128],
+                lows: [0; 128],
+                highs: [0; 128],
             },
-            memo: [Line::default(); 1151],
+            memo: [Line::default(); 1152],
             on: [0; 512],
         }
     }
@@ -213,8 +225,8 @@ impl Desk {
 
     /// Its bytes, in the machine's order, as it may be saved. Desks with equal fields have equal bytes.
     pub fn as_bytes(&self) -> &[u8] {
-        // SAFETY: the desk is laid out as C does it, its fields are 16-bit numbers, and there is no byte between them or after
-        // them (the sizes above), so that each of its bytes is a value. They are lent as long as the desk is.
+        // SAFETY: the desk is laid out as C does it, its fields are numbers of 16 or 32 bits, and there is no byte between them or
+        // after them (the sizes above), so that each of its bytes is a value. They are lent as long as the desk is.
         unsafe { slice::from_raw_parts((self as *const Desk).cast(), DESK_BYTES) }
     }
 
@@ -225,7 +237,7 @@ impl Desk {
             return None;
         }
         let mut desk = Desk::blank();
-        // SAFETY: as in `as_bytes`, and any bytes are values of 16-bit numbers. The desk is ours alone.
+        // SAFETY: as in `as_bytes`, and any bytes are values of such numbers. The desk is ours alone.
         let own = unsafe { slice::from_raw_parts_mut((&mut desk as *mut Desk).cast(), DESK_BYTES) };
         own.copy_from_slice(bytes);
         Some(desk)
@@ -236,9 +248,9 @@ impl Desk {
 mod tests {
     use super::*;
 
-    /// A desk whose number i is i.
+    /// A desk whose number i of 16 bits is i.
     fn numbered() -> Desk {
-        let bytes: Vec<u8> = (0..7201u16).flat_map(u16::to_ne_bytes).collect();
+        let bytes: Vec<u8> = (0..7464u16).flat_map(u16::to_ne_bytes).collect();
         Desk::from_bytes(&bytes).expect("a desk's bytes")
     }
 
@@ -265,7 +277,7 @@ mod tests {
         );
         for_counts(64, |desk| &mut desk.parts.frame.cells, |desk| desk.cells_in_use().len());
         for_counts(128, |desk| &mut desk.parts.waiting, |desk| desk.reports_in_use().len());
-        for_counts(1151, |desk| &mut desk.parts.lines, |desk| desk.lines_in_use().len());
+        for_counts(1152, |desk| &mut desk.parts.lines, |desk| desk.lines_in_use().len());
         for_counts(512, |desk| &mut desk.parts.on, |desk| desk.radios_on().len());
     }
 
@@ -288,14 +300,15 @@ mod tests {
             north: at + 4,
             first: at + 5,
         };
-        assert_eq!(desk.cells_in_use(), [slot(38), slot(44)]);
+        assert_eq!(desk.cells_in_use(), [slot(40), slot(46)]);
         let report = |at| Report {
             radio: at,
             east: at + 128,
             north: at + 256,
             new: at + 384,
+            minute: u32::from(at + 512) + 65536 * u32::from(at + 640),
         };
-        assert!(desk.reports_in_use().eq([report(422), report(423)]));
+        assert!(desk.reports_in_use().eq([report(424), report(425)]));
         let line = |at| Line {
             radio: at,
             missed: at + 1,
@@ -303,8 +316,8 @@ mod tests {
             east: at + 3,
             north: at + 4,
         };
-        assert_eq!(desk.lines_in_use(), [line(934), line(939)]);
-        assert_eq!(desk.radios_on(), [6689, 6690]);
+        assert_eq!(desk.lines_in_use(), [line(1192), line(1197)]);
+        assert_eq!(desk.radios_on(), [6952, 6953]);
     }
 
     #[test]
@@ -315,6 +328,7 @@ mod tests {
             east: 1,
             north: 65535,
             new: 1,
+            minute: 0xfffe_0001,
         };
         for i in [0, 1, 126, 127] {
             let mut other = desk.clone();
@@ -336,6 +350,7 @@ mod tests {
         let number = |at: usize| u16::from_ne_bytes([bytes[at], bytes[at + 1]]);
         assert_eq!(desk.parts.frame.easts.n, number(0));
         assert_eq!(desk.parts.tally, number(74));
+        assert_eq!(desk.parts.highest.to_ne_bytes(), bytes[76..80]);
         assert_eq!(desk.on[511], number(DESK_BYTES - 2));
         assert!(Desk::from_bytes(&bytes[1..]).is_none());
     }
@@ -349,17 +364,21 @@ mod tests {
             lines,
             on,
             tally,
+            highest,
         } = &desk.parts;
         assert_eq!((frame.easts.n, frame.easts.at[14]), (0, 15));
         assert_eq!((frame.norths.n, frame.norths.at[14]), (16, 31));
         assert_eq!((frame.cells, frame.free), (32, 33));
         assert_eq!([*waiting, *lines, *on, *tally], [34, 35, 36, 37]);
-        assert_eq!((desk.cells[0].number, desk.cells[63].first), (38, 421));
-        assert_eq!((desk.waiting.radios[0], desk.waiting.radios[127]), (422, 549));
-        assert_eq!((desk.waiting.easts[0], desk.waiting.easts[127]), (550, 677));
-        assert_eq!((desk.waiting.norths[0], desk.waiting.norths[127]), (678, 805));
-        assert_eq!((desk.waiting.news[0], desk.waiting.news[127]), (806, 933));
-        assert_eq!((desk.memo[0].radio, desk.memo[1150].north), (934, 6688));
-        assert_eq!((desk.on[0], desk.on[511]), (6689, 7200));
+        assert_eq!(*highest, 38 + 65536 * 39);
+        assert_eq!((desk.cells[0].number, desk.cells[63].first), (40, 423));
+        assert_eq!((desk.waiting.radios[0], desk.waiting.radios[127]), (424, 551));
+        assert_eq!((desk.waiting.easts[0], desk.waiting.easts[127]), (552, 679));
+        assert_eq!((desk.waiting.norths[0], desk.waiting.norths[127]), (680, 807));
+        assert_eq!((desk.waiting.news[0], desk.waiting.news[127]), (808, 935));
+        assert_eq!((desk.waiting.lows[0], desk.waiting.lows[127]), (936, 1063));
+        assert_eq!((desk.waiting.highs[0], desk.waiting.highs[127]), (1064, 1191));
+        assert_eq!((desk.memo[0].radio, desk.memo[1151].north), (1192, 6951));
+        assert_eq!((desk.on[0], desk.on[511]), (6952, 7463));
     }
 }

@@ -8,8 +8,8 @@
 //!
 //! let mut store = Store::fresh();
 //! let mut buffer = [0; LIST_BYTES];
-//! let on = Record::SignOn { radio: 7, east: 100, north: 200 };
-//! let range = Record::Range { west: 0, east: 301, south: 0, north: 201 };
+//! let on = Record::SignOn { radio: 7, east: 100, north: 200, minute: 0 };
+//! let range = Record::Range { west: 0, east: 301, south: 0, north: 201, minute: 0 };
 //! for record in [on, range] {
 //!     match store.call(&record.to_bytes(), &mut buffer) {
 //!         Answer::Accepted { .. } => println!("ok"),
@@ -41,15 +41,19 @@ pub use record::{Record, KIND_RANGE, KIND_REPORT, KIND_SIGN_OFF, KIND_SIGN_ON};
 /// The version of desk and wrapper. The layout of the desk is part of it: a desk that another version saved is not for this one.
 pub const VERSION: &str = env!("CARGO_PKG_VERSION");
 /// The bytes of one page.
-pub const PAGE_BYTES: usize = 200;
+pub const PAGE_BYTES: usize = 328;
 /// The pages of a store.
 pub const PAGES: usize = 128;
 /// The bytes of the page buffer.
 pub const PAGES_BYTES: usize = PAGES * PAGE_BYTES;
-/// The bytes of one entry: radio, east, north.
+/// The bytes of one entry of a page: radio, east, north, minute.
+pub const PAGE_ENTRY_BYTES: usize = 10;
+/// The bytes of one entry of a range's list: radio, east, north.
 pub const ENTRY_BYTES: usize = 6;
 /// The bytes of an answer buffer that takes every radio that may be on.
 pub const LIST_BYTES: usize = 512 * ENTRY_BYTES;
+/// A range leaves out a radio whose minute is more than this before its own: twelve hours.
+pub const KEPT_MINUTES: u32 = 720;
 /// No page, or no cell.
 pub const NONE: u16 = 65535;
 

@@ -24,9 +24,9 @@ pub struct Located {
 ///
 /// let mut store = Store::fresh();
 /// let mut buffer = [0; LIST_BYTES];
-/// let on = Record::SignOn { radio: 7, east: 100, north: 200 };
+/// let on = Record::SignOn { radio: 7, east: 100, north: 200, minute: 0 };
 /// assert!(store.call(&on.to_bytes(), &mut buffer).is_accepted());
-/// let range = Record::Range { west: 0, east: 301, south: 0, north: 201 };
+/// let range = Record::Range { west: 0, east: 301, south: 0, north: 201, minute: 0 };
 /// let list = store.call(&range.to_bytes(), &mut buffer).list().expect("the buffer takes every radio");
 /// for Located { radio, east, north } in list {
 ///     println!("{radio} {east} {north}");
@@ -39,7 +39,7 @@ pub struct Located {
 /// # use boragefile::{Record, Store, LIST_BYTES};
 /// # let mut store = Store::fresh();
 /// # let mut buffer = [0; LIST_BYTES];
-/// # let range = Record::Range { west: 0, east: 301, south: 0, north: 201 };
+/// # let range = Record::Range { west: 0, east: 301, south: 0, north: 201, minute: 0 };
 /// let list = store.call(&range.to_bytes(), &mut buffer).list();
 /// let later = store.call(&range.to_bytes(), &mut buffer);
 /// println!("{list:?}");
@@ -51,7 +51,7 @@ pub struct Located {
 /// # use boragefile::{Record, Store, LIST_BYTES};
 /// # let mut store = Store::fresh();
 /// # let mut buffer = [0; LIST_BYTES];
-/// # let range = Record::Range { west: 0, east: 301, south: 0, north: 201 };
+/// # let range = Record::Range { west: 0, east: 301, south: 0, north: 201, minute: 0 };
 /// let list = store.call(&range.to_bytes(), &mut buffer).list();
 /// buffer[0] = 8;
 /// println!("{list:?}");

@@ -1,8 +1,8 @@
 //! The C header says the same as this crate.
 #![forbid(unsafe_code)]
 use boragefile::{
-    CutList, Desk, Frame, Line, Parts, Refusal, Slot, Waiting, DESK_BYTES, ENTRY_BYTES, LIST_BYTES, PAGES_BYTES,
-    VERSION,
+    CutList, Desk, Frame, Line, Parts, Refusal, Slot, Waiting, DESK_BYTES, ENTRY_BYTES, KEPT_MINUTES, LIST_BYTES,
+    PAGES_BYTES, VERSION,
 };
 use std::mem::{offset_of, size_of};
 
@@ -36,6 +36,7 @@ fn the_sizes_are_the_same() {
     for (name, size) in sizes {
         assert_eq!(defined(&format!("BORAGEFILE_{name}_BYTES")), size.to_string());
     }
+    assert_eq!(defined("BORAGEFILE_KEPT_MINUTES"), KEPT_MINUTES.to_string());
 }
 
 /// What the header asserts of the desk's layout, each fact as it stands there.
@@ -68,9 +69,12 @@ fn the_layout_is_the_same() {
         ("parts, lines", offset_of!(Parts, lines)),
         ("parts, on", offset_of!(Parts, on)),
         ("parts, tally", offset_of!(Parts, tally)),
+        ("parts, highest", offset_of!(Parts, highest)),
         ("waiting, easts", offset_of!(Waiting, easts)),
         ("waiting, norths", offset_of!(Waiting, norths)),
         ("waiting, news", offset_of!(Waiting, news)),
+        ("waiting, lows", offset_of!(Waiting, lows)),
+        ("waiting, highs", offset_of!(Waiting, highs)),
         ("desk, cells", offset_of!(Desk, cells)),
         ("desk, waiting", offset_of!(Desk, waiting)),
         ("desk, memo", offset_of!(Desk, memo)),

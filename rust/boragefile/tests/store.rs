@@ -8,6 +8,7 @@ const ALL: Record = Record::Range {
     east: 65535,
     south: 0,
     north: 65535,
+    minute: 0,
 };
 
 /// A store with these radios on, each at its own place.
@@ -18,6 +19,7 @@ fn with_radios(radios: &[u16]) -> Store {
             radio: *radio,
             east: 10 * radio,
             north: 20 * radio,
+            minute: 0,
         };
         assert!(store.call(&on.to_bytes(), &mut []).is_accepted());
     }
@@ -52,6 +54,7 @@ fn number_11_gives_no_list_though_the_buffer_holds_an_older_one() {
         radio: 8,
         east: 1,
         north: 1,
+        minute: 0,
     };
     assert!(store.call(&on.to_bytes(), &mut buffer).is_accepted());
     let answer = store.call(&ALL.to_bytes(), &mut buffer);
@@ -83,22 +86,54 @@ fn what_is_no_sound_store_does_not_come_back() {
     let mut damaged = pages.to_vec();
     damaged[PAGES_BYTES - 1] = 1;
     assert_eq!(why(desk, &damaged), Some(Refusal::Unsound));
-    // in the tally, and in the last slot of the radios on
-    for at in [offset_of!(Desk, parts.tally) + 1, DESK_BYTES - 1] {
+    // in the tally, and in the first and the last slot of the radios on
+    let on = offset_of!(Desk, on);
+    for at in [offset_of!(Desk, parts.tally) + 1, on, on + 2 * 512 - 1] {
         let mut damaged = desk.to_vec();
         damaged[at] = 1;
         assert_eq!(why(&damaged, pages), Some(Refusal::Unsound));
     }
 }
 
-/// A fresh desk as version 0.3.0 had it: cuts, the directory with its count first, the front of the free chain, then waiting
-/// reports, memo and radios on, each with its count first, and the tally.
+/// A fresh desk as version 0.4.0 had it, in 14,402 bytes: no highest minute among the parts, and no minutes of the waiting.
+/// Neither as it was nor with zeros behind it is it one of ours.
 #[test]
 fn a_fresh_desk_of_the_layout_before_does_not_come_back() {
     let mut numbers = [0u16; DESK_BYTES / 2];
-    numbers[32..39].copy_from_slice(&[1, 0, 0, 65535, 0, 65535, 0]);
-    numbers[417] = 1;
+    numbers[32..34].copy_from_slice(&[1, 1]);
+    numbers[38..44].copy_from_slice(&[0, 0, 65535, 0, 65535, 0]);
     let desk: Vec<u8> = numbers.into_iter().flat_map(u16::to_ne_bytes).collect();
     let fresh = Store::fresh();
-    assert_eq!(Store::restored(&desk, fresh.pages()).err(), Some(Refusal::Unsound));
+    for bytes in [14402, DESK_BYTES] {
+        assert_eq!(
+            Store::restored(&desk[..bytes], fresh.pages()).err(),
+            Some(Refusal::Unsound)
+        );
+    }
+}
+
+/// The highest minute and the waiting reports' minutes are saved with the rest.
+#[test]
+fn minutes_come_back() {
+    let mut store = with_radios(&[7]);
+    let minute = 4_000_000_000;
+    let report = Record::Report {
+        radio: 7,
+        east: 1,
+        north: 2,
+        minute,
+    };
+    assert!(store.call(&report.to_bytes(), &mut []).is_accepted());
+    let mut again = Store::restored(store.desk().as_bytes(), store.pages()).expect("what was saved is sound");
+    assert_eq!(again.desk().parts.highest, minute);
+    assert_eq!(
+        again.desk().reports_in_use().map(|report| report.minute).max(),
+        Some(minute)
+    );
+    let early = Record::SignOff {
+        radio: 7,
+        minute: minute - 1,
+    };
+    let answer = again.call(&early.to_bytes(), &mut []);
+    assert_eq!(answer.refusal(), Some(Refusal::TooEarly));
 }

@@ -1,12 +1,14 @@
 //! Desk and plain list side by side.
 use crate::rule::Rule;
-use crate::{Plain, Told};
+use crate::{Fix, Plain, Told};
 use boragefile::{Located, Record, Store, LIST_BYTES};
 
 /// What stands in every byte of the answer buffer before a call.
 const UNTOUCHED: u8 = 0xa5;
 /// All pages are compared with the plain rule once in so many calls.
 const PAGES_COMPARED_EVERY: usize = 64;
+/// The clock's minute has so many calls.
+const CALLS_A_MINUTE: usize = 64;
 
 /// A desk and a plain list that have had the same records.
 pub struct Both {
@@ -44,6 +46,12 @@ impl Both {
         self.calls
     }
 
+    /// A minute for the next record, of a clock that goes on with the calls. No radio is left out for its age before the
+    /// clock has gone through some 46,000 of them.
+    pub fn clock(&self) -> u32 {
+        (self.calls / CALLS_A_MINUTE) as u32
+    }
+
     /// Radio and place of each entry on the pages that is stale by the plain rule.
     pub fn stale_entries(&self) -> impl Iterator<Item = (u16, (u16, u16))> + '_ {
         self.rule.stale_entries(self.store.pages())
@@ -56,8 +64,9 @@ impl Both {
 
     /// Hands any bytes to both, with an answer buffer of `room` bytes, and compares all that can be seen: number, count
     /// and list; that nothing else is written to the buffer; that a range or a turned-down call keeps desk and pages;
-    /// that the same radios are on and wait, at their latest places. Now and then it asks whether the store is sound, and
-    /// compares all pages with the plain rule: chains, stale entries and missed counts. Answers what both answered.
+    /// that the same radios are on and wait, at their latest places, since the same minutes, and the highest minute is the
+    /// same. Now and then it asks whether the store is sound, and compares all pages with the plain rule: chains, stale
+    /// entries, missed counts and minutes. Answers what both answered.
     pub fn call(&mut self, bytes: &[u8], room: usize) -> Told {
         self.calls += 1;
         self.before.clone_from(&self.store);
@@ -105,13 +114,20 @@ impl Both {
             "call {}: who is on",
             self.calls
         );
+        assert_eq!(
+            desk.parts.highest,
+            self.plain.highest(),
+            "call {}: the highest minute",
+            self.calls
+        );
         self.rule.carry_out(bytes, self.before.desk());
         self.rule.compare_waiting(desk);
         for report in desk.reports_in_use() {
-            let latest = self.plain.place(report.radio);
+            let place = (report.east, report.north);
+            let minute = report.minute;
             assert_eq!(
-                latest,
-                Some((report.east, report.north)),
+                self.plain.fix(report.radio),
+                Some(Fix { place, minute }),
                 "call {}: radio {} waits",
                 self.calls,
                 report.radio

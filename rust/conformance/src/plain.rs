@@ -1,10 +1,21 @@
-//! The plain list: who is on, and where each was last. No grid, no pages, nothing waits.
+//! The plain list: who is on, where each was last, and at which minute. No grid, no pages, nothing waits.
 use std::collections::BTreeMap;
 
-/// The list.
+/// A range leaves out a radio whose minute is more than this before its own.
+const KEPT_MINUTES: u64 = 720;
+
+/// What a report tells: a place, and the minute of the report.
+#[derive(Clone, Copy, PartialEq, Eq, Debug)]
+pub struct Fix {
+    pub place: (u16, u16),
+    pub minute: u32,
+}
+
+/// The list, and the highest minute of an accepted sign-on, report or sign-off.
 #[derive(Default)]
 pub struct Plain {
-    latest: BTreeMap<u16, (u16, u16)>,
+    latest: BTreeMap<u16, Fix>,
+    highest: u32,
 }
 
 /// What the list answers: number, count, and the bytes that an accepted range lists.
@@ -23,19 +34,29 @@ impl Told {
 }
 
 impl Plain {
-    /// Nobody is on.
+    /// Nobody is on, and the highest minute is 0.
     pub fn new() -> Plain {
         Plain::default()
     }
 
-    /// The radios on, rising, each with its latest place.
-    pub fn latest(&self) -> impl Iterator<Item = (u16, (u16, u16))> + '_ {
-        self.latest.iter().map(|(radio, place)| (*radio, *place))
+    /// The radios on, rising, each with what its latest report told.
+    pub fn latest(&self) -> impl Iterator<Item = (u16, Fix)> + '_ {
+        self.latest.iter().map(|(radio, fix)| (*radio, *fix))
+    }
+
+    /// What the latest report of a radio told, if it is on.
+    pub fn fix(&self, radio: u16) -> Option<Fix> {
+        self.latest.get(&radio).copied()
     }
 
     /// The latest place of a radio, if it is on.
     pub fn place(&self, radio: u16) -> Option<(u16, u16)> {
-        self.latest.get(&radio).copied()
+        self.fix(radio).map(|fix| fix.place)
+    }
+
+    /// The highest minute of an accepted sign-on, report or sign-off.
+    pub fn highest(&self) -> u32 {
+        self.highest
     }
 
     /// How many are on.
@@ -43,80 +64,85 @@ impl Plain {
         self.latest.len()
     }
 
-    /// Checks 3 to 12 in their order, then the record's effect. `room` is the length of the answer buffer.
+    /// Checks 3 to 13 in their order, then the record's effect. `room` is the length of the answer buffer.
     pub fn call(&mut self, bytes: &[u8], room: usize) -> Told {
         let field = |at: usize| u16::from_le_bytes([bytes[2 * at], bytes[2 * at + 1]]);
         if bytes.len() < 4 || field(0) < 4 || usize::from(field(0)) > bytes.len() {
             return refused(3, 0);
         }
-        let length = match field(1) {
-            1 | 2 => 10,
-            3 => 6,
-            4 => 12,
+        let kind = field(1);
+        let length = match kind {
+            1 | 2 => 14,
+            3 => 10,
+            4 => 16,
             _ => return refused(4, 0),
         };
-        if field(0) != length {
+        if usize::from(field(0)) != length {
             return refused(5, 0);
         }
-        match field(1) {
-            1 => self.sign_on(field(2), (field(3), field(4))),
-            2 => self.report(field(2), (field(3), field(4))),
-            3 => self.sign_off(field(2)),
-            _ => self.range(field(2), field(3), field(4), field(5), room),
-        }
-    }
-
-    fn sign_on(&mut self, radio: u16, place: (u16, u16)) -> Told {
-        if !is_radio(radio) {
+        let minute = u32::from(field(length / 2 - 2)) + 65536 * u32::from(field(length / 2 - 1));
+        if kind != 4 && !is_radio(field(2)) {
             return refused(6, 0);
         }
-        if place == (0, 0) {
+        if kind <= 2 && (field(3), field(4)) == (0, 0) {
             return refused(12, 0);
         }
+        if minute < self.highest {
+            return refused(13, 0);
+        }
+        let fix = Fix {
+            place: (field(3), field(4)),
+            minute,
+        };
+        let told = match kind {
+            1 => self.sign_on(field(2), fix),
+            2 => self.report(field(2), fix),
+            3 => self.sign_off(field(2)),
+            _ => return self.range([field(2), field(3)], [field(4), field(5)], minute, room),
+        };
+        if told.number == 0 {
+            self.highest = minute;
+        }
+        told
+    }
+
+    fn sign_on(&mut self, radio: u16, fix: Fix) -> Told {
         if self.latest.contains_key(&radio) {
             return refused(8, 0);
         }
         if self.latest.len() == 512 {
             return refused(10, 0);
         }
-        self.latest.insert(radio, place);
+        self.latest.insert(radio, fix);
         accepted()
     }
 
-    fn report(&mut self, radio: u16, place: (u16, u16)) -> Told {
-        if !is_radio(radio) {
-            return refused(6, 0);
-        }
-        if place == (0, 0) {
-            return refused(12, 0);
-        }
+    fn report(&mut self, radio: u16, fix: Fix) -> Told {
         let Some(latest) = self.latest.get_mut(&radio) else {
             return refused(9, 0);
         };
-        *latest = place;
+        *latest = fix;
         accepted()
     }
 
     fn sign_off(&mut self, radio: u16) -> Told {
-        if !is_radio(radio) {
-            return refused(6, 0);
-        }
         if self.latest.remove(&radio).is_none() {
             return refused(9, 0);
         }
         accepted()
     }
 
-    fn range(&self, west: u16, east: u16, south: u16, north: u16, room: usize) -> Told {
+    fn range(&self, [west, east]: [u16; 2], [south, north]: [u16; 2], minute: u32, room: usize) -> Told {
         if west > east || south > north {
             return refused(7, 0);
         }
         let mut count = 0;
         let mut list = Vec::new();
-        for (radio, (e, n)) in &self.latest {
-            if takes_in(west, east, *e) && takes_in(south, north, *n) {
+        for (radio, fix) in &self.latest {
+            let (e, n) = fix.place;
+            if takes_in(west, east, e) && takes_in(south, north, n) && !too_old(fix.minute, minute) {
                 count += 1;
-                for field in [radio, e, n] {
+                for field in [*radio, e, n] {
                     list.extend_from_slice(&field.to_le_bytes());
                 }
             }
@@ -131,6 +157,11 @@ impl Plain {
 /// The low edge is inside and the high edge outside, but a high edge at the last metre takes in that line.
 fn takes_in(low: u16, high: u16, coordinate: u16) -> bool {
     (low..high).contains(&coordinate) || (high == 65535 && low <= coordinate)
+}
+
+/// More than 720 minutes before the range's own; in 64 bits, where no sum goes round.
+fn too_old(reported: u32, asked: u32) -> bool {
+    u64::from(reported) + KEPT_MINUTES < u64::from(asked)
 }
 
 fn is_radio(radio: u16) -> bool {

@@ -4,24 +4,41 @@ use boragefile::Record;
 use conformance::Both;
 
 fn on(both: &mut Both, radio: u16, east: u16, north: u16) {
-    assert_eq!(both.record(Record::SignOn { radio, east, north }).number, 0);
+    let minute = both.clock();
+    let record = Record::SignOn {
+        radio,
+        east,
+        north,
+        minute,
+    };
+    assert_eq!(both.record(record).number, 0);
 }
 
 fn report(both: &mut Both, radio: u16, east: u16, north: u16) {
-    assert_eq!(both.record(Record::Report { radio, east, north }).number, 0);
+    let minute = both.clock();
+    let record = Record::Report {
+        radio,
+        east,
+        north,
+        minute,
+    };
+    assert_eq!(both.record(record).number, 0);
 }
 
 fn off(both: &mut Both, radio: u16) {
-    assert_eq!(both.record(Record::SignOff { radio }).number, 0);
+    let minute = both.clock();
+    assert_eq!(both.record(Record::SignOff { radio, minute }).number, 0);
 }
 
 /// How many are from this east up to that one. `Both` compares the list itself.
 fn between(both: &mut Both, west: u16, east: u16) -> usize {
+    let minute = both.clock();
     both.record(Record::Range {
         west,
         east,
         south: 0,
         north: 65535,
+        minute,
     })
     .count
 }

@@ -1,4 +1,4 @@
-//! The order of the checks: a record that fails two of them is turned down under the first. The table has every pair of checks from 3 to 12 that one
+//! The order of the checks: a record that fails two of them is turned down under the first. The table has every pair of checks from 3 to 13 that one
 //! record can fail together; each row's record with the first fault mended is turned down under the second.
 #![forbid(unsafe_code)]
 use boragefile::{Record, Refusal, LIST_BYTES};
@@ -7,13 +7,31 @@ use conformance::Both;
 /// Radios 1 to 511 are on; 512 is, where the store is full.
 const LAST_ON: u16 = 511;
 const NOT_ON: u16 = 600;
+/// The highest minute of both stores: each record has it, or a minute less.
+const HIGHEST: u32 = 65536;
 
 fn on(radio: u16, east: u16, north: u16) -> Vec<u8> {
-    Record::SignOn { radio, east, north }.to_bytes()
+    Record::SignOn {
+        radio,
+        east,
+        north,
+        minute: HIGHEST,
+    }
+    .to_bytes()
 }
 
 fn report(radio: u16, east: u16, north: u16) -> Vec<u8> {
-    Record::Report { radio, east, north }.to_bytes()
+    Record::Report {
+        radio,
+        east,
+        north,
+        minute: HIGHEST,
+    }
+    .to_bytes()
+}
+
+fn off(radio: u16) -> Vec<u8> {
+    Record::SignOff { radio, minute: HIGHEST }.to_bytes()
 }
 
 fn range(west: u16, east: u16, south: u16, north: u16) -> Vec<u8> {
@@ -22,8 +40,16 @@ fn range(west: u16, east: u16, south: u16, north: u16) -> Vec<u8> {
         east,
         south,
         north,
+        minute: HIGHEST,
     }
     .to_bytes()
+}
+
+/// Its minute is below the highest.
+fn early(mut record: Vec<u8>) -> Vec<u8> {
+    let minute = record.len() - 4;
+    record[minute..].copy_from_slice(&(HIGHEST - 1).to_le_bytes());
+    record
 }
 
 /// Its last byte is not at hand.
@@ -58,6 +84,10 @@ fn one_fault() -> Vec<(Refusal, bool, Vec<u8>)> {
     vec![
         (Refusal::Radio, false, on(0, 5, 5)),
         (Refusal::NoFix, false, on(NOT_ON, 0, 0)),
+        (Refusal::TooEarly, false, early(on(NOT_ON, 5, 5))),
+        (Refusal::TooEarly, false, early(report(1, 5, 5))),
+        (Refusal::TooEarly, false, early(off(1))),
+        (Refusal::TooEarly, false, early(range(0, 9, 0, 9))),
         (Refusal::Rectangle, false, range(6, 5, 0, 9)),
         (Refusal::AlreadyOn, false, on(1, 5, 5)),
         (Refusal::NotOn, false, report(NOT_ON, 5, 5)),
@@ -112,6 +142,76 @@ fn table() -> Vec<Row> {
             report(NOT_ON, 5, 5),
         ),
         row(true, Refusal::Radio, Refusal::Full, on(0, 5, 5), on(NOT_ON, 5, 5)),
+        row(
+            false,
+            Refusal::Radio,
+            Refusal::TooEarly,
+            early(on(0, 5, 5)),
+            early(on(NOT_ON, 5, 5)),
+        ),
+        row(
+            false,
+            Refusal::Radio,
+            Refusal::TooEarly,
+            early(off(4096)),
+            early(off(1)),
+        ),
+        row(
+            false,
+            Refusal::NoFix,
+            Refusal::TooEarly,
+            early(on(NOT_ON, 0, 0)),
+            early(on(NOT_ON, 0, 1)),
+        ),
+        row(
+            false,
+            Refusal::NoFix,
+            Refusal::TooEarly,
+            early(report(1, 0, 0)),
+            early(report(1, 1, 0)),
+        ),
+        row(
+            false,
+            Refusal::TooEarly,
+            Refusal::Rectangle,
+            early(range(6, 5, 0, 9)),
+            range(6, 5, 0, 9),
+        ),
+        row(
+            false,
+            Refusal::TooEarly,
+            Refusal::AlreadyOn,
+            early(on(1, 5, 5)),
+            on(1, 5, 5),
+        ),
+        row(
+            false,
+            Refusal::TooEarly,
+            Refusal::NotOn,
+            early(report(NOT_ON, 5, 5)),
+            report(NOT_ON, 5, 5),
+        ),
+        row(
+            false,
+            Refusal::TooEarly,
+            Refusal::NotOn,
+            early(off(NOT_ON)),
+            off(NOT_ON),
+        ),
+        row(
+            true,
+            Refusal::TooEarly,
+            Refusal::Full,
+            early(on(NOT_ON, 5, 5)),
+            on(NOT_ON, 5, 5),
+        ),
+        row(
+            false,
+            Refusal::TooEarly,
+            Refusal::AnswerBuffer,
+            early(range(0, 65535, 0, 65535)),
+            range(0, 65535, 0, 65535),
+        ),
         row(false, Refusal::NoFix, Refusal::AlreadyOn, on(1, 0, 0), on(1, 0, 1)),
         row(
             false,

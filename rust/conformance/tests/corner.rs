@@ -1,7 +1,7 @@
 //! A place (0,0) that a store already holds, waiting or on a page, stays sound and is treated as any other. No record brings one, so such a store is made:
 //! two stores have the same calls, and where the one holds (1,1), (0,0) is written in the other. Their answers and their bytes go on to differ in that alone.
 #![forbid(unsafe_code)]
-use boragefile::{Located, Record, Store, ENTRY_BYTES, LIST_BYTES, PAGE_BYTES};
+use boragefile::{Located, Record, Store, LIST_BYTES, PAGE_BYTES, PAGE_ENTRY_BYTES};
 use conformance::Xorshift;
 
 const CALLS: usize = 20_000;
@@ -31,7 +31,7 @@ fn field(bytes: &[u8], at: usize) -> u16 {
 
 /// The bytes at which the entries of all pages begin.
 fn entries(pages: &[u8]) -> Vec<usize> {
-    let page = |start: usize| (start + PAGE_HEAD..start + usize::from(field(pages, start))).step_by(ENTRY_BYTES);
+    let page = |start: usize| (start + PAGE_HEAD..start + usize::from(field(pages, start))).step_by(PAGE_ENTRY_BYTES);
     (0..pages.len()).step_by(PAGE_BYTES).flat_map(page).collect()
 }
 
@@ -95,7 +95,7 @@ fn listed(list: impl Iterator<Item = Located>) -> Vec<(u16, (u16, u16))> {
     list.map(|located| (located.radio, place(located))).collect()
 }
 
-/// What comes next: a third of the places are (1,1).
+/// What comes next: a third of the places are (1,1), and the minute rises now and then, so that some places grow too old.
 fn next(random: &mut Xorshift, store: &Store) -> Record {
     let radio = random.within(1, 90);
     let is_on = store.desk().radios_on().contains(&radio);
@@ -104,16 +104,28 @@ fn next(random: &mut Xorshift, store: &Store) -> Record {
     } else {
         (random.within(OTHERS_FROM, 60_000), random.within(OTHERS_FROM, 60_000))
     };
+    let minute = store.desk().parts.highest + 5 * u32::from(random.once_in(3));
     match random.below(10) {
-        0 if is_on => Record::SignOff { radio },
+        0 if is_on => Record::SignOff { radio, minute },
         1 => Record::Range {
             west: 0,
             east: random.within(OTHERS_FROM, 65535),
             south: 0,
             north: random.within(OTHERS_FROM, 65535),
+            minute,
         },
-        _ if is_on => Record::Report { radio, east, north },
-        _ => Record::SignOn { radio, east, north },
+        _ if is_on => Record::Report {
+            radio,
+            east,
+            north,
+            minute,
+        },
+        _ => Record::SignOn {
+            radio,
+            east,
+            north,
+            minute,
+        },
     }
 }
 

@@ -1,7 +1,9 @@
 //! Damaged stores: each clause of a sound store, broken in the desk or in the pages. Every call is then turned down under
 //! number 2 and keeps every byte, and the test alone finds the store unsound.
 #![forbid(unsafe_code)]
-use boragefile::{Desk, Line, Record, Refusal, Slot, Store, Waiting, NONE, PAGES, PAGE_BYTES};
+use boragefile::{
+    Desk, Line, Record, Refusal, Report, Slot, Store, Waiting, NONE, PAGES, PAGE_BYTES, PAGE_ENTRY_BYTES,
+};
 use conformance::{Both, Xorshift};
 use std::collections::BTreeSet;
 use std::mem::offset_of;
@@ -10,6 +12,12 @@ const USED: usize = 0;
 const KIND: usize = 1;
 const NEXT: usize = 2;
 const CELL: usize = 3;
+/// The last field of a page, which is in use only where 32 entries are.
+const LAST_FIELD: usize = PAGE_BYTES / 2 - 1;
+/// The fields of an entry: radio, east, north, and the lower and the higher half of the minute.
+const FIELDS: usize = PAGE_ENTRY_BYTES / 2;
+const LOW: usize = 3;
+const HIGH: usize = 4;
 
 fn field(pages: &[u8], page: u16, at: usize) -> u16 {
     let from = usize::from(page) * PAGE_BYTES + 2 * at;
@@ -21,28 +29,50 @@ fn set(pages: &mut [u8], page: u16, at: usize, value: u16) {
     pages[from..from + 2].copy_from_slice(&value.to_le_bytes());
 }
 
-/// The field of entry `i` of a page: its radio, east or north.
+/// The field of entry `i` of a page: its radio, east, north or a half of its minute.
 fn entry(i: usize, part: usize) -> usize {
-    4 + 3 * i + part
+    4 + FIELDS * i + part
 }
 
 fn entries(pages: &[u8], page: u16) -> usize {
-    usize::from((field(pages, page, USED) - 8) / 6)
+    (usize::from(field(pages, page, USED)) - 8) / PAGE_ENTRY_BYTES
+}
+
+fn set_minute(pages: &mut [u8], page: u16, i: usize, minute: u32) {
+    set(pages, page, entry(i, LOW), minute as u16);
+    set(pages, page, entry(i, HIGH), (minute >> 16) as u16);
+}
+
+/// The entry goes, and its bytes become zero.
+fn take_out_last(pages: &mut [u8], page: u16) {
+    let last = entries(pages, page) - 1;
+    for part in 0..FIELDS {
+        set(pages, page, entry(last, part), 0);
+    }
+    set(pages, page, USED, (8 + PAGE_ENTRY_BYTES * last) as u16);
 }
 
 fn lines(desk: &mut Desk) -> &mut [Line] {
     &mut desk.memo[..usize::from(desk.parts.lines)]
 }
 
-/// The radios, easts, norths and marks of the waiting reports.
-fn columns(desk: &mut Desk) -> [&mut [u16; 128]; 4] {
+/// The radios, easts, norths, marks and halves of the minutes of the waiting reports.
+fn columns(desk: &mut Desk) -> [&mut [u16; 128]; 6] {
     let Waiting {
         radios,
         easts,
         norths,
         news,
+        lows,
+        highs,
     } = &mut desk.waiting;
-    [radios, easts, norths, news]
+    [radios, easts, norths, news, lows, highs]
+}
+
+/// Waiting report `i` has this minute.
+fn waits_since(desk: &mut Desk, i: usize, minute: u32) {
+    let report = desk.waiting.report_at(i);
+    desk.waiting.put_report(i, Report { minute, ..report });
 }
 
 /// The slot of the first waiting report with this mark.
@@ -113,12 +143,33 @@ fn settled(desk: &Desk, pages: &[u8]) -> (Slot, u16) {
     (*slot, slot.first)
 }
 
+/// A page with an entry that is stale, and its number on that page.
+fn a_stale_one(desk: &Desk, pages: &[u8]) -> (u16, usize) {
+    for slot in desk.cells_in_use() {
+        let mut page = slot.first;
+        while page != NONE {
+            for i in 0..entries(pages, page) {
+                let part = |p| field(pages, page, entry(i, p));
+                if is_stale(desk, part(0), (part(1), part(2))) {
+                    return (page, i);
+                }
+            }
+            page = field(pages, page, NEXT);
+        }
+    }
+    panic!("a stale entry");
+}
+
+/// The minute of the first call of `rich`, so that both halves of a minute count.
+const FIRST_MINUTE: u32 = 5 * 65536;
+
 /// A store with something in every part: cuts both ways, a chain of two pages, memo lines with and without a place, waiting
 /// reports new and not, free pages.
 fn rich() -> Store {
     let mut random = Xorshift::new(11);
     let mut both = Both::fresh();
     for _ in 0..200_000 {
+        let minute = FIRST_MINUTE + both.clock();
         let radio = random.within(1, 400);
         let (east, north) = if radio < 60 {
             (12345, 54321)
@@ -126,9 +177,19 @@ fn rich() -> Store {
             (random.coordinate(), random.coordinate())
         };
         both.record(match (both.plain.place(radio).is_some(), random.once_in(12)) {
-            (false, _) => Record::SignOn { radio, east, north },
-            (true, true) => Record::SignOff { radio },
-            (true, false) => Record::Report { radio, east, north },
+            (false, _) => Record::SignOn {
+                radio,
+                east,
+                north,
+                minute,
+            },
+            (true, true) => Record::SignOff { radio, minute },
+            (true, false) => Record::Report {
+                radio,
+                east,
+                north,
+                minute,
+            },
         });
         if is_rich(&both.store) {
             return both.store;
@@ -155,13 +216,17 @@ fn is_rich(store: &Store) -> bool {
             .any(|slot| field(pages, slot.first, NEXT) != NONE)
 }
 
+/// Records of each kind, at the last minute, one that is too early, and what is no record.
 fn requests() -> Vec<Vec<u8>> {
+    let minute = u32::MAX;
+    let (east, north) = (1, 1);
     vec![
         Record::Range {
             west: 0,
             east: 65535,
             south: 0,
             north: 65535,
+            minute,
         }
         .to_bytes(),
         Record::Range {
@@ -169,21 +234,25 @@ fn requests() -> Vec<Vec<u8>> {
             east: 0,
             south: 0,
             north: 0,
+            minute,
         }
         .to_bytes(),
         Record::SignOn {
             radio: 4095,
-            east: 1,
-            north: 1,
+            east,
+            north,
+            minute,
         }
         .to_bytes(),
         Record::Report {
             radio: 1,
-            east: 1,
-            north: 1,
+            east,
+            north,
+            minute,
         }
         .to_bytes(),
-        Record::SignOff { radio: 2 }.to_bytes(),
+        Record::SignOff { radio: 2, minute }.to_bytes(),
+        Record::SignOff { radio: 2, minute: 0 }.to_bytes(),
         vec![],
         vec![4, 0, 9, 0],
     ]
@@ -244,7 +313,7 @@ fn limits() {
         ("very many cells", |desk, _| desk.parts.frame.cells = u16::MAX),
         ("very many waiting", |desk, _| desk.parts.waiting = u16::MAX),
         ("129 waiting", |desk, _| desk.parts.waiting = 129),
-        ("1,152 memo lines", |desk, _| desk.parts.lines = 1152),
+        ("1,153 memo lines", |desk, _| desk.parts.lines = 1153),
         ("very many memo lines", |desk, _| desk.parts.lines = u16::MAX),
         ("513 on", |desk, _| desk.parts.on = 513),
         ("very many on", |desk, _| desk.parts.on = u16::MAX),
@@ -369,7 +438,7 @@ fn chains() {
 fn layout_of_pages() {
     all_turned_down(&[
         ("a free page with an entry", |desk, pages| {
-            set(pages, desk.parts.frame.free, USED, 14);
+            set(pages, desk.parts.frame.free, USED, 18);
             set(pages, desk.parts.frame.free, entry(0, 0), 4000);
         }),
         ("a free page of another kind", |desk, pages| {
@@ -379,7 +448,7 @@ fn layout_of_pages() {
             set(pages, desk.parts.frame.free, CELL, 0)
         }),
         ("a free page with a byte in it", |desk, pages| {
-            set(pages, desk.parts.frame.free, 99, 256)
+            set(pages, desk.parts.frame.free, LAST_FIELD, 256)
         }),
         ("a first page of kind 3", |desk, pages| {
             set(pages, desk.cells[0].first, KIND, 3)
@@ -405,11 +474,7 @@ fn layout_of_pages() {
             set(pages, taken, CELL, slot.number);
         }),
         ("a page that is not full before another", |desk, pages| {
-            let first = long(desk, pages);
-            set(pages, first, USED, field(pages, first, USED) - 6);
-            for part in 0..3 {
-                set(pages, first, entry(31, part), 0);
-            }
+            take_out_last(pages, long(desk, pages));
         }),
         ("used bytes that end in an entry", |desk, pages| {
             let (_, page) = settled(desk, pages);
@@ -419,7 +484,7 @@ fn layout_of_pages() {
             set(pages, desk.cells[0].first, USED, 7)
         }),
         ("used bytes past the page", |desk, pages| {
-            set(pages, desk.cells[0].first, USED, 206)
+            set(pages, desk.cells[0].first, USED, 338)
         }),
         ("very many used bytes", |desk, pages| {
             set(pages, desk.cells[0].first, USED, 65535)
@@ -429,9 +494,18 @@ fn layout_of_pages() {
             let n = entries(pages, page);
             set(pages, page, entry(n, 0), 1);
         }),
+        ("a minute after the entries", |desk, pages| {
+            let (_, page) = settled(desk, pages);
+            let n = entries(pages, page);
+            set(pages, page, entry(n, HIGH), 256);
+        }),
+        ("a byte at the end of a page", |desk, pages| {
+            let (_, page) = settled(desk, pages);
+            set(pages, page, LAST_FIELD, 256);
+        }),
         ("entries that fall", |desk, pages| {
             let (_, page) = settled(desk, pages);
-            for part in 0..3 {
+            for part in 0..FIELDS {
                 let (a, b) = (field(pages, page, entry(0, part)), field(pages, page, entry(1, part)));
                 set(pages, page, entry(0, part), b);
                 set(pages, page, entry(1, part), a);
@@ -485,11 +559,7 @@ fn who_is_on() {
         }),
         ("an entry is gone", |desk, pages| {
             let (_, page) = settled(desk, pages);
-            let n = entries(pages, page);
-            for part in 0..3 {
-                set(pages, page, entry(n - 1, part), 0);
-            }
-            set(pages, page, USED, field(pages, page, USED) - 6);
+            take_out_last(pages, page);
         }),
     ]);
 }
@@ -552,7 +622,7 @@ fn memo_lines() {
                 .expect("a line without a place")
                 .north = 1;
         }),
-        ("a line past the count", |desk, _| desk.memo[1150].east = 1),
+        ("a line past the count", |desk, _| desk.memo[1151].east = 1),
     ]);
 }
 
@@ -590,6 +660,90 @@ fn waiting_reports() {
     ]);
 }
 
+/// A sound store has no entry or waiting report above the highest minute: by one or by many, in the lower half of the minute or
+/// in the higher.
+#[test]
+fn minutes() {
+    all_turned_down(&[
+        ("an entry a minute too late", |desk, pages| {
+            let (_, page) = settled(desk, pages);
+            set_minute(pages, page, 0, desk.parts.highest + 1);
+        }),
+        ("an entry 65,536 minutes too late", |desk, pages| {
+            let (_, page) = settled(desk, pages);
+            set_minute(pages, page, 1, desk.parts.highest + 65536);
+        }),
+        ("the last entry of a full page at the last minute", |desk, pages| {
+            set_minute(pages, long(desk, pages), 31, u32::MAX)
+        }),
+        ("a further page's entry too late", |desk, pages| {
+            let further = field(pages, long(desk, pages), NEXT);
+            set_minute(pages, further, 0, desk.parts.highest + 1);
+        }),
+        ("a stale entry too late", |desk, pages| {
+            let (page, i) = a_stale_one(desk, pages);
+            set_minute(pages, page, i, desk.parts.highest + 1);
+        }),
+        ("the halves of an entry's minute exchanged", |desk, pages| {
+            let (_, page) = settled(desk, pages);
+            set_minute(pages, page, 0, desk.parts.highest.rotate_left(16));
+        }),
+        ("a waiting report a minute too late", |desk, _| {
+            waits_since(desk, 0, desk.parts.highest + 1)
+        }),
+        ("a waiting report 65,536 minutes too late", |desk, _| {
+            waits_since(desk, 0, desk.parts.highest + 65536)
+        }),
+        ("the last that waits at the last minute", |desk, _| {
+            waits_since(desk, past_waiting(desk) - 1, u32::MAX)
+        }),
+        ("the halves of a report's minute exchanged", |desk, _| {
+            waits_since(desk, 0, desk.parts.highest.rotate_left(16))
+        }),
+        ("no highest minute", |desk, _| desk.parts.highest = 0),
+        ("a highest minute below those that wait", |desk, _| {
+            let latest = desk.reports_in_use().map(|report| report.minute).max();
+            desk.parts.highest = latest.expect("some wait") - 1;
+        }),
+        ("a highest minute without its higher half", |desk, _| {
+            desk.parts.highest %= 65536
+        }),
+    ]);
+}
+
+/// A store in which nothing waits: its highest minute may go down to the latest entry's, and no further.
+#[test]
+fn the_highest_minute_of_entries_alone() {
+    let mut both = Both::fresh();
+    for radio in 1..=8 {
+        let minute = 100 * u32::from(radio);
+        let (east, north) = (radio, 1);
+        both.record(Record::SignOn {
+            radio,
+            east,
+            north,
+            minute,
+        });
+    }
+    both.record(Record::SignOff { radio: 1, minute: 900 });
+    let sound_at = |highest| {
+        let mut store = both.store.clone();
+        store.parts_mut().0.parts.highest = highest;
+        !is_turned_down(&store)
+    };
+    assert_eq!(both.store.desk().parts.waiting, 0);
+    for (highest, sound) in [
+        (900, true),
+        (801, true),
+        (800, true),
+        (799, false),
+        (0, false),
+        (u32::MAX, true),
+    ] {
+        assert_eq!(sound_at(highest), sound, "{highest}");
+    }
+}
+
 #[test]
 fn slots_past_the_count_are_zero() {
     all_turned_down(&[
@@ -612,13 +766,25 @@ fn slots_past_the_count_are_zero() {
         ("the mark of a report past the count", |desk, _| {
             desk.waiting.news[past_waiting(desk)] = 1
         }),
+        ("the lower half of a minute past the count", |desk, _| {
+            desk.waiting.lows[past_waiting(desk)] = 1
+        }),
+        ("the higher half of a minute past the count", |desk, _| {
+            desk.waiting.highs[past_waiting(desk)] = 1
+        }),
+        ("the lower half of the last slot's minute", |desk, _| {
+            desk.waiting.lows[127] = 65535
+        }),
+        ("the higher half of the last slot's minute", |desk, _| {
+            desk.waiting.highs[127] = 65535
+        }),
         ("the east of the last slot", |desk, _| desk.waiting.easts[127] = 65535),
         ("the north of the last slot", |desk, _| desk.waiting.norths[127] = 65535),
         ("the mark of the last slot", |desk, _| desk.waiting.news[127] = 65535),
     ]);
 }
 
-/// The places in the desk of those of its 7,201 numbers that are past a count.
+/// The places in the desk of those of its 7,464 numbers of 16 bits that are past a count.
 fn past_the_counts(desk: &Desk) -> BTreeSet<usize> {
     let (parts, frame) = (&desk.parts, &desk.parts.frame);
     // where an array begins in the desk, in bytes; its slots; how many are in use; the numbers of a slot
@@ -630,7 +796,9 @@ fn past_the_counts(desk: &Desk) -> BTreeSet<usize> {
         (offset_of!(Desk, waiting.easts), 128, parts.waiting, 1),
         (offset_of!(Desk, waiting.norths), 128, parts.waiting, 1),
         (offset_of!(Desk, waiting.news), 128, parts.waiting, 1),
-        (offset_of!(Desk, memo), 1151, parts.lines, 5),
+        (offset_of!(Desk, waiting.lows), 128, parts.waiting, 1),
+        (offset_of!(Desk, waiting.highs), 128, parts.waiting, 1),
+        (offset_of!(Desk, memo), 1152, parts.lines, 5),
         (offset_of!(Desk, on), 512, parts.on, 1),
     ];
     let past = |(at, slots, n, fields)| at / 2 + fields * usize::from(n)..at / 2 + fields * slots;
@@ -670,7 +838,7 @@ fn every_number_past_a_count_is_looked_at() {
 #[test]
 fn sound_stores_that_no_run_makes() {
     let store = rich();
-    let changes: [Change; 3] = [
+    let changes: [Change; 8] = [
         ("a cut that no cell needs", |desk, _| {
             let last = usize::from(desk.parts.frame.easts.n);
             assert!(last < 15 && desk.parts.frame.easts.at[last - 1] < 65535);
@@ -684,6 +852,25 @@ fn sound_stores_that_no_run_makes() {
                 .find(|line| line.placed == 0 && line.radio < 4000);
             let line = line.expect("a line without a place");
             (line.placed, line.east, line.north) = (1, 77, 77);
+        }),
+        ("a highest minute that no record brought", |desk, _| {
+            desk.parts.highest = u32::MAX
+        }),
+        ("an entry as late as the highest minute", |desk, pages| {
+            let (_, page) = settled(desk, pages);
+            set_minute(pages, page, 0, desk.parts.highest);
+            set_minute(pages, page, 1, desk.parts.highest - 1);
+        }),
+        ("an entry of the first minute", |desk, pages| {
+            let (_, page) = settled(desk, pages);
+            set_minute(pages, page, 0, 0);
+        }),
+        ("a waiting report as late as the highest minute", |desk, _| {
+            waits_since(desk, 0, desk.parts.highest);
+            waits_since(desk, 1, desk.parts.highest - 1);
+        }),
+        ("a waiting report of the first minute", |desk, _| {
+            waits_since(desk, 0, 0)
         }),
     ];
     for change in &changes {
@@ -720,9 +907,20 @@ fn stale_entries_late_in_the_round() {
         let step = if spread > 0 { 65535 } else { 4000 };
         let (east, north) = (random.near(along, step), random.near(along / 2, step));
         let radio = random.within(1, 512);
+        let minute = both.clock();
         both.record(match both.plain.place(radio) {
-            None => Record::SignOn { radio, east, north },
-            Some(_) => Record::Report { radio, east, north },
+            None => Record::SignOn {
+                radio,
+                east,
+                north,
+                minute,
+            },
+            Some(_) => Record::Report {
+                radio,
+                east,
+                north,
+                minute,
+            },
         });
         let desk = both.store.desk();
         if desk.parts.frame.cells < 64 || desk.parts.waiting < 124 {
@@ -761,16 +959,17 @@ fn stores_in_any_condition() {
                 random.within(0, 130)
             };
             let (page, at) = (random.within(0, PAGES as u16 - 1), random.below(PAGE_BYTES / 2));
-            match random.below(12) {
+            match random.below(13) {
                 0 => desk.parts.frame.easts.at[random.below(15)] = value,
                 1 => desk.parts.frame.norths.n = value,
                 2 => desk.cells[random.below(64)].first = value,
                 3 => desk.cells[random.below(64)].north = value,
                 4 => desk.parts.frame.free = value,
-                5 => columns(desk)[random.below(4)][random.below(128)] = value,
+                5 => columns(desk)[random.below(6)][random.below(128)] = value,
                 6 => desk.memo[random.below(40)].missed = value,
                 7 => desk.on[random.below(512)] = value,
                 8 => desk.parts.tally = value,
+                9 => desk.parts.highest = FIRST_MINUTE + u32::from(value),
                 _ => set(pages, page, at, value),
             }
         }

@@ -59,24 +59,41 @@ impl Run {
     fn crowd(&mut self, random: &mut Xorshift) {
         let way = self.records % CROSSING;
         let along = (3 * way.min(CROSSING - way)) as u16;
-        let (east, north) = (random.near(along, 4000).max(1), random.near(along / 2, 4000));
+        let place = (random.near(along, 4000).max(1), random.near(along / 2, 4000));
         let radio = random.within(1, CROWD);
-        self.record(match self.both.plain.place(radio) {
-            None => Record::SignOn { radio, east, north },
-            Some(_) if random.once_in(30) => Record::SignOff { radio },
-            Some(_) => Record::Report { radio, east, north },
+        match self.both.plain.place(radio) {
+            None => self.sign_on(radio, place),
+            Some(_) if random.once_in(30) => self.sign_off(radio),
+            Some(_) => self.report(radio, place),
+        }
+    }
+
+    fn sign_on(&mut self, radio: u16, place: Place) {
+        self.record(sign_on(radio, place, self.both.clock()));
+    }
+
+    fn report(&mut self, radio: u16, (east, north): Place) {
+        self.record(Record::Report {
+            radio,
+            east,
+            north,
+            minute: self.both.clock(),
         });
+    }
+
+    fn sign_off(&mut self, radio: u16) {
+        let minute = self.both.clock();
+        self.record(Record::SignOff { radio, minute });
     }
 
     /// The guest signs on, or off again before it is flushed: the round moves on by the tally alone.
     fn quiet(&mut self, place: Place) {
         let waiting = self.both.store.desk().parts.waiting;
-        let (radio, (east, north)) = (GUEST, place);
-        if self.both.plain.place(radio).is_some() {
-            self.record(Record::SignOff { radio });
+        if self.both.plain.place(GUEST).is_some() {
+            self.sign_off(GUEST);
             assert_eq!(self.both.store.desk().parts.waiting, waiting - 1);
         } else {
-            self.record(Record::SignOn { radio, east, north });
+            self.sign_on(GUEST, place);
             assert_eq!(self.both.store.desk().parts.waiting, waiting + 1, "nothing is flushed");
         }
     }
@@ -95,8 +112,17 @@ impl Run {
         let inside = |(east, north): Place| {
             (cell.west..=cell.east).contains(&east) && (cell.south..=cell.north).contains(&north)
         };
-        let mut latest = self.both.plain.latest();
+        let mut latest = self.both.plain.latest().map(|(radio, fix)| (radio, fix.place));
         latest.find(|(radio, place)| inside(*place) && !self.waits(*radio))
+    }
+}
+
+fn sign_on(radio: u16, (east, north): Place, minute: u32) -> Record {
+    Record::SignOn {
+        radio,
+        east,
+        north,
+        minute,
     }
 }
 
@@ -111,9 +137,8 @@ fn with_all_cells(seed: u64) -> (Run, Place) {
             continue;
         }
         let place = (random.coordinate().max(1), random.coordinate());
-        let (radio, (east, north)) = (GUEST, place);
         let mut tried = run.both.store.clone();
-        let answer = tried.call(&Record::SignOn { radio, east, north }.to_bytes(), &mut []);
+        let answer = tried.call(&sign_on(GUEST, place, run.both.clock()).to_bytes(), &mut []);
         if answer.is_accepted() && tried.desk().parts.waiting > desk.parts.waiting {
             return (run, place);
         }
@@ -132,7 +157,7 @@ fn become_stale(run: &mut Run, place: Place) -> Entry {
         assert!(run.records < 20 * CROSSING, "some cell has an entry that isn't stale");
     };
     run.quiet(place);
-    run.record(Record::SignOff { radio: entry.0 });
+    run.sign_off(entry.0);
     assert_eq!(run.age(entry), Some(0), "{entry:?} is stale");
     assert_eq!((run.round().len(), run.both.store.desk().parts.tally), (CELLS, 1));
     assert_eq!(
@@ -167,19 +192,15 @@ fn one_added_later_at_the_same_place_is_another() {
     }
     assert_eq!(run.age(entry), Some(1000));
     // The radio is back where it was, with others until their memory cell is flushed: the old entry is swept, and one is added.
-    let (radio, (east, north)) = entry;
-    run.record(Record::SignOn { radio, east, north });
+    let (radio, there) = entry;
+    run.sign_on(radio, there);
     for other in GUEST + 1..GUEST + 10 {
         if run.waits(radio) {
-            run.record(Record::SignOn {
-                radio: other,
-                east,
-                north,
-            });
+            run.sign_on(other, there);
         }
     }
     assert!(!run.waits(radio) && run.age(entry).is_none());
-    run.record(Record::SignOff { radio });
+    run.sign_off(radio);
     assert_eq!(run.age(entry), Some(0), "the count begins anew");
     while run.age(entry).is_some() {
         run.quiet(place);

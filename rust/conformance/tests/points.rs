@@ -1,18 +1,33 @@
 //! The worked points, on the running desk and beside the plain list.
 #![forbid(unsafe_code)]
-use boragefile::{begin, call, is_sound, Answer, Desk, Located, Record, Refusal, Store, LIST_BYTES, PAGES_BYTES};
+use boragefile::{
+    begin, call, is_sound, Answer, Desk, Located, Record, Refusal, Store, LIST_BYTES, PAGES_BYTES, PAGE_BYTES,
+};
 use conformance::Both;
 
+/// The points stand with every minute 0, as the listing does.
+const MINUTE: u32 = 0;
+
 fn on(radio: u16, east: u16, north: u16) -> Record {
-    Record::SignOn { radio, east, north }
+    Record::SignOn {
+        radio,
+        east,
+        north,
+        minute: MINUTE,
+    }
 }
 
 fn report(radio: u16, east: u16, north: u16) -> Record {
-    Record::Report { radio, east, north }
+    Record::Report {
+        radio,
+        east,
+        north,
+        minute: MINUTE,
+    }
 }
 
 fn off(radio: u16) -> Record {
-    Record::SignOff { radio }
+    Record::SignOff { radio, minute: MINUTE }
 }
 
 fn range(west: u16, east: u16, south: u16, north: u16) -> Record {
@@ -21,6 +36,7 @@ fn range(west: u16, east: u16, south: u16, north: u16) -> Record {
         east,
         south,
         north,
+        minute: MINUTE,
     }
 }
 
@@ -63,7 +79,15 @@ fn the_journal_of_the_contract() {
 #[test]
 fn a_page_buffer_of_another_size_is_turned_down() {
     let mut desk = Desk::blank();
-    for size in [0, 1, 200, PAGES_BYTES - 1, PAGES_BYTES + 1, 2 * PAGES_BYTES] {
+    for size in [
+        0,
+        1,
+        PAGE_BYTES,
+        25600,
+        PAGES_BYTES - 1,
+        PAGES_BYTES + 1,
+        2 * PAGES_BYTES,
+    ] {
         let mut pages = vec![7; size];
         assert_eq!(numbers(begin(&mut desk, &mut pages)), refused(Refusal::PageBuffer));
         assert!(desk == Desk::blank() && pages.iter().all(|byte| *byte == 7));
@@ -104,7 +128,7 @@ fn bytes_that_are_no_record() {
     assert_eq!(both.call(&[4, 0, 9, 0], 0).numbers(), refused(Refusal::Kind));
     assert_eq!(both.call(&[4, 0, 0, 0], 0).numbers(), refused(Refusal::Kind));
     assert_eq!(
-        both.call(&[10, 0, 3, 0, 1, 0, 1, 0, 1, 0], 0).numbers(),
+        both.call(&[14, 0, 3, 0, 1, 0, 1, 0, 1, 0, 0, 0, 0, 0], 0).numbers(),
         refused(Refusal::LengthOfKind)
     );
     assert_eq!(
@@ -184,8 +208,8 @@ fn thirty_three_entries_with_distinct_easts_are_cut_into_16_and_17() {
     assert_eq!((frame.easts.n, frame.norths.n, frame.cells), (1, 0, 2));
     assert_eq!(frame.easts.at[0], 240);
     let pages = both.store.pages();
-    assert_eq!(pages[..8], [8 + 6 * 16, 0, 2, 0, 255, 255, 0, 0]);
-    assert_eq!(pages[200..208], [8 + 6 * 17, 0, 2, 0, 255, 255, 1, 0]);
+    assert_eq!(pages[..8], [8 + 10 * 16, 0, 2, 0, 255, 255, 0, 0]);
+    assert_eq!(pages[PAGE_BYTES..][..8], [8 + 10 * 17, 0, 2, 0, 255, 255, 1, 0]);
 }
 
 #[test]
@@ -194,8 +218,8 @@ fn thirty_three_entries_at_one_place_take_two_pages_and_no_cut() {
     let frame = &both.store.desk().parts.frame;
     assert_eq!((frame.easts.n, frame.norths.n, frame.cells, frame.free), (0, 0, 1, 2));
     let pages = both.store.pages();
-    assert_eq!(pages[..8], [200, 0, 2, 0, 1, 0, 0, 0]);
-    assert_eq!(pages[200..208], [8 + 6, 0, 3, 0, 255, 255, 0, 0]);
+    assert_eq!(pages[..8], [72, 1, 2, 0, 1, 0, 0, 0]);
+    assert_eq!(pages[PAGE_BYTES..][..8], [8 + 10, 0, 3, 0, 255, 255, 0, 0]);
 }
 
 #[test]
@@ -209,7 +233,7 @@ fn seven_wait_and_the_eighth_flushes() {
     }
     both.record(on(8, 800, 100));
     assert_eq!(both.store.desk().parts.waiting, 0);
-    assert_eq!(both.store.pages()[0], 8 + 6 * 8);
+    assert_eq!(both.store.pages()[0], 8 + 10 * 8);
 }
 
 #[test]

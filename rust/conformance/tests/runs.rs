@@ -1,9 +1,10 @@
 //! Long runs beside the plain list: more than a million calls, every answer and list compared, and every turned-down call
 //! and every range leaving desk and pages as they were; beside the plain rule, who waits after every call, and chains, stale
-//! entries and missed counts now and then. The same runs every time.
+//! entries, missed counts and minutes now and then. Minutes rise, some are too early, and ranges ask when a radio is just not
+//! too old, or just too old; two runs come to the last minute there is. The same runs every time.
 #![forbid(unsafe_code)]
 use boragefile::{Record, LIST_BYTES};
-use conformance::{Both, Xorshift};
+use conformance::{Both, Fix, Xorshift};
 
 const RUNS: usize = 9;
 const CALLS: usize = 115_000;
@@ -13,8 +14,9 @@ const _: () = assert!(RUNS * CALLS >= 1_000_000);
 #[derive(Default, Debug)]
 struct Seen {
     /// Answers by number; at 0 the accepted ones.
-    answers: [usize; 13],
+    answers: [usize; 14],
     found: usize,
+    ages: Ages,
     flushes: usize,
     splits: usize,
     joins: usize,
@@ -22,11 +24,48 @@ struct Seen {
     most_lines: u16,
 }
 
-/// A run of `CALLS` calls from a fresh store; `next` gives each call's bytes and the length of its answer buffer.
-fn run(name: &str, seed: u64, mut next: impl FnMut(&mut Xorshift, &Both) -> (Vec<u8>, usize)) -> Seen {
+/// How often an accepted range came so many minutes after the latest report of some radio on.
+#[derive(Default, Debug)]
+struct Ages {
+    of_720: usize,
+    of_721: usize,
+    of_more: usize,
+}
+
+impl Ages {
+    fn count(&mut self, both: &Both, range: &[u8]) {
+        let minute = minute_of(range);
+        let age = |fix: Fix| minute.saturating_sub(fix.minute);
+        let any = |test: fn(u32) -> bool| usize::from(both.plain.latest().any(|(_, fix)| test(age(fix))));
+        self.of_720 += any(|age| age == 720);
+        self.of_721 += any(|age| age == 721);
+        self.of_more += any(|age| age > 721);
+    }
+}
+
+/// A record's last four bytes.
+fn minute_of(record: &[u8]) -> u32 {
+    let [.., a, b, c, d] = record else {
+        panic!("a record ends with its minute")
+    };
+    u32::from_le_bytes([*a, *b, *c, *d])
+}
+
+/// A run of `CALLS` calls from a fresh store, the first at this minute; `next` gives each call's bytes and the length of its
+/// answer buffer.
+fn run(name: &str, seed: u64, first: u32, mut next: impl FnMut(&mut Xorshift, &Both) -> (Vec<u8>, usize)) -> Seen {
     let mut random = Xorshift::new(seed);
     let mut both = Both::fresh();
     let mut seen = Seen::default();
+    let minute = first;
+    let (radio, east, north) = (4000, 1, 1);
+    both.record(Record::SignOn {
+        radio,
+        east,
+        north,
+        minute,
+    });
+    both.record(Record::SignOff { radio, minute });
     while both.calls() < CALLS {
         let (bytes, room) = next(&mut random, &both);
         let before = &both.store.desk().parts;
@@ -34,7 +73,10 @@ fn run(name: &str, seed: u64, mut next: impl FnMut(&mut Xorshift, &Both) -> (Vec
         let told = both.call(&bytes, room);
         let parts = &both.store.desk().parts;
         seen.answers[usize::from(told.number)] += 1;
-        seen.found += if told.number == 0 { told.count } else { 0 };
+        if told.number == 0 && bytes[2] == 4 {
+            seen.found += told.count;
+            seen.ages.count(&both, &bytes[..16]);
+        }
         seen.flushes += usize::from(parts.waiting + 1 < waiting);
         seen.splits += usize::from(parts.frame.cells > cells);
         seen.joins += usize::from(parts.frame.cells < cells);
@@ -43,33 +85,81 @@ fn run(name: &str, seed: u64, mut next: impl FnMut(&mut Xorshift, &Both) -> (Vec
     }
     println!("{name}: {CALLS} calls agree: {seen:?}");
     assert_eq!(seen.answers[2], 0, "{name}: a run's store stays sound");
+    assert!(seen.answers[13] > 100, "{name}: some minutes are too early");
+    let Ages {
+        of_720,
+        of_721,
+        of_more,
+    } = seen.ages;
+    assert!(
+        of_720.min(of_721).min(of_more) > 100,
+        "{name}: some ranges come when a radio is at the limit of its age, and past it"
+    );
     seen
+}
+
+/// The minute of what is sent next: mostly the highest so far, often the one after it; now and then hours later, or too early.
+fn minute(random: &mut Xorshift, both: &Both) -> u32 {
+    let highest = both.plain.highest();
+    match random.below(400) {
+        0 => highest.saturating_sub(u32::from(random.within(1, 800))),
+        1 => highest.saturating_add(u32::from(random.within(1, 400))),
+        2..=40 => highest.saturating_add(1),
+        _ => highest,
+    }
 }
 
 /// What this radio might send next: mostly what it may, now and then what it may not.
 fn sends(random: &mut Xorshift, both: &Both, radio: u16, place: (u16, u16), off_once_in: usize) -> Record {
     let (east, north) = place;
+    let minute = minute(random, both);
     let is_on = both.plain.place(radio).is_some();
     match (is_on != random.once_in(40), random.once_in(off_once_in)) {
-        (true, true) => Record::SignOff { radio },
-        (true, false) => Record::Report { radio, east, north },
-        (false, _) => Record::SignOn { radio, east, north },
+        (true, true) => Record::SignOff { radio, minute },
+        (true, false) => Record::Report {
+            radio,
+            east,
+            north,
+            minute,
+        },
+        (false, _) => Record::SignOn {
+            radio,
+            east,
+            north,
+            minute,
+        },
     }
 }
 
-/// One of the radios on, with its latest place.
-fn one_on(random: &mut Xorshift, both: &Both) -> Option<(u16, (u16, u16))> {
+/// What the latest report of one of the radios on told.
+fn one_on(random: &mut Xorshift, both: &Both) -> Option<Fix> {
     let on = both.store.desk().radios_on();
     if on.is_empty() {
         return None;
     }
-    let radio = random.pick(on);
-    both.plain.place(radio).map(|place| (radio, place))
+    both.plain.fix(random.pick(on))
+}
+
+/// The minute of a range: as of any record, or so that a radio is just not too old, just too old, or others are.
+fn asks_at(random: &mut Xorshift, both: &Both, reported: u32) -> u32 {
+    let highest = both.plain.highest();
+    let after = match random.below(6) {
+        0 => reported.saturating_add(720),
+        1 => reported.saturating_add(721),
+        2 => highest.saturating_add(u32::from(random.within(0, 1500))),
+        _ => return minute(random, both),
+    };
+    after.max(highest)
 }
 
 /// The whole square, any rectangle, or one with a radio at an edge or beside it.
 fn rectangle(random: &mut Xorshift, both: &Both) -> Record {
-    let (_, (e, n)) = one_on(random, both).unwrap_or((0, (5, 5)));
+    let nobody = Fix {
+        place: (5, 5),
+        minute: 0,
+    };
+    let of_one = one_on(random, both).unwrap_or(nobody);
+    let (e, n) = of_one.place;
     let (a, b, c, d) = (
         random.coordinate(),
         random.coordinate(),
@@ -92,6 +182,7 @@ fn rectangle(random: &mut Xorshift, both: &Both) -> Record {
         east,
         south,
         north,
+        minute: asks_at(random, both, of_one.minute),
     }
 }
 
@@ -101,7 +192,7 @@ fn with_room(record: Record) -> (Vec<u8>, usize) {
 
 #[test]
 fn few_radios() {
-    let seen = run("few radios", 1, |random, both| {
+    let seen = run("few radios", 1, 0, |random, both| {
         if random.once_in(6) {
             return with_room(rectangle(random, both));
         }
@@ -115,7 +206,7 @@ fn few_radios() {
 
 #[test]
 fn one_car_park() {
-    let seen = run("one car park", 2, |random, both| {
+    let seen = run("one car park", 2, 60_000, |random, both| {
         if random.once_in(10) {
             return with_room(rectangle(random, both));
         }
@@ -136,7 +227,7 @@ fn one_car_park() {
 #[test]
 fn borders() {
     let edges = [0, 0, 1, 2, 32767, 32768, 65533, 65534, 65535, 65535];
-    let seen = run("borders", 3, |random, both| {
+    let seen = run("borders", 3, u32::MAX - 50_000, |random, both| {
         if random.once_in(5) {
             let (a, b, c, d) = (
                 random.pick(&edges),
@@ -144,11 +235,14 @@ fn borders() {
                 random.pick(&edges),
                 random.pick(&edges),
             );
+            let reported = one_on(random, both).map_or(0, |fix| fix.minute);
+            let minute = asks_at(random, both, reported);
             return with_room(Record::Range {
                 west: a,
                 east: b,
                 south: c,
                 north: d,
+                minute,
             });
         }
         let radio = if random.once_in(2) {
@@ -165,7 +259,7 @@ fn borders() {
 #[test]
 fn churn_around_flushes_and_joins() {
     let spots = [(9000, 9000), (9000, 50000), (50000, 9000), (50000, 50000)];
-    let seen = run("churn", 4, |random, both| {
+    let seen = run("churn", 4, 0, |random, both| {
         if random.once_in(12) {
             return with_room(rectangle(random, both));
         }
@@ -184,14 +278,20 @@ fn churn_around_flushes_and_joins() {
 
 #[test]
 fn all_512_on() {
-    let seen = run("all on", 5, |random, both| {
+    let seen = run("all on", 5, 60_000, |random, both| {
         if random.once_in(20) {
             return with_room(rectangle(random, both));
         }
         let radio = 7 * random.within(1, 540);
         if both.plain.place(radio).is_none() {
             let (east, north) = (random.coordinate(), random.coordinate());
-            return with_room(Record::SignOn { radio, east, north });
+            let minute = minute(random, both);
+            return with_room(Record::SignOn {
+                radio,
+                east,
+                north,
+                minute,
+            });
         }
         let (e, n) = both.plain.place(radio).unwrap_or_default();
         let place = (random.near(e, 2500), random.near(n, 2500));
@@ -202,7 +302,7 @@ fn all_512_on() {
 
 #[test]
 fn malformed_bytes() {
-    let seen = run("malformed", 6, |random, both| {
+    let seen = run("malformed", 6, 0, |random, both| {
         let radio = random.within(1, 150);
         let place = (random.coordinate(), random.coordinate());
         let record = if random.once_in(6) {
@@ -217,13 +317,13 @@ fn malformed_bytes() {
                 let at = random.below(bytes.len());
                 bytes[at] = random.within(0, 255) as u8;
             }
-            2 => bytes[0] = random.within(0, 14) as u8,
+            2 => bytes[0] = random.within(0, 18) as u8,
             3 => bytes[1] = random.within(0, 2) as u8,
             4 => bytes[2] = random.within(0, 6) as u8,
             5 => bytes[3] = random.within(0, 1) as u8,
             6 => bytes.resize(random.below(40), 0xee),
-            7 => bytes.iter_mut().skip(6).for_each(|byte| *byte = 0),
-            8 => bytes = (0..random.below(16)).map(|_| random.within(0, 255) as u8).collect(),
+            7 => bytes.iter_mut().skip(6).take(4).for_each(|byte| *byte = 0),
+            8 => bytes = (0..random.below(20)).map(|_| random.within(0, 255) as u8).collect(),
             _ => (),
         }
         (
@@ -245,7 +345,7 @@ fn malformed_bytes() {
 
 #[test]
 fn small_answer_buffers() {
-    let seen = run("small buffers", 7, |random, both| {
+    let seen = run("small buffers", 7, u32::MAX - 30_000, |random, both| {
         if random.once_in(2) {
             let range = rectangle(random, both);
             let radios = random.below(both.plain.on() + 1);
@@ -260,7 +360,7 @@ fn small_answer_buffers() {
 
 #[test]
 fn a_crowd_that_crosses_the_square() {
-    let seen = run("a crowd", 8, |random, both| {
+    let seen = run("a crowd", 10, 0, |random, both| {
         if random.once_in(10) {
             return with_room(rectangle(random, both));
         }
@@ -276,7 +376,7 @@ fn a_crowd_that_crosses_the_square() {
 
 #[test]
 fn everyone_jumps_anywhere() {
-    let seen = run("anywhere", 9, |random, both| {
+    let seen = run("anywhere", 9, 60_000, |random, both| {
         if random.once_in(25) {
             return with_room(rectangle(random, both));
         }

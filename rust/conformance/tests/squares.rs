@@ -12,15 +12,28 @@ const GRID_EVERY: usize = 50;
 /// The radios in this square, by rising number. `Both` compares the desk's list with the plain one.
 fn found(both: &mut Both, easts: [u16; 2], norths: [u16; 2]) -> Vec<u16> {
     let ([west, east], [south, north]) = (easts, norths);
+    let minute = both.clock();
     let told = both.record(Record::Range {
         west,
         east,
         south,
         north,
+        minute,
     });
     assert_eq!(told.number, 0);
     let radio = |entry: &[u8]| u16::from_le_bytes([entry[0], entry[1]]);
     told.list.chunks_exact(ENTRY_BYTES).map(radio).collect()
+}
+
+fn sign_on(both: &mut Both, radio: u16, (east, north): (u16, u16)) {
+    let minute = both.clock();
+    let on = Record::SignOn {
+        radio,
+        east,
+        north,
+        minute,
+    };
+    assert_eq!(both.record(on).number, 0);
 }
 
 /// The stripes between these cuts, over the whole side of the map.
@@ -84,14 +97,25 @@ fn squares_at_random_cuts_add_up_to_the_radios_on() {
         for i in 1..=RECORDS {
             let radio = random.within(1, radios);
             let (east, north) = fix(coordinate(&mut random), coordinate(&mut random));
+            let minute = both.clock();
             let record = match (both.plain.place(radio), random.once_in(9)) {
-                (None, _) => Record::SignOn { radio, east, north },
-                (Some(_), true) => Record::SignOff { radio },
-                (Some(_), false) => Record::Report { radio, east, north },
+                (None, _) => Record::SignOn {
+                    radio,
+                    east,
+                    north,
+                    minute,
+                },
+                (Some(_), true) => Record::SignOff { radio, minute },
+                (Some(_), false) => Record::Report {
+                    radio,
+                    east,
+                    north,
+                    minute,
+                },
             };
             assert_eq!(both.record(record).number, 0);
             if i % GRID_EVERY == 0 {
-                let (easts, norths): (Vec<u16>, Vec<u16>) = both.plain.latest().map(|(_, place)| place).unzip();
+                let (easts, norths): (Vec<u16>, Vec<u16>) = both.plain.latest().map(|(_, fix)| fix.place).unzip();
                 let frame = &both.store.desk().parts.frame;
                 let easts = stripes(cuts(&mut random, &easts, &frame.easts));
                 let norths = stripes(cuts(&mut random, &norths, &frame.norths));
@@ -132,8 +156,7 @@ fn a_party_on_each_kind_of_line_is_in_one_square() {
     for (i, (east, east_stripe)) in LINES.into_iter().enumerate() {
         for (j, (north, north_stripe)) in LINES.into_iter().enumerate() {
             let radio = (1 + LINES.len() * i + j) as u16;
-            let (east, north) = fix(east, north);
-            assert_eq!(both.record(Record::SignOn { radio, east, north }).number, 0);
+            sign_on(&mut both, radio, fix(east, north));
             parties[east_stripe][north_stripe].push(radio);
             for (e, column) in parties.iter().enumerate() {
                 for (n, square) in column.iter().enumerate() {
@@ -155,8 +178,7 @@ fn the_ends_of_the_map() {
     for (i, east) in ends.into_iter().enumerate() {
         for (j, north) in ends.into_iter().enumerate() {
             let radio = (1 + 3 * i + j) as u16;
-            let (east, north) = fix(east, north);
-            both.record(Record::SignOn { radio, east, north });
+            sign_on(&mut both, radio, fix(east, north));
         }
     }
     let whole = [0, LAST_METRE];
@@ -183,8 +205,7 @@ fn the_ends_of_the_map() {
             [9]
         );
         assert_eq!(found(&mut both, [0, LAST_METRE - 1], [0, LAST_METRE - 1])[0], 1);
-        let (east, north) = (30000, 30000);
-        both.record(Record::SignOn { radio, east, north });
+        sign_on(&mut both, radio, (30000, 30000));
     }
 }
 
@@ -192,11 +213,7 @@ fn the_ends_of_the_map() {
 #[test]
 fn at_a_cut_of_65535_both_squares_take_in_the_last_line() {
     let mut both = Both::fresh();
-    both.record(Record::SignOn {
-        radio: 1,
-        east: LAST_METRE,
-        north: 7,
-    });
+    sign_on(&mut both, 1, (LAST_METRE, 7));
     let easts = stripes(vec![LAST_METRE]);
     assert_eq!(added_up(&mut both, &easts, &stripes(vec![])), 2);
     let easts = stripes(vec![LAST_METRE - 1]);

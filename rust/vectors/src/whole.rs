@@ -1,6 +1,6 @@
 //! The whole store as the journals write it.
 use crate::json::Json;
-use boragefile::{CutList, Slot, Store, ENTRY_BYTES, NONE, PAGES, PAGE_BYTES};
+use boragefile::{CutList, Slot, Store, NONE, PAGES, PAGE_BYTES, PAGE_ENTRY_BYTES};
 use std::collections::BTreeMap;
 
 /// Desk and pages in the journals' form.
@@ -9,7 +9,7 @@ pub fn whole(store: &Store) -> Json {
     let cells = desk.cells_in_use().iter().map(|slot| cell(store, slot)).collect();
     let waiting = desk.reports_in_use().map(|report| {
         let mut row = places(&[report.radio, report.east, report.north]);
-        row.push(Json::Bool(report.new == 1));
+        row.extend([Json::Number(report.minute.into()), Json::Bool(report.new == 1)]);
         Json::List(row)
     });
     let memo = desk.lines_in_use().iter().map(|line| {
@@ -30,6 +30,7 @@ pub fn whole(store: &Store) -> Json {
         ("memo", Json::List(memo.collect())),
         ("on", Json::List(places(desk.radios_on()))),
         ("tally", Json::Number(desk.parts.tally.into())),
+        ("highest", Json::Number(desk.parts.highest.into())),
     ])
 }
 
@@ -81,10 +82,7 @@ fn cell(store: &Store, slot: &Slot) -> Json {
             "edges",
             Json::List(places(&[slot.west, slot.east, slot.south, slot.north])),
         ),
-        (
-            "entries",
-            Json::List(entries.map(|entry| Json::List(places(&entry))).collect()),
-        ),
+        ("entries", Json::List(entries.collect())),
         ("chain", Json::List(places(&pages))),
     ])
 }
@@ -108,9 +106,16 @@ fn field(bytes: &[u8], at: usize) -> u16 {
     u16::from_le_bytes([bytes[2 * at], bytes[2 * at + 1]])
 }
 
-fn entries(page: &[u8]) -> impl Iterator<Item = [u16; 3]> + '_ {
+/// The entries of a page, each as radio, east, north and minute.
+fn entries(page: &[u8]) -> impl Iterator<Item = Json> + '_ {
     let used = usize::from(field(page, 0)).clamp(8, PAGE_BYTES);
-    page[8..used]
-        .chunks_exact(ENTRY_BYTES)
-        .map(|entry| [field(entry, 0), field(entry, 1), field(entry, 2)])
+    page[8..used].chunks_exact(PAGE_ENTRY_BYTES).map(|entry| {
+        let mut row = places(&[field(entry, 0), field(entry, 1), field(entry, 2)]);
+        row.push(Json::Number(minute(entry).into()));
+        Json::List(row)
+    })
+}
+
+fn minute(entry: &[u8]) -> u32 {
+    u32::from(field(entry, 3)) | u32::from(field(entry, 4)) << 16
 }

@@ -83,7 +83,7 @@ answer-is : (t : Told) (vs : List Val) → Is R.the-row t vs → Is Z.the-row (t
 answer-is t vs i = LL.owed R.the-type R′.the-laws t vs i .1 .0
 
 abbrev answer-at : ℕ
-answer-at = 76
+answer-at = 80
 
 parts-in : fieldOf R′.mir 0 ≡ just (P′.mir, 0)
 parts-in = refl

@@ -54,7 +54,7 @@ sign-off-requires c κs =
     let e = a .before .before .before .before .before .before in
     off-asked (e .args .parts) (e .args .cells .now) (e .args .waiting .now) (e .args .memo .now) (e .args .on .now) (e .pre .1) (e .args .bytes .now) (e .args .buffer .now)
     (λ i. a .before .before .before .before .shared-slice-known .given i .fits)
-    (a .asked-by .ensures) _ (ap askedOf (c .before .before .before .before .before .before .radio3 .given .1))
+    (a .asked-by .ensures) _ _ (ap askedOf (c .before .before .before .before .before .before .radio3 .given .1))
 
 accepted-requires-3 : tie.Need-accepted-requires-3
 accepted-requires-3 c κs = search needs
@@ -96,7 +96,7 @@ returns-4 : tie.Need-returns-4
 returns-4 c = λ x.
     let a = c .before .before .before .before .before .before .before .before .before .before .before .before in
     let e = a .before .before .before .before .before .before in
-    off-returns (e .args .parts) (e .args .cells .now) (e .args .waiting .now) (e .args .memo .now) (e .args .on .now) x (e .args .bytes .now) (e .args .buffer .now) (λ i. a .before .before .before .before .shared-slice-known .given i .fits) (a .asked-by .ensures) _ (ap askedOf (c .before .before .before .before .before .before .before .before .before .before .radio3 .given .1)) (c .before .before .before .sign-off .ensures) (c .accepted3 .ensures)
+    off-returns (e .args .parts) (e .args .cells .now) (e .args .waiting .now) (e .args .memo .now) (e .args .on .now) x (e .args .bytes .now) (e .args .buffer .now) (λ i. a .before .before .before .before .shared-slice-known .given i .fits) (a .asked-by .ensures) _ _ (ap askedOf (c .before .before .before .before .before .before .before .before .before .before .radio3 .given .1)) (c .before .before .before .sign-off .ensures) (c .accepted3 .ensures)
 
 same-length-4 : tie.Need-same-length-4
 same-length-4 c = search needs
@@ -108,7 +108,7 @@ returns-5 : tie.Need-returns-5
 returns-5 c = λ x.
     let a = c .before .before .before .before .before .before .before .before .before .before .before .before in
     let e = a .before .before .before .before .before .before in
-    range-returns (e .args .parts) (e .args .cells .now) (e .args .waiting .now) (e .args .memo .now) (e .args .on .now) x (e .args .bytes .now) (e .args .buffer .now) (λ i. a .before .before .before .before .shared-slice-known .given i .fits) (a .asked-by .ensures) _ (ap askedOf (c .before .before .before .before .before .before .before .before .before .before .west .given .1)) (c .before .before .listed .ensures)
+    range-returns (e .args .parts) (e .args .cells .now) (e .args .waiting .now) (e .args .memo .now) (e .args .on .now) x (e .args .bytes .now) (e .args .buffer .now) (λ i. a .before .before .before .before .shared-slice-known .given i .fits) (a .asked-by .ensures) _ _ (ap askedOf (c .before .before .before .before .before .before .before .before .before .before .west .given .1)) (c .before .before .listed .ensures)
 
 pub carry-sound-spec : {M : Type 1} → statement M
 carry-sound-spec =

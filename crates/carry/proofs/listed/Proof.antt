@@ -23,7 +23,7 @@ returns : tie.Need-returns
 returns c = λ x.
     let l = c .before .before .before in
     let e = l .before .before .before .before in
-    lists-returns (e .args .parts) (e .args .cells .now) (e .args .waiting .now) (e .args .memo .now) (e .args .on .now) x (e .args .area) _ (l .list .ensures) (c .answered .ensures)
+    lists-returns (e .args .parts) (e .args .cells .now) (e .args .waiting .now) (e .args .memo .now) (e .args .on .now) x (e .args .area) (e .args .minute) _ (l .list .ensures) (c .answered .ensures)
 
 pub listed-spec : {M : Type 1} → statement M
 listed-spec = tie.close (tie.spec list-requires answered-requires same-length returns)

@@ -24,6 +24,12 @@ add-read-2 c = search needs
 read-requires-3 : tie.Need-read-requires-3
 read-requires-3 c κs = search needs
 
+add-read-wide : tie.Need-add-read-wide
+add-read-wide c = search needs
+
+read-wide-requires : tie.Need-read-wide-requires
+read-wide-requires c κs = search needs
+
 returns : tie.Need-returns
 unfolding entryAt
 returns c = cc
@@ -39,4 +45,6 @@ read-entry-spec =
     read-requires-2
     add-read-2
     read-requires-3
+    add-read-wide
+    read-wide-requires
     returns)

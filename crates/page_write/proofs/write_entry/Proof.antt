@@ -18,6 +18,12 @@ add-write-2 c = search needs
 write-requires-3 : tie.Need-write-requires-3
 write-requires-3 c κs = search needs
 
+add-write-wide : tie.Need-add-write-wide
+add-write-wide c = search needs
+
+write-wide-requires : tie.Need-write-wide-requires
+write-wide-requires c κs = search needs
+
 same-length : tie.Need-same-length
 same-length c = search needs
 
@@ -33,5 +39,7 @@ write-entry-spec =
     write-requires-2
     add-write-2
     write-requires-3
+    add-write-wide
+    write-wide-requires
     same-length
     returns)

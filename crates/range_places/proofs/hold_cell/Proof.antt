@@ -1,19 +1,18 @@
 -- What the chain still has from p on, over the table, is what the whole chain has over the table at the start.
 use Rattle.page.proofs.ChainLaws.{was-there}
-use Rattle.desk.specs.Views.{rectOf}
 use Rattle.memo_index.specs.Index.{judged}
-use Rattle.range_places.specs.Places.{placesIn}
+use Rattle.range_places.specs.Places.{soughtOf, placesIn}
 use Rattle.range_places.proofs.TableLaws.{Walking, walking-start, walking-ended, walking-out, walking-lost, walking-radios, walking-turn}
 use borrow.Author.Needs.{needs}
 use Rattle.range_places.proofs.hold_cell.Statement.{statement}
 use Rattle.range_places.proofs.hold_cell.Tie as tie
 
 abbrev Inv-loop : tie.InvT-loop
-Inv-loop pages area first words lines easts₀ norths₀ marks₀ p₀ fuel₀ easts norths marks p fuel =
-    Walking (judged words lines) pages (rectOf area) first (placesIn easts₀ norths₀ marks₀) p fuel easts norths marks
+Inv-loop pages search₁ first words lines easts₀ norths₀ marks₀ p₀ fuel₀ easts norths marks p fuel =
+    Walking (judged words lines) pages (soughtOf search₁) first (placesIn easts₀ norths₀ marks₀) p fuel easts norths marks
 
 abbrev μ-loop : tie.MeasureT-loop
-μ-loop pages area first words lines easts₀ norths₀ marks₀ p₀ fuel₀ easts norths marks p fuel = fuel
+μ-loop pages search₁ first words lines easts₀ norths₀ marks₀ p₀ fuel₀ easts norths marks p fuel = fuel
 
 loop-holds : tie.Need-loop-holds Inv-loop μ-loop
 loop-holds c = search walking-start

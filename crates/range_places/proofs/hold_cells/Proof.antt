@@ -2,20 +2,20 @@
 use Prim.Native.Nat.{_-_, _≤_}
 use lib.ListN.{take}
 use Rattle.desk.specs.Held.{directoryIn}
-use Rattle.desk.specs.Views.{slotsIn, rectOf}
+use Rattle.desk.specs.Views.{slotsIn}
 use Rattle.memo_index.specs.Index.{judged}
-use Rattle.range_places.specs.Places.{placesIn, Holds, over, slotOver}
+use Rattle.range_places.specs.Places.{soughtOf, placesIn, Holds, over, slotOver}
 use Rattle.range_places.proofs.TableLaws.{cells-start, cells-radios, cells-turn, cells-end}
 use borrow.Author.Needs.{needs}
 use Rattle.range_places.proofs.hold_cells.Statement.{statement}
 use Rattle.range_places.proofs.hold_cells.Tie as tie
 
 abbrev Inv-loop : tie.InvT-loop
-Inv-loop pages area cells n words lines easts₀ norths₀ marks₀ i₀ easts norths marks i =
-    (i ≤ n) × Holds easts norths marks (over (slotOver (judged words lines) pages (rectOf area)) (take i (slotsIn (directoryIn n cells))) (placesIn easts₀ norths₀ marks₀))
+Inv-loop pages search₁ cells n words lines easts₀ norths₀ marks₀ i₀ easts norths marks i =
+    (i ≤ n) × Holds easts norths marks (over (slotOver (judged words lines) pages (soughtOf search₁)) (take i (slotsIn (directoryIn n cells))) (placesIn easts₀ norths₀ marks₀))
 
 abbrev μ-loop : tie.MeasureT-loop
-μ-loop pages area cells n words lines easts₀ norths₀ marks₀ i₀ easts norths marks i = n - i
+μ-loop pages search₁ cells n words lines easts₀ norths₀ marks₀ i₀ easts norths marks i = n - i
 
 loop-holds : tie.Need-loop-holds Inv-loop μ-loop
 loop-holds c = (search needs, search cells-start)

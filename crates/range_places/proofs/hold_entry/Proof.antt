@@ -9,8 +9,8 @@ is-stale-requires c κs = search needs
 returns : tie.Need-returns
 returns c = search entry-stale
 
-is-covered-requires : tie.Need-is-covered-requires
-is-covered-requires c κs = search needs
+is-sought-requires : tie.Need-is-sought-requires
+is-sought-requires c κs = search needs
 
 hold-requires : tie.Need-hold-requires
 hold-requires c κs = search needs
@@ -19,4 +19,4 @@ returns-2 : tie.Need-returns-2
 returns-2 c = search entry-held
 
 pub hold-entry-spec : {M : Type 1} → statement M
-hold-entry-spec = tie.close (tie.spec is-stale-requires returns is-covered-requires hold-requires returns-2)
+hold-entry-spec = tie.close (tie.spec is-stale-requires returns is-sought-requires hold-requires returns-2)

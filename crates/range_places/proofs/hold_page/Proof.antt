@@ -3,20 +3,19 @@ use Prim.Native.Nat.{_-_, _≤_}
 use Rattle.lists.specs.Parts.{tab}
 use Rattle.page.specs.Page.{entryAt}
 use Rattle.page.proofs.ChainLaws.{there-bounds}
-use Rattle.desk.specs.Views.{rectOf}
 use Rattle.memo_index.specs.Index.{judged}
-use Rattle.range_places.specs.Places.{placesIn, Holds, entriesOver}
+use Rattle.range_places.specs.Places.{soughtOf, placesIn, Holds, entriesOver}
 use Rattle.range_places.proofs.TableLaws.{page-start, page-end, page-radio, page-turn}
 use borrow.Author.Needs.{needs}
 use Rattle.range_places.proofs.hold_page.Statement.{statement}
 use Rattle.range_places.proofs.hold_page.Tie as tie
 
 abbrev Inv-loop : tie.InvT-loop
-Inv-loop pages area p words lines easts₀ norths₀ marks₀ page n i₀ easts norths marks i =
-    (i ≤ n) × Holds easts norths marks (entriesOver (judged words lines) (rectOf area) (tab i (entryAt page)) (placesIn easts₀ norths₀ marks₀))
+Inv-loop pages search₁ p words lines easts₀ norths₀ marks₀ page n i₀ easts norths marks i =
+    (i ≤ n) × Holds easts norths marks (entriesOver (judged words lines) (soughtOf search₁) (tab i (entryAt page)) (placesIn easts₀ norths₀ marks₀))
 
 abbrev μ-loop : tie.MeasureT-loop
-μ-loop pages area p words lines easts₀ norths₀ marks₀ page n i₀ easts norths marks i = n - i
+μ-loop pages search₁ p words lines easts₀ norths₀ marks₀ page n i₀ easts norths marks i = n - i
 
 page-at-requires : tie.Need-page-at-requires Inv-loop μ-loop
 page-at-requires c κs = search there-bounds

@@ -6,6 +6,9 @@ use Rattle.records.proofs.request.Tie as tie
 kind-field-requires : tie.Need-kind-field-requires
 kind-field-requires c κs = search needs
 
+minute-field-requires : tie.Need-minute-field-requires
+minute-field-requires c κs = search needs
+
 placed-body-requires : tie.Need-placed-body-requires
 placed-body-requires c κs = search on-there
 
@@ -32,14 +35,4 @@ returns-4 c = search asked-range
 
 pub request-spec : {M : Type 1} → statement M
 request-spec =
-    tie.close
-    (tie.spec
-    kind-field-requires
-    placed-body-requires
-    returns
-    placed-body-requires-2
-    returns-2
-    radio-field-requires
-    returns-3
-    range-body-requires
-    returns-4)
+    tie.close (tie.spec kind-field-requires minute-field-requires placed-body-requires returns placed-body-requires-2 returns-2 radio-field-requires returns-3 range-body-requires returns-4)

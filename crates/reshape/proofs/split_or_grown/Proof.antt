@@ -40,7 +40,15 @@ same-length-2 : tie.Need-same-length-2
 same-length-2 c = search needs
 
 returns-2 : tie.Need-returns-2
-returns-2 c = λ x. search (uncut-returns (x .midway) (c .before .before .before .before .before .before .before .before .before .before .before .before .before .before .before .before .before .pre .1))
+returns-2 c =
+    λ x.
+    let p = c .before .before in
+    let n = p .before .before .before .before in
+    let o = n .before .before in
+    let d = o .before .before .before .before in
+    let i = d .before .before in
+    let e = i .before .before .before in
+    uncut-returns (x .midway) (e .pre .1) (i .if1 .left) (d .slot-at .ensures) (o .chosen-cut .ensures) (n .enum-told .given .1) (p .settled-last2 .ensures)
 
 split-requires : tie.Need-split-requires
 split-requires c κs =

@@ -1,5 +1,5 @@
 use borrow.Author.Needs.{needs}
-use Rattle.sound_page.proofs.CodeLaws.{ok-not-page, ok-not-full, ok-not-above, ok-inside}
+use Rattle.sound_page.proofs.CodeLaws.{ok-not-page, ok-not-full, ok-not-above, ok-belong}
 use Rattle.sound_page.proofs.page_ok.Statement.{statement}
 use Rattle.sound_page.proofs.page_ok.Tie as tie
 
@@ -24,11 +24,11 @@ starts-above-requires c κs = search needs
 returns-3 : tie.Need-returns-3
 returns-3 c = search ok-not-above
 
-all-inside-requires : tie.Need-all-inside-requires
-all-inside-requires c κs = search needs
+all-belong-requires : tie.Need-all-belong-requires
+all-belong-requires c κs = search needs
 
 returns-4 : tie.Need-returns-4
-returns-4 c = search ok-inside
+returns-4 c = search ok-belong
 
 pub page-ok-spec : {M : Type 1} → statement M
 page-ok-spec =
@@ -41,5 +41,5 @@ page-ok-spec =
     entry-count-requires
     starts-above-requires
     returns-3
-    all-inside-requires
+    all-belong-requires
     returns-4)

@@ -1,6 +1,5 @@
 use Rattle.sound_pages.proofs.WalkLaws.{sound-short, sound-many, sound-no-cells, sound-no-chain, sound-all}
 use borrow.Author.Needs.{needs}
-use borrow.Author.Needs.{needs}
 use Rattle.sound_pages.proofs.pages_sound.Statement.{statement}
 use Rattle.sound_pages.proofs.pages_sound.Tie as tie
 
@@ -8,10 +7,10 @@ mul-if1 : tie.Need-mul-if1
 mul-if1 c = search needs
 
 returns : tie.Need-returns
-returns c = sound-short _ _ _ (c .if1 .taken)
+returns c = sound-short _ _ _ _ (c .if1 .taken)
 
 returns-2 : tie.Need-returns-2
-returns-2 c = sound-many _ _ _ (c .before .before .before .pre) (c .if2 .taken)
+returns-2 c = sound-many _ _ _ _ (c .before .before .before .pre) (c .if2 .taken)
 
 no-marks-requires : tie.Need-no-marks-requires
 no-marks-requires c κs = search needs
@@ -24,7 +23,7 @@ returns-3 c =
     let w = c .before in
     let k = w .before .before .before in
     let l = k .before in
-    sound-no-cells _ _ _ (l .before .before .pre) (λ i. l .before .shared-slice-known .given i .fits) (l .if1 .left) (k .if2 .left) (w .before .before .no-marks .ensures) (w .walk-slots .ensures) (c .if3 .taken)
+    sound-no-cells _ _ _ _ (l .before .before .pre) (λ i. l .before .shared-slice-known .given i .fits) (l .if1 .left) (k .if2 .left) (w .before .before .no-marks .ensures) (w .walk-slots .ensures) (c .if3 .taken)
 
 walk-free-requires : tie.Need-walk-free-requires
 walk-free-requires c κs = search needs
@@ -35,7 +34,7 @@ returns-4 c =
     let w = e .before in
     let k = w .before .before .before in
     let l = k .before in
-    sound-no-chain _ _ _ (l .before .before .pre) (λ i. l .before .shared-slice-known .given i .fits) (l .if1 .left) (k .if2 .left) (w .before .before .no-marks .ensures) (w .walk-slots .ensures) (e .if3 .left) (c .before .walk-free .ensures) (c .if4 .taken)
+    sound-no-chain _ _ _ _ (l .before .before .pre) (λ i. l .before .shared-slice-known .given i .fits) (l .if1 .left) (k .if2 .left) (w .before .before .no-marks .ensures) (w .walk-slots .ensures) (e .if3 .left) (c .before .walk-free .ensures) (c .if4 .taken)
 
 all-marked-requires : tie.Need-all-marked-requires
 all-marked-requires c κs = search needs
@@ -47,7 +46,7 @@ returns-5 c =
     let w = e .before in
     let k = w .before .before .before in
     let l = k .before in
-    sound-all _ _ _ (l .before .before .pre) (λ i. l .before .shared-slice-known .given i .fits) (l .if1 .left) (k .if2 .left) (w .before .before .no-marks .ensures) (w .walk-slots .ensures) (e .if3 .left) (f .before .walk-free .ensures) (f .if4 .left) (c .all-marked .ensures)
+    sound-all _ _ _ _ (l .before .before .pre) (λ i. l .before .shared-slice-known .given i .fits) (l .if1 .left) (k .if2 .left) (w .before .before .no-marks .ensures) (w .walk-slots .ensures) (e .if3 .left) (f .before .walk-free .ensures) (f .if4 .left) (c .all-marked .ensures)
 
 pub pages-sound-spec : {M : Type 1} → statement M
 pages-sound-spec =

@@ -7,10 +7,10 @@ use Rattle.sound_pages.proofs.walk_chain.Statement.{statement}
 use Rattle.sound_pages.proofs.walk_chain.Tie as tie
 
 abbrev Inv-loop : tie.InvT-loop
-Inv-loop pages s m₀ p₀ kind₀ low₀ fuel₀ m p kind low fuel = chainTest fuel pages s m kind low p ≡ slotTest pages m₀ s
+Inv-loop pages s highest m₀ p₀ kind₀ low₀ fuel₀ m p kind low fuel = chainTest highest fuel pages s m kind low p ≡ slotTest highest pages m₀ s
 
 abbrev μ-loop : tie.MeasureT-loop
-μ-loop pages s m₀ p₀ kind₀ low₀ fuel₀ m p kind low fuel = fuel
+μ-loop pages s highest m₀ p₀ kind₀ low₀ fuel₀ m p kind low fuel = fuel
 
 cast-p : tie.Need-cast-p Inv-loop μ-loop
 cast-p c = search needs

@@ -10,10 +10,10 @@ use Rattle.sound_pages.proofs.walk_slots.Statement.{statement}
 use Rattle.sound_pages.proofs.walk_slots.Tie as tie
 
 abbrev Inv-loop : tie.InvT-loop
-Inv-loop pages cells n marks₀ i₀ marks i = (i ≤ n) × (slotsTest pages marks (drop i (take n (everySlot cells))) ≡ slotsTest pages marks₀ (take n (everySlot cells)))
+Inv-loop pages cells n highest marks₀ i₀ marks i = (i ≤ n) × (slotsTest highest pages marks (drop i (take n (everySlot cells))) ≡ slotsTest highest pages marks₀ (take n (everySlot cells)))
 
 abbrev μ-loop : tie.MeasureT-loop
-μ-loop pages cells n marks₀ i₀ marks i = n - i
+μ-loop pages cells n highest marks₀ i₀ marks i = n - i
 
 loop-holds : tie.Need-loop-holds Inv-loop μ-loop
 loop-holds c = (search needs, refl)

@@ -1,5 +1,4 @@
-use Rattle.sound_rows.proofs.ColumnsLaws.{radios-unclear, easts-unclear, norths-unclear, marks-clear}
-use borrow.Author.Needs.{needs}
+use Rattle.sound_rows.proofs.ColumnsLaws.{radios-unclear, easts-unclear, norths-unclear, marks-unclear, lows-unclear, highs-clear}
 use borrow.Author.Needs.{needs}
 use Rattle.sound_rows.proofs.reports_clear.Statement.{statement}
 use Rattle.sound_rows.proofs.reports_clear.Tie as tie
@@ -26,7 +25,19 @@ column-clear-requires-4 : tie.Need-column-clear-requires-4
 column-clear-requires-4 c κs = search needs
 
 returns-4 : tie.Need-returns-4
-returns-4 c = search marks-clear
+returns-4 c = search marks-unclear
+
+column-clear-requires-5 : tie.Need-column-clear-requires-5
+column-clear-requires-5 c κs = search needs
+
+returns-5 : tie.Need-returns-5
+returns-5 c = search lows-unclear
+
+column-clear-requires-6 : tie.Need-column-clear-requires-6
+column-clear-requires-6 c κs = search needs
+
+returns-6 : tie.Need-returns-6
+returns-6 c = search highs-clear
 
 pub reports-clear-spec : {M : Type 1} → statement M
 reports-clear-spec =
@@ -39,4 +50,8 @@ reports-clear-spec =
     column-clear-requires-3
     returns-3
     column-clear-requires-4
-    returns-4)
+    returns-4
+    column-clear-requires-5
+    returns-5
+    column-clear-requires-6
+    returns-6)

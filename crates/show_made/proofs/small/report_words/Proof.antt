@@ -6,7 +6,7 @@ use Rattle.show_made.proofs.small.report_words.Statement.{statement}
 use Rattle.show_made.proofs.small.report_words.Tie as tie
 
 abbrev Inv-loop : tie.InvT-loop
-Inv-loop waiting words₀ i₀ words i = (i ≤ 128) × (length words ≡ 512)
+Inv-loop waiting words₀ i₀ words i = (i ≤ 128) × (length words ≡ 768)
 
 abbrev μ-loop : tie.MeasureT-loop
 μ-loop waiting words₀ i₀ words i = 128 - i
