@@ -1,7 +1,8 @@
 -- Each check on a record's bytes, read off its fields one test at a time, and the first that fails.
-use mathlib.Core.Bool.{Bool, true, false, not, cond}
+use mathlib.Core.Bool.{Bool, true, false, not}
 use mathlib.Core.List.{List}
 use mathlib.Core.Logic.{_≢_}
+use mathlib.Core.Option.{Option, none, some}
 use mathlib.Core.Path.{_≡_, refl, sym, ap, ap₂, _∙_}
 use Prim.Native.Nat.{ℕ, _+_, _-_, _≤_, _<_}
 use native.Mathlib.Omega.{arith}
@@ -11,42 +12,50 @@ use borrow.Author.Tests.{lt-ltb, le-ltb, ltb-false, eq-eqb, ne-eqb, eqb-true, eq
 use Rattle.terms.specs.Terms.{fixAt, minuteBytes, maxRadio, maxOn}
 use Rattle.lists.specs.Tests.{both, either}
 use Rattle.lists.specs.Words.{word}
-use Rattle.lists.proofs.Cases.{by-cases}
+use Rattle.lists.proofs.Cases.{by-cases, none-some, some-injective, false-true}
 use Rattle.lists.proofs.TestsLaws.{both-left-false, both-second, either-left, either-right, either-false, not-false}
-use Rattle.rules.specs.Records.{Request, signOn, report, signOff, range, lengthField, kindField, lengthOf, radioField, placeField, minuteField, fixField, rectField, requestOf, kindSignOn, kindReport, kindSignOff, kindRange, notAtHand, unknownKind, wrongLength, noRadio, noFix, tooEarly, reversed, onAlready, notOn, noRoom, refusal}
+use Rattle.rules.specs.Records.{Request, signOn, report, signOff, range, lengthField, kindField, lengthOf, isLength, radioField, placeField, minuteField, fixField, rectField, requestOf, kindSignOn, kindReport, kindSignOff, kindRange, notAtHand, unknownKind, wrongLength, noRadio, noFix, tooEarly, reversed, onAlready, notOn, noRoom, refusal}
+use Rattle.rules.specs.Lengths.{InTable, sign-on-row, report-row, sign-off-row, range-row, no-row}
 use Rattle.rules.specs.Grid.{Rect}
+use Rattle.rules.proofs.LengthsLaws.{every-kind}
 use Rattle.rules.proofs.RecordLaws.{passed}
 use Rattle.desk.specs.Held.{On}
 use Rattle.desk.specs.Views.{radiosOf}
 use Rattle.waiting.specs.On.{WholeOn}
 use Rattle.waiting.proofs.OnLaws.{count-on-laid}
+use Rattle.records.specs.declared.Length.{Length}
+use Rattle.records.specs.declared.Length.the-variants.{Bytes, NoSuchKind}
 use Rattle.records.specs.declared.Placed.{Placed}
 use Rattle.records.specs.declared.Edges.{Edges}
-use Rattle.records.specs.Asked.{headBytes, signOffBytes, placedBytes, rangeBytes, Whole, Checked, asks, fails, checked}
+use Rattle.records.specs.Asked.{headBytes, radioEnd, placeEnd, rectEnd, lengthIn, Whole, Checked, asks, fails, checked}
 
 -- ---- lengths
 
-module _ (kind : ℕ) where
-  pub length-range : kind ≡ kindRange → rangeBytes ≡ lengthOf kind
-  unfolding lengthOf
-  length-range e = rw (eq-eqb kind kindRange e)
+-- a kind that has a length is one of the four, and its body has room before the minute
+record Roomy (kind n : ℕ) : Type 0 where
+  named : kindSignOn ≤ kind
+  known : kind ≤ kindRange
+  radio : radioEnd + minuteBytes ≤ n
+  place : kind < kindSignOff → placeEnd + minuteBytes ≤ n
+  rect : kind ≡ kindRange → rectEnd + minuteBytes ≤ n
 
-  pub length-off : kind ≢ kindRange → kind ≡ kindSignOff → signOffBytes ≡ lengthOf kind
-  unfolding lengthOf
-  length-off n e = rw (ne-eqb kind kindRange n, eq-eqb kind kindSignOff e)
+row-roomy : {kind : ℕ} {o : Option ℕ} (n : ℕ) → InTable kind o → o ≡ some n → Roomy kind n
+row-roomy n sign-on-row e =
+    let z = some-injective e in record { named = omega arith; known = omega arith; radio = omega arith; place = λ h. omega arith; rect = λ h. omega arith }
+row-roomy n report-row e =
+    let z = some-injective e in record { named = omega arith; known = omega arith; radio = omega arith; place = λ h. omega arith; rect = λ h. omega arith }
+row-roomy n sign-off-row e =
+    let z = some-injective e in record { named = omega arith; known = omega arith; radio = omega arith; place = λ h. omega arith; rect = λ h. omega arith }
+row-roomy n range-row e =
+    let z = some-injective e in record { named = omega arith; known = omega arith; radio = omega arith; place = λ h. omega arith; rect = λ h. omega arith }
+row-roomy n (no-row kind g h i j) e = none-some e
 
-  pub length-placed : kind ≢ kindRange → kind ≢ kindSignOff → placedBytes ≡ lengthOf kind
-  unfolding lengthOf
-  length-placed n m = rw (ne-eqb kind kindRange n, ne-eqb kind kindSignOff m)
+roomy : (b : List ℕ) → Whole b → Roomy (kindField b) (lengthField b)
+roomy b w = row-roomy (lengthField b) (every-kind (kindField b)) (w .long)
 
-  length-least : signOffBytes ≤ lengthOf kind
-  unfolding lengthOf
-  length-least = least (eqb kind kindRange) (eqb kind kindSignOff)
-    where
-      least : (a b : Bool) → signOffBytes ≤ cond a rangeBytes (cond b signOffBytes placedBytes)
-      least true b = omega arith
-      least false true = omega arith
-      least false false = omega arith
+is-length : (o : Option ℕ) (n : ℕ) → isLength o n ≡ true → o ≡ some n
+is-length none n e = false-true e
+is-length (some m) n e = ap some (sym (eqb-true n m e))
 
 module _ (b : List ℕ) where
   -- ---- 3
@@ -64,24 +73,30 @@ module _ (b : List ℕ) where
     unfolding notAtHand either
     stated-above g h = rw (le-ltb (length b) 4 g, le-ltb (lengthField b) 4 (omega (arith, stated))) (ap (ltb (length b)) stated)
 
-    -- ---- 5
-
-    pub length-differs : {k m : ℕ} → k ≡ kindField b → m ≡ lengthOf k → not (eqb n m) ≡ wrongLength b
-    unfolding wrongLength
-    length-differs e f = ap₂ (λ (x y : ℕ). not (eqb x y)) stated (f ∙ ap lengthOf e)
-
   -- ---- by the kind
 
   module _ {k : ℕ} (kind : k ≡ kindField b) where
-    -- 4
+    -- 4 and 5, by the length that the kind has
 
-    pub kind-below : k < kindSignOn → true ≡ unknownKind b
-    unfolding unknownKind
-    kind-below h = sym (either-left _ (lt-ltb (kindField b) 1 (omega (arith, kind))))
+    module _ (l : Length) (told : lengthIn l ≡ lengthOf k) where
+      given : lengthOf (kindField b) ≡ lengthIn l
+      given = sym (told ∙ ap lengthOf kind)
 
-    pub kind-above : kindSignOn ≤ k → ltb kindRange k ≡ unknownKind b
-    unfolding unknownKind either
-    kind-above h = rw (le-ltb (kindField b) 1 (omega (arith, kind))) (ap (ltb kindRange) kind)
+      pub kind-known : {n : ℕ} → l ≡ Bytes n → false ≡ unknownKind b
+      unfolding unknownKind
+      kind-known is = rw (given, is)
+
+      pub kind-unknown : l ≡ NoSuchKind → true ≡ unknownKind b
+      unfolding unknownKind
+      kind-unknown is = rw (given, is)
+
+      pub length-differs : {n m : ℕ} → l ≡ Bytes n → m ≡ lengthField b → not (eqb m n) ≡ wrongLength b
+      unfolding wrongLength
+      length-differs is stated = rw (given, is, stated)
+
+      pub length-none : l ≡ NoSuchKind → true ≡ wrongLength b
+      unfolding wrongLength
+      length-none is = rw (given, is)
 
     -- 6
 
@@ -100,8 +115,8 @@ module _ (b : List ℕ) where
 
     -- 12
 
-    pub fix-there : Whole b → k < kindSignOff → placedBytes ≤ length b
-    fix-there w h = omega (arith, length-placed (kindField b) (omega (arith, kind)) (omega (arith, kind)), w .body)
+    pub fix-there : Whole b → k < kindSignOff → placeEnd ≤ length b
+    fix-there w h = omega (arith, roomy b w .place (omega (arith, kind)), w .there)
 
     pub fix-other : kindSignOff ≤ k → false ≡ noFix b
     unfolding noFix
@@ -120,8 +135,8 @@ module _ (b : List ℕ) where
 
     -- 7
 
-    pub rect-there : Whole b → k ≡ kindRange → rangeBytes ≤ length b
-    rect-there w h = omega (arith, length-range (kindField b) (omega (arith, kind)), w .body)
+    pub rect-there : Whole b → k ≡ kindRange → rectEnd ≤ length b
+    rect-there w h = omega (arith, roomy b w .rect (omega (arith, kind)), w .there)
 
     pub rect-other : k ≢ kindRange → false ≡ reversed b
     unfolding reversed
@@ -180,17 +195,16 @@ module _ (b : List ℕ) where
 -- ---- the minute
 
 module _ (b : List ℕ) (w : Whole b) where
-  pub minute-inside : {k n : ℕ} → k ≡ kindField b → n ≡ lengthOf k → minuteBytes ≤ n
-  minute-inside {k} kind e = omega (arith, length-least k, e)
+  module _ {n : ℕ} (stated : n ≡ lengthField b) where
+    pub minute-inside : minuteBytes ≤ n
+    minute-inside = omega (arith, stated, roomy b w .radio)
 
-  pub minute-there : {k n : ℕ} → k ≡ kindField b → n ≡ lengthOf k → n - minuteBytes + minuteBytes ≤ length b
-  minute-there {k} {n} kind e =
-      let z : n ≡ lengthOf (kindField b) = e ∙ ap lengthOf kind in
-      omega (arith, length-least k, e, z, w .body)
+    pub minute-there : n - minuteBytes + minuteBytes ≤ length b
+    minute-there = omega (arith, stated, roomy b w .radio, w .there)
 
-  pub minute-read : {k n m : ℕ} → k ≡ kindField b → n ≡ lengthOf k → m ≡ word minuteBytes b (n - minuteBytes) → m ≡ minuteField b
-  unfolding minuteField
-  minute-read kind e f = f ∙ ap (λ (x : ℕ). word minuteBytes b (x - minuteBytes)) (e ∙ ap lengthOf kind)
+    pub minute-read : {m : ℕ} → m ≡ word minuteBytes b (n - minuteBytes) → m ≡ minuteField b
+    unfolding minuteField
+    minute-read e = e ∙ ap (λ (x : ℕ). word minuteBytes b (x - minuteBytes)) stated
 
   pub early-told : (highest : ℕ) {m : ℕ} → m ≡ minuteField b → ltb m highest ≡ tooEarly highest b
   unfolding tooEarly
@@ -265,19 +279,15 @@ module _ (b : List ℕ) {t₃ : Bool} (e₃ : t₃ ≡ notAtHand b) (p₃ : t₃
   pub head-there : headBytes ≤ length b
   head-there = at-hand .0
 
-  module _ {t₄ t₅ : Bool} (e₄ : t₄ ≡ unknownKind b) (p₄ : t₄ ≡ false) (e₅ : t₅ ≡ wrongLength b) (p₅ : t₅ ≡ false) where
-    kinds : (kindSignOn ≤ kindField b) × (kindField b ≤ kindRange)
-    unfolding unknownKind
-    kinds = let u = either-false _ _ (sym e₄ ∙ p₄) in (ltb-false (kindField b) 1 (u .0), ltb-false 4 (kindField b) (u .1))
-
-    lengths : lengthField b ≡ lengthOf (kindField b)
+  module _ {t₅ : Bool} (e₅ : t₅ ≡ wrongLength b) (p₅ : t₅ ≡ false) where
+    length-right : lengthOf (kindField b) ≡ some (lengthField b)
     unfolding wrongLength
-    lengths = eqb-true (lengthField b) (lengthOf (kindField b)) (not-false _ (sym e₅ ∙ p₅))
+    length-right = is-length (lengthOf (kindField b)) (lengthField b) (not-false _ (sym e₅ ∙ p₅))
 
     pub whole : Whole b
     whole =
-        let l = length-least (kindField b) in
-        record { named = kinds .0; known = kinds .1; least = omega (arith, lengths, at-hand); body = omega (arith, lengths, at-hand) }
+        let r = row-roomy (lengthField b) (every-kind (kindField b)) length-right in
+        record { long = length-right; there = at-hand .1; least = omega (arith, r .radio, at-hand) }
 
 -- ---- what is asked
 
@@ -285,14 +295,14 @@ abbrev rectIn : Edges → Rect
 rectIn x = record { easts = record { low = x .west; high = x .east }; norths = record { low = x .south; high = x .north } }
 
 module _ (b : List ℕ) (w : Whole b) {k : ℕ} (kind : k ≡ kindField b) where
-  pub on-there : k ≡ kindSignOn → placedBytes ≤ length b
-  on-there h = omega (arith, length-placed (kindField b) (omega (arith, kind)) (omega (arith, kind)), w .body)
+  pub on-there : k ≡ kindSignOn → placeEnd ≤ length b
+  on-there h = fix-there b kind w (omega arith)
 
-  pub report-there : k ≡ kindReport → placedBytes ≤ length b
-  report-there h = omega (arith, length-placed (kindField b) (omega (arith, kind)) (omega (arith, kind)), w .body)
+  pub report-there : k ≡ kindReport → placeEnd ≤ length b
+  report-there h = fix-there b kind w (omega arith)
 
-  pub range-there : k ≢ kindSignOn → k ≢ kindReport → k ≢ kindSignOff → rangeBytes ≤ length b
-  range-there l m n = rect-there b kind w (omega (arith, l, m, n, w, kind))
+  pub range-there : k ≢ kindSignOn → k ≢ kindReport → k ≢ kindSignOff → rectEnd ≤ length b
+  range-there l m n = let r = roomy b w in rect-there b kind w (omega (arith, l, m, n, r .named, r .known, kind))
 
   module _ (p : Placed) (body : p ≡ record { radio = radioField b; east = placeField b .east; north = placeField b .north }) {m : ℕ} (minute : m ≡ minuteField b) where
     pub asked-on : k ≡ kindSignOn → asks (signOn (p .radio) (fixAt (p .east) (p .north) m)) ≡ asks (requestOf b)
@@ -331,7 +341,7 @@ Ordered (range rect minute) = (rect .easts .low ≤ rect .easts .high) × (rect 
 
 module _ (highest : ℕ) (on : ℕ → Bool) (many : ℕ) (b : List ℕ) (zero : refusal highest on many b ≡ 0) where
   passed-whole : Whole b
-  passed-whole = let p = passed highest on many b zero in whole b refl (p .at-hand) refl (p .kind) refl (p .long)
+  passed-whole = let p = passed highest on many b zero in whole b refl (p .at-hand) refl (p .long)
 
   -- "west above east or south above north" is no range's edges
   pub ordered : Ordered (requestOf b)
@@ -346,8 +356,8 @@ module _ (highest : ℕ) (on : ℕ → Bool) (many : ℕ) (b : List ℕ) (zero :
       (λ v. let l = eqb-false (kindField b) kindSignOn t in
       let m = eqb-false (kindField b) kindReport u in
       let n = eqb-false (kindField b) kindSignOff v in
-      let w = passed-whole in
-      let e = either-false _ _ (both-second _ _ (eq-eqb (kindField b) kindRange (omega (arith, l, m, n, w))) (passed highest on many b zero .edges)) in
+      let w = roomy b passed-whole in
+      let e = either-false _ _ (both-second _ _ (eq-eqb (kindField b) kindRange (omega (arith, l, m, n, w .named, w .known))) (passed highest on many b zero .edges)) in
       rw (t, u, v) (ltb-false (rectField b .easts .high) (rectField b .easts .low) (e .0), ltb-false (rectField b .norths .high) (rectField b .norths .low) (e .1)))))
 
 -- ---- the whole

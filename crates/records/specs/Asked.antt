@@ -9,12 +9,14 @@ use lib.ListN.{length}
 use Rattle.terms.specs.Terms.{Fix, fixAt, maxRadio, maxOn}
 use Rattle.lists.specs.Rows.{find}
 use Rattle.lists.specs.Tests.{isSome}
-use Rattle.rules.specs.Records.{Request, signOn, report, signOff, range, kindField, kindSignOn, kindRange, lengthOf}
+use Rattle.rules.specs.Records.{Request, signOn, report, signOff, range, lengthField, kindField, lengthOf}
 use Rattle.rules.specs.Store.{Store}
 use Rattle.rules.specs.Carry.{isOn, onCount}
 use Rattle.rules.specs.WellFormed.{InSquare}
 use Rattle.desk.specs.Held.{On}
 use Rattle.desk.specs.Views.{radiosOf}
+use Rattle.records.specs.declared.Length.{Length}
+use Rattle.records.specs.declared.Length.the-variants.{Bytes, NoSuchKind}
 use Rattle.records.specs.declared.Asked.{Asked}
 use Rattle.records.specs.declared.Asked.the-variants.{SignOn, Report, SignOff, Range, Refused}
 
@@ -22,22 +24,26 @@ use Rattle.records.specs.declared.Asked.the-variants.{SignOn, Report, Si
 abbrev pub headBytes : ℕ
 headBytes = 4
 
--- "the lengths become 14, 14, 10 and 16"
-abbrev pub signOffBytes : ℕ
-signOffBytes = 10
+-- where a body ends, before its minute: "radio", "radio, east, north", "west, east, south, north"
+abbrev pub radioEnd : ℕ
+radioEnd = 6
 
-abbrev pub placedBytes : ℕ
-placedBytes = 14
+abbrev pub placeEnd : ℕ
+placeEnd = 10
 
-abbrev pub rangeBytes : ℕ
-rangeBytes = 16
+abbrev pub rectEnd : ℕ
+rectEnd = 12
 
--- the kind is one of the four, and as many bytes as it wants are at hand: no fewer than a sign-off has
+-- the length in each case, "and none for any other kind"
+abbrev pub lengthIn : Length → Option ℕ
+lengthIn (Bytes n) = some n
+lengthIn NoSuchKind = none
+
+-- the length is the one for its kind, and as many bytes are at hand: no fewer than a radio and what stands before it
 pub record Whole (b : List ℕ) : Type 0 where
-  pub named : kindSignOn ≤ kindField b
-  pub known : kindField b ≤ kindRange
-  pub least : signOffBytes ≤ length b
-  pub body : lengthOf (kindField b) ≤ length b
+  pub long : lengthOf (kindField b) ≡ some (lengthField b)
+  pub there : lengthField b ≤ length b
+  pub least : radioEnd ≤ length b
 
 -- who is on, by the desk
 abbrev pub onIn : On → ℕ → Bool

@@ -8,7 +8,7 @@ ghost use Rattle.rules.specs.Records.{lengthField, kindField, lengthOf, radioFi
 ghost use Rattle.desk.specs.Views.{radiosOf};
 ghost use Rattle.desk.specs.Held.{onWith};
 ghost use Rattle.waiting.specs.On.{WholeOn};
-ghost use Rattle.records.specs.Asked.{headBytes, signOffBytes, placedBytes, rangeBytes, Whole, onIn, asks, askedOf, checked};
+ghost use Rattle.records.specs.Asked.{headBytes, radioEnd, placeEnd, rectEnd, lengthIn, Whole, onIn, asks, askedOf, checked};
 use desk::Desk;
 use terms::MAX_RADIO;
 
@@ -23,14 +23,14 @@ pub const KIND_RANGE: u16 = 4;
 // The length and the kind.
 pub const HEAD_BYTES: usize = 4;
 
-pub const PLACED_BYTES: u16 = 14;
-
-pub const SIGN_OFF_BYTES: u16 = 10;
-
-pub const RANGE_BYTES: u16 = 16;
-
 // The minute, which every record ends with.
 const MINUTE_BYTES: usize = 4;
+
+// How long a record of a kind is.
+enum Length {
+    Bytes(u16),
+    NoSuchKind,
+}
 
 // What is asked, radio first, or west, east, south, north, and the minute last; or the number under which it is turned down.
 pub enum Asked {
@@ -56,6 +56,21 @@ struct Edges {
     north: u16,
 }
 
+// ---- the record table
+
+// "the four kinds as four cases with the length stated in each", "and none for any other kind"
+fn length_of(kind: u16) -> Length
+    ensures { λ r. ⌜ lengthIn r ≡ lengthOf kind ⌝ }
+{
+    match kind {
+        KIND_SIGN_ON => Length::Bytes(14),
+        KIND_REPORT => Length::Bytes(14),
+        KIND_SIGN_OFF => Length::Bytes(10),
+        KIND_RANGE => Length::Bytes(16),
+        _ => Length::NoSuchKind,
+    }
+}
+
 // ---- fields
 
 // "its length in bytes"
@@ -76,7 +91,7 @@ fn kind_field(bytes: &[u8]) -> u16
 
 // "radio", which every body but a range's begins with
 fn radio_field(bytes: &[u8]) -> u16
-    requires { ⌜ signOffBytes ≤ length (now bytes) ⌝ }
+    requires { ⌜ radioEnd ≤ length (now bytes) ⌝ }
     ensures { λ r. ⌜ r ≡ radioField (now (bytes .entry)) ⌝ }
 {
     fields::read(bytes, 4)
@@ -84,7 +99,7 @@ fn radio_field(bytes: &[u8]) -> u16
 
 // "radio, east, north"
 fn placed_body(bytes: &[u8]) -> Placed
-    requires { ⌜ placedBytes ≤ length (now bytes) ⌝ }
+    requires { ⌜ placeEnd ≤ length (now bytes) ⌝ }
     ensures { λ r. ⌜ r
         ≡ record { radio = radioField (now (bytes .entry)); east = placeField (now (bytes .entry)) .east; north = placeField (now (bytes .entry)) .north } ⌝ }
 {
@@ -97,7 +112,7 @@ fn placed_body(bytes: &[u8]) -> Placed
 
 // "west, east, south, north"
 fn range_body(bytes: &[u8]) -> Edges
-    requires { ⌜ rangeBytes ≤ length (now bytes) ⌝ }
+    requires { ⌜ rectEnd ≤ length (now bytes) ⌝ }
     ensures { λ r. ⌜ r ≡ record {
       west = rectField (now (bytes .entry)) .easts .low;
       east = rectField (now (bytes .entry)) .easts .high;
@@ -113,25 +128,12 @@ fn range_body(bytes: &[u8]) -> Edges
     }
 }
 
-// The length for a kind.
-fn length_of(kind: u16) -> u16
-    ensures { λ r. ⌜ r ≡ lengthOf kind ⌝ }
-{
-    if kind == KIND_RANGE {
-        return RANGE_BYTES;
-    }
-    if kind == KIND_SIGN_OFF {
-        return SIGN_OFF_BYTES;
-    }
-    PLACED_BYTES
-}
-
 // "Every record ends with a 32-bit minute"
 fn minute_field(bytes: &[u8]) -> u32
     requires { ⌜ Whole (now bytes) ⌝ }
     ensures { λ r. ⌜ r ≡ minuteField (now (bytes .entry)) ⌝ }
 {
-    let end = length_of(kind_field(bytes)) as usize;
+    let end = length_field(bytes) as usize;
     fields::read_wide(bytes, end - MINUTE_BYTES)
 }
 
@@ -156,11 +158,10 @@ fn unknown_kind(bytes: &[u8]) -> bool
     requires { ⌜ headBytes ≤ length (now bytes) ⌝ }
     ensures { λ r. ⌜ r ≡ unknownKind (now (bytes .entry)) ⌝ }
 {
-    let kind = kind_field(bytes);
-    if kind < KIND_SIGN_ON {
-        return true;
+    match length_of(kind_field(bytes)) {
+        Length::Bytes(_) => false,
+        Length::NoSuchKind => true,
     }
-    KIND_RANGE < kind
 }
 
 // 5: "The length isn't the one for its kind."
@@ -168,7 +169,10 @@ fn wrong_length(bytes: &[u8]) -> bool
     requires { ⌜ headBytes ≤ length (now bytes) ⌝ }
     ensures { λ r. ⌜ r ≡ wrongLength (now (bytes .entry)) ⌝ }
 {
-    length_field(bytes) != length_of(kind_field(bytes))
+    match length_of(kind_field(bytes)) {
+        Length::Bytes(length) => length_field(bytes) != length,
+        Length::NoSuchKind => true,
+    }
 }
 
 // 6: "A radio is 0 or above 4,095."

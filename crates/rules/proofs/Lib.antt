@@ -4,6 +4,7 @@ pub mod DatedLaws
 pub mod FlushLaws
 pub mod LastingLaws
 pub mod LatestLaws
+pub mod LengthsLaws
 pub mod LinkLaws
 pub mod LiveLaws
 pub mod NeighbourLaws

@@ -3,6 +3,7 @@ pub mod Cut
 pub mod Flush
 pub mod Grid
 pub mod Lasting
+pub mod Lengths
 pub mod Limits
 pub mod Midway
 pub mod Neighbour

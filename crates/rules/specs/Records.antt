@@ -1,11 +1,12 @@
--- Records, and what they are turned down for (01, "Records and pages", "Turned down, in checking order"; 02, Jobs 2 and 3).
-use mathlib.Core.Bool.{Bool, not, cond}
+-- Records, and what they are turned down for (01, "Records and pages", "Turned down, in checking order"; 02, Jobs 2 to 4).
+use mathlib.Core.Bool.{Bool, false, not, cond}
 use mathlib.Core.List.{List}
+use mathlib.Core.Option.{Option, none, some}
 use Prim.Native.Nat.{ℕ, _-_}
 use lib.Dec.{eqb, leb, ltb}
 use lib.ListN.{length}
 use Rattle.terms.specs.Terms.{Place, Fix, fieldBytes, minuteBytes, maxRadio, maxOn}
-use Rattle.lists.specs.Tests.{both, either}
+use Rattle.lists.specs.Tests.{isSome, both, either}
 use Rattle.lists.specs.Words.{word}
 use Rattle.rules.specs.Grid.{Rect}
 
@@ -32,9 +33,19 @@ kindSignOff = 3
 abbrev pub kindRange : ℕ
 kindRange = 4
 
--- "the lengths become 14, 14, 10 and 16"
-unfoldable pub lengthOf : ℕ → ℕ
-lengthOf kind = cond (eqb kind kindRange) 16 (cond (eqb kind kindSignOff) 10 14)
+-- "the four kinds as four cases with the length stated in each", "and none for any other kind"
+unfoldable pub lengthOf : ℕ → Option ℕ
+lengthOf kind =
+    cond (eqb kind kindSignOn) (some 14)
+    (cond (eqb kind kindReport) (some 14)
+    (cond (eqb kind kindSignOff) (some 10)
+    (cond (eqb kind kindRange) (some 16)
+    none)))
+
+-- n is the length, where there is one
+abbrev pub isLength : Option ℕ → ℕ → Bool
+isLength none n = false
+isLength (some m) n = eqb n m
 
 -- "radio, east, north"
 unfoldable pub radioField : List ℕ → ℕ
@@ -45,7 +56,7 @@ placeField b = record { east = field b 6; north = field b 8 }
 
 -- "Every record ends with a 32-bit minute"
 unfoldable pub minuteField : List ℕ → ℕ
-minuteField b = word minuteBytes b (lengthOf (kindField b) - minuteBytes)
+minuteField b = word minuteBytes b (lengthField b - minuteBytes)
 
 unfoldable pub fixField : List ℕ → Fix
 fixField b = record { place = placeField b; minute = minuteField b }
@@ -75,11 +86,11 @@ notAtHand b = either (ltb (length b) 4) (either (ltb (lengthField b) 4) (ltb (le
 
 -- 4: "The kind isn't 1 to 4."
 unfoldable pub unknownKind : List ℕ → Bool
-unknownKind b = either (ltb (kindField b) 1) (ltb 4 (kindField b))
+unknownKind b = not (isSome (lengthOf (kindField b)))
 
 -- 5: "The length isn't the one for its kind."
 unfoldable pub wrongLength : List ℕ → Bool
-wrongLength b = not (eqb (lengthField b) (lengthOf (kindField b)))
+wrongLength b = not (isLength (lengthOf (kindField b)) (lengthField b))
 
 -- 6: "A radio is 0 or above 4,095."
 unfoldable pub noRadio : List ℕ → Bool

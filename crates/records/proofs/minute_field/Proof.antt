@@ -3,11 +3,8 @@ use Rattle.records.proofs.RecordsLaws.{minute-inside, minute-there, min
 use Rattle.records.proofs.minute_field.Statement.{statement}
 use Rattle.records.proofs.minute_field.Tie as tie
 
-kind-field-requires : tie.Need-kind-field-requires
-kind-field-requires c κs = search needs
-
-length-of-requires : tie.Need-length-of-requires
-length-of-requires c κs = search needs
+length-field-requires : tie.Need-length-field-requires
+length-field-requires c κs = search needs
 
 cast-end : tie.Need-cast-end
 cast-end c = search needs
@@ -22,4 +19,4 @@ returns : tie.Need-returns
 returns c = search minute-read
 
 pub minute-field-spec : {M : Type 1} → statement M
-minute-field-spec = tie.close (tie.spec kind-field-requires length-of-requires cast-end sub-read-wide read-wide-requires returns)
+minute-field-spec = tie.close (tie.spec length-field-requires cast-end sub-read-wide read-wide-requires returns)
