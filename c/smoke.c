@@ -1,4 +1,5 @@
-/* The desk through its C interface: a fresh store, the contract's own journal, the test of soundness, and a desk that is saved and restored as bytes. */
+/* The desk through its C interface: a fresh store, the contract's own journal, watches, the test of soundness, and a desk that is saved and restored as
+ * bytes. */
 #undef NDEBUG
 #include "boragefile.h"
 #include <assert.h>
@@ -30,15 +31,54 @@ static void expect_guards(void)
     assert(all(lent.guard2, 64, 0xA5) && all(lent.guard3, 64, 0xA5));
 }
 
-/* Makes a call and expects this answer; a turned-down call keeps every byte of all that is lent. */
-static void expect(const uint8_t *bytes, size_t length, unsigned number, unsigned count)
+/* What was answered, from the bytes lent before the call; a turned-down call keeps every byte of all that is lent. */
+static void expect_answer(boragefile_answer answer, unsigned number, unsigned count, unsigned gained, unsigned lost)
 {
-    memcpy(&before, &lent, sizeof lent);
-    boragefile_answer answer = boragefile_call(&lent.desk, lent.pages, sizeof lent.pages, bytes, length, lent.buffer, sizeof lent.buffer);
-    assert(answer.number == number && answer.count == count);
+    assert(answer.number == number && answer.count == count && answer.gained == gained && answer.lost == lost);
     if (number != 0)
         assert(memcmp(&before, &lent, sizeof lent) == 0);
     expect_guards();
+}
+
+/* Makes a call and expects this answer, and that watches gain or lose its radio. */
+static void expect_moved(const uint8_t *bytes, size_t length, unsigned gained, unsigned lost)
+{
+    memcpy(&before, &lent, sizeof lent);
+    expect_answer(boragefile_call(&lent.desk, lent.pages, sizeof lent.pages, bytes, length, lent.buffer, sizeof lent.buffer), 0, 0, gained, lost);
+}
+
+/* Makes a call and expects this answer, and that no watch gains or loses a radio. */
+static void expect(const uint8_t *bytes, size_t length, unsigned number, unsigned count)
+{
+    memcpy(&before, &lent, sizeof lent);
+    expect_answer(boragefile_call(&lent.desk, lent.pages, sizeof lent.pages, bytes, length, lent.buffer, sizeof lent.buffer), number, count, 0, 0);
+}
+
+/* Sets a watch to the contract's rectangle, up to this north edge, and expects this answer. */
+static void expect_set(unsigned watch, unsigned south, unsigned north, size_t pages_length, unsigned number)
+{
+    memcpy(&before, &lent, sizeof lent);
+    expect_answer(boragefile_watch_set(&lent.desk, lent.pages, pages_length, (uint16_t)watch, 0, 301, (uint16_t)south, (uint16_t)north), number, 0, 0, 0);
+}
+
+/* Clears a watch, likewise. */
+static void expect_clear(unsigned watch, size_t pages_length, unsigned number)
+{
+    memcpy(&before, &lent, sizeof lent);
+    expect_answer(boragefile_watch_clear(&lent.desk, lent.pages, pages_length, (uint16_t)watch), number, 0, 0, 0);
+}
+
+/* Watch 3 alone is set, and radio 7 is its only member, or it has none. */
+static void expect_watch(unsigned north, int member)
+{
+    boragefile_watch watch = {1, 0, 301, 0, (uint16_t)north, {0}};
+    watch.members[0] = (uint16_t)(member << 7);
+    for (unsigned w = 0; w < BORAGEFILE_WATCHES; w++) {
+        const boragefile_watch *kept = &lent.desk.watches[w];
+        assert(w == 3 ? memcmp(kept, &watch, sizeof watch) == 0 : all((const uint8_t *)kept, sizeof *kept, 0));
+    }
+    for (unsigned radio = 0; radio <= 65535; radio++)
+        assert(boragefile_has_member(&lent.desk.watches[3], (uint16_t)radio) == (member && radio == 7));
 }
 
 /* Asks whether the store is sound; the asking keeps every byte of all that is lent. */
@@ -64,6 +104,7 @@ static void expect_fresh(void)
     assert(all((const uint8_t *)&desk->cells[1], sizeof desk->cells - sizeof desk->cells[0], 0));
     assert(all((const uint8_t *)&desk->waiting, sizeof desk->waiting, 0));
     assert(all((const uint8_t *)desk->memo, sizeof desk->memo, 0) && all((const uint8_t *)desk->on, sizeof desk->on, 0));
+    assert(all((const uint8_t *)desk->watches, sizeof desk->watches, 0));
     for (unsigned p = 0; p < 128; p++) {
         const uint8_t *page = lent.pages + 328 * p;
         unsigned next = p == 0 || p == 127 ? 65535 : p + 1;
@@ -146,6 +187,37 @@ int main(void)
     expect_at(minute - 1, range, sizeof range, BORAGEFILE_TOO_EARLY, 0);
     expect_at(minute - 1, off, sizeof off, BORAGEFILE_TOO_EARLY, 0);
     expect_at(minute, off, sizeof off, 0, 0);
+
+    /* a watch gains and loses a radio, and has it for a member in between; numbers 1, 14 and 7 turn a watch down, in this order */
+    const size_t whole = sizeof lent.pages;
+    expect_set(3, 0, 201, whole, 0);
+    expect_watch(201, 0);
+    const uint8_t late[] = {14, 0, 1, 0, 7, 0, 100, 0, 200, 0, 4, 3, 2, 1};
+    expect_moved(late, sizeof late, 1u << 3, 0);
+    expect_watch(201, 1);
+    expect_set(3, 0, 200, whole, 0);
+    expect_watch(200, 0);
+    expect_set(3, 0, 202, whole, 0);
+    expect_watch(202, 1);
+    expect_set(3, 202, 201, whole, BORAGEFILE_RECTANGLE);
+    expect_set(16, 202, 201, whole, BORAGEFILE_NO_WATCH);
+    expect_set(65535, 0, 201, whole, BORAGEFILE_NO_WATCH);
+    expect_set(16, 202, 201, whole - 1, BORAGEFILE_PAGE_BUFFER);
+    expect_clear(2, whole, BORAGEFILE_NO_WATCH);
+    expect_clear(19, whole, BORAGEFILE_NO_WATCH);
+    expect_clear(3, whole + 1, BORAGEFILE_PAGE_BUFFER);
+    expect_watch(202, 1);
+    const uint8_t gone[] = {10, 0, 3, 0, 7, 0, 4, 3, 2, 1};
+    expect_moved(gone, sizeof gone, 0, 1u << 3);
+    expect_watch(202, 0);
+    assert(is_sound(whole));
+    lent.desk.watches[3].members[255] = 0x8000; /* a member too many */
+    expect_set(16, 202, 201, whole, BORAGEFILE_UNSOUND);
+    expect_clear(16, whole, BORAGEFILE_UNSOUND);
+    lent.desk.watches[3].members[255] = 0;
+    expect_clear(3, whole, 0);
+    assert(all((const uint8_t *)lent.desk.watches, sizeof lent.desk.watches, 0));
+    expect_clear(3, whole, BORAGEFILE_NO_WATCH);
 
     /* sound after all these */
     assert(is_sound(sizeof lent.pages));

@@ -1,4 +1,4 @@
-// The desk from C++: the header, a fresh store, a sign-on and a range.
+// The desk from C++: the header, a fresh store, a watch, a sign-on and a range.
 #include "boragefile.h"
 #include <cstdio>
 #include <cstring>
@@ -16,10 +16,17 @@ int main()
     const uint8_t on[] = {14, 0, BORAGEFILE_KIND_SIGN_ON, 0, 7, 0, 100, 0, 200, 0, 0, 0, 0, 0};
     const uint8_t range[] = {16, 0, BORAGEFILE_KIND_RANGE, 0, 0, 0, 101, 0, 0, 0, 201, 0, 0, 0, 0, 0};
     const uint8_t listed[] = {7, 0, 100, 0, 200, 0};
-    if (boragefile_begin(&desk, pages, sizeof pages).number != BORAGEFILE_ACCEPTED || call(on).number != BORAGEFILE_ACCEPTED)
+    if (boragefile_begin(&desk, pages, sizeof pages).number != BORAGEFILE_ACCEPTED ||
+        boragefile_watch_set(&desk, pages, sizeof pages, 0, 0, 101, 0, 201).number != BORAGEFILE_ACCEPTED)
+        return 1;
+    const boragefile_answer signed_on = call(on);
+    if (signed_on.number != BORAGEFILE_ACCEPTED || signed_on.gained != 1 || signed_on.lost != 0 || !boragefile_has_member(&desk.watches[0], 7))
         return 1;
     const boragefile_answer found = call(range);
     if (found.number != BORAGEFILE_ACCEPTED || found.count != 1 || std::memcmp(buffer, listed, sizeof listed) != 0)
+        return 1;
+    if (boragefile_watch_clear(&desk, pages, sizeof pages, 0).number != BORAGEFILE_ACCEPTED ||
+        boragefile_watch_clear(&desk, pages, sizeof pages, 0).number != BORAGEFILE_NO_WATCH)
         return 1;
     if (call(on).number != BORAGEFILE_ALREADY_ON || !boragefile_sound(&desk, pages, sizeof pages))
         return 1;

@@ -1,5 +1,5 @@
-/* How much stack a call takes: reads a journal (records, one after the other) from standard input, carries it out on a painted stack and prints the bytes of
- * it that the deepest call, the making of a fresh store and the test of soundness wrote to. */
+/* How much stack a call takes: reads a journal (records, one after the other) from standard input, carries it out with watches set, on a painted stack, and
+ * prints the bytes of it that the making of a fresh store, the deepest setting and clearing of a watch, the deepest call and the test of soundness wrote to. */
 #define _GNU_SOURCE
 #include "boragefile.h"
 #include <pthread.h>
@@ -31,21 +31,38 @@ static __attribute__((noinline)) size_t used(void)
     return (size_t)((uint8_t *)__builtin_frame_address(0) - deepest);
 }
 
+static size_t deeper(size_t deepest)
+{
+    size_t deep = used();
+    return deep > deepest ? deep : deepest;
+}
+
+/* Watches are set as the journal goes on, each over another stripe of the map, so that the last is set on a full store; then one is cleared. */
 static void *measure(void *unused)
 {
     paint();
     boragefile_begin(&desk, pages, sizeof pages);
-    size_t begin = used(), call = 0;
-    for (size_t at = 0; at + 4 <= journal_bytes; at += journal[at] + 256u * journal[at + 1]) {
+    size_t begin = used(), call = 0, set = 0;
+    unsigned records = 0;
+    for (size_t at = 0; at + 4 <= journal_bytes; at += journal[at] + 256u * journal[at + 1], records++) {
+        if (records % 64 == 0) {
+            uint16_t watch = (uint16_t)(records / 64 % BORAGEFILE_WATCHES), west = (uint16_t)(4096 * watch);
+            paint();
+            boragefile_watch_set(&desk, pages, sizeof pages, watch, west, west + 4095, 0, 65535);
+            set = deeper(set);
+        }
         paint();
         boragefile_call(&desk, pages, sizeof pages, journal + at, journal_bytes - at, buffer, sizeof buffer);
-        size_t deep = used();
-        call = deep > call ? deep : call;
+        call = deeper(call);
     }
+    paint();
+    if (boragefile_watch_clear(&desk, pages, sizeof pages, 0).number != BORAGEFILE_ACCEPTED)
+        exit(1);
+    size_t clear = used();
     paint();
     if (!boragefile_sound(&desk, pages, sizeof pages))
         exit(1);
-    printf("begin %zu\ncall %zu\nsound %zu\n", begin, call, used());
+    printf("begin %zu\nwatch_set %zu\ncall %zu\nwatch_clear %zu\nsound %zu\n", begin, set, call, clear, used());
     return unused;
 }
 

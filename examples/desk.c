@@ -2,8 +2,10 @@
  *
  *     desk FILE < LINES
  *
- * A line is one of "on RADIO EAST NORTH MINUTE", "report RADIO EAST NORTH MINUTE", "off RADIO MINUTE" and "range WEST EAST SOUTH NORTH MINUTE". For line i
- * it prints "i ok", "i found n" and then n lines "radio east north", "i refused r: words", or "i no record". What was answered with "ok" is in the file.
+ * A line is one of "on RADIO EAST NORTH MINUTE", "report RADIO EAST NORTH MINUTE", "off RADIO MINUTE" and "range WEST EAST SOUTH NORTH MINUTE", or one of
+ * "watch WATCH WEST EAST SOUTH NORTH", "unwatch WATCH" and "members WATCH". For line i it prints "i ok", with the watches that gained and lost the radio,
+ * "i found n" and then n lines "radio east north", "i members" with the radios, "i refused r: words", or "i no call". What was answered with "ok" is in the
+ * file.
  *
  * The file: a line with the version, the desk, the pages, and a sum over all of these, so that a bit that flipped on the disk is found even where
  * the store is sound with it. A file that cannot be used is left as it is, and the program ends with 1. */
@@ -134,8 +136,35 @@ static int64_t number_of(const char *word, int64_t most)
     return value;
 }
 
-/* Makes the record of a line and answers its length, or 0 where the line is no record. The line is cut into its words; the last of them is the minute. */
-static size_t record_of(char *line, uint8_t record[16])
+#define MOST_WORDS 6
+
+/* Cuts a line into its words. Answers how many there are, or 0 where there are more than any call has. */
+static unsigned words_of(char *line, char *words[MOST_WORDS])
+{
+    const char *between = " \t\f\r\n";
+    unsigned count = 0;
+    for (char *word = strtok(line, between); word; word = strtok(NULL, between)) {
+        if (count == MOST_WORDS)
+            return 0;
+        words[count++] = word;
+    }
+    return count;
+}
+
+/* The numbers of 16 bits that stand after a line's first word, this many of them. */
+static bool numbers_of(char *words[MOST_WORDS], unsigned count, uint16_t numbers[MOST_WORDS - 1])
+{
+    for (unsigned i = 0; i < count; i++) {
+        int64_t value = number_of(words[1 + i], UINT16_MAX);
+        if (value < 0)
+            return false;
+        numbers[i] = (uint16_t)value;
+    }
+    return true;
+}
+
+/* Makes the record of a line and answers its length, or 0 where the line is no record. Its last word is the minute. */
+static size_t record_of(char *words[MOST_WORDS], unsigned count, uint8_t record[16])
 {
     static const struct {
         const char *word;
@@ -146,30 +175,93 @@ static size_t record_of(char *line, uint8_t record[16])
         [BORAGEFILE_KIND_SIGN_OFF] = {"off", 1},
         [BORAGEFILE_KIND_RANGE] = {"range", 4},
     };
-    const char *between = " \t\f\r\n";
-    char *word = strtok(line, between);
     unsigned kind = BORAGEFILE_KIND_SIGN_ON;
-    while (word && kind <= BORAGEFILE_KIND_RANGE && strcmp(word, kinds[kind].word) != 0)
+    while (count > 0 && kind <= BORAGEFILE_KIND_RANGE && strcmp(words[0], kinds[kind].word) != 0)
         kind++;
-    if (!word || kind > BORAGEFILE_KIND_RANGE)
+    uint16_t numbers[MOST_WORDS - 1];
+    if (count == 0 || kind > BORAGEFILE_KIND_RANGE || count != kinds[kind].numbers + 2 || !numbers_of(words, kinds[kind].numbers, numbers))
+        return 0;
+    int64_t minute = number_of(words[count - 1], UINT32_MAX);
+    if (minute < 0)
         return 0;
     size_t minute_at = 4 + 2 * kinds[kind].numbers, length = minute_at + 4;
     put_field(record, (unsigned)length);
     put_field(record + 2, kind);
-    for (size_t at = 4; at < minute_at; at += 2) {
-        word = strtok(NULL, between);
-        int64_t value = word ? number_of(word, UINT16_MAX) : -1;
-        if (value < 0)
-            return 0;
-        put_field(record + at, (unsigned)value);
-    }
-    word = strtok(NULL, between);
-    int64_t minute = word ? number_of(word, UINT32_MAX) : -1;
-    if (minute < 0 || strtok(NULL, between))
-        return 0;
+    for (unsigned i = 0; i < kinds[kind].numbers; i++)
+        put_field(record + 4 + 2 * i, numbers[i]);
     put_field(record + minute_at, (unsigned)minute);
     put_field(record + minute_at + 2, (unsigned)(minute >> 16));
     return length;
+}
+
+/* Sets or clears a watch, where the line says so. */
+static bool watch_call(char *words[MOST_WORDS], unsigned count, boragefile_answer *answer)
+{
+    uint16_t n[MOST_WORDS - 1];
+    bool set = count == 6 && strcmp(words[0], "watch") == 0, clear = count == 2 && strcmp(words[0], "unwatch") == 0;
+    if ((!set && !clear) || !numbers_of(words, count - 1, n))
+        return false;
+    *answer = set ? boragefile_watch_set(&desk, pages, sizeof pages, n[0], n[1], n[2], n[3], n[4])
+                  : boragefile_watch_clear(&desk, pages, sizeof pages, n[0]);
+    return true;
+}
+
+/* Prints the members of a watch, where the line asks for them; one that is not set has none. */
+static bool print_members(unsigned long i, char *words[MOST_WORDS], unsigned count)
+{
+    uint16_t watch[MOST_WORDS - 1];
+    if (count != 2 || strcmp(words[0], "members") != 0 || !numbers_of(words, 1, watch) || watch[0] >= BORAGEFILE_WATCHES)
+        return false;
+    printf("%lu members", i);
+    for (uint16_t radio = 1; radio <= 4095; radio++)
+        if (boragefile_has_member(&desk.watches[watch[0]], radio))
+            printf(" %u", radio);
+    printf("\n");
+    return true;
+}
+
+/* Watches, each by its bit, after a word. */
+static void print_watches(const char *word, uint16_t watches)
+{
+    if (watches != 0)
+        printf(" %s", word);
+    for (unsigned watch = 0; watch < BORAGEFILE_WATCHES; watch++)
+        if (watches >> watch & 1)
+            printf(" %u", watch);
+}
+
+static void print_list(unsigned long i, unsigned count)
+{
+    printf("%lu found %u\n", i, count);
+    for (const uint8_t *entry = buffer; entry < buffer + BORAGEFILE_ENTRY_BYTES * count; entry += BORAGEFILE_ENTRY_BYTES)
+        printf("%u %u %u\n", field(entry), field(entry + 2), field(entry + 4));
+}
+
+/* Answers one line, whose words these are. */
+static void serve(const char *path, unsigned long i, char *words[MOST_WORDS], unsigned count)
+{
+    boragefile_answer answer;
+    uint8_t record[16] = {0};
+    size_t bytes = record_of(words, count, record);
+    if (bytes > 0) {
+        answer = boragefile_call(&desk, pages, sizeof pages, record, bytes, buffer, sizeof buffer);
+    } else if (print_members(i, words, count)) {
+        return;
+    } else if (!watch_call(words, count, &answer)) {
+        printf("%lu no call\n", i);
+        return;
+    }
+    if (answer.number != BORAGEFILE_ACCEPTED) {
+        printf("%lu refused %u: %s\n", i, answer.number, boragefile_words(answer.number));
+    } else if (field(record + 2) == BORAGEFILE_KIND_RANGE) {
+        print_list(i, answer.count);
+    } else {
+        save(path);
+        printf("%lu ok", i);
+        print_watches("gained", answer.gained);
+        print_watches("lost", answer.lost);
+        printf("\n");
+    }
 }
 
 int main(int count, char **arguments)
@@ -186,23 +278,9 @@ int main(int count, char **arguments)
     size_t room = 0;
     ssize_t length;
     for (unsigned long i = 1; (length = getline(&line, &room, stdin)) >= 0; i++) {
-        uint8_t record[16];
-        size_t bytes = strlen(line) == (size_t)length ? record_of(line, record) : 0;
-        if (bytes == 0) {
-            printf("%lu no record\n", i);
-            continue;
-        }
-        boragefile_answer answer = boragefile_call(&desk, pages, sizeof pages, record, bytes, buffer, sizeof buffer);
-        if (answer.number != BORAGEFILE_ACCEPTED) {
-            printf("%lu refused %u: %s\n", i, answer.number, boragefile_words(answer.number));
-        } else if (field(record + 2) == BORAGEFILE_KIND_RANGE) {
-            printf("%lu found %u\n", i, answer.count);
-            for (const uint8_t *entry = buffer; entry < buffer + BORAGEFILE_ENTRY_BYTES * answer.count; entry += BORAGEFILE_ENTRY_BYTES)
-                printf("%u %u %u\n", field(entry), field(entry + 2), field(entry + 4));
-        } else {
-            save(path);
-            printf("%lu ok\n", i);
-        }
+        char *words[MOST_WORDS];
+        unsigned given = strlen(line) == (size_t)length ? words_of(line, words) : 0;
+        serve(path, i, words, given);
     }
     free(line);
     return 0;

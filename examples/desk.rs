@@ -4,13 +4,17 @@
 //!     desk FILE < LINES
 //!
 //! A line is one of `on RADIO EAST NORTH MINUTE`, `report RADIO EAST NORTH MINUTE`, `off RADIO MINUTE` and
-//! `range WEST EAST SOUTH NORTH MINUTE`. For line i it prints `i ok`, `i found n` and then n lines `radio east north`,
-//! `i refused r: words`, or `i no record`. What was answered with `ok` is in the file.
+//! `range WEST EAST SOUTH NORTH MINUTE`, or one of `watch WATCH WEST EAST SOUTH NORTH`, `unwatch WATCH` and `members WATCH`. For
+//! line i it prints `i ok`, with the watches that gained and lost the radio, `i found n` and then n lines `radio east north`,
+//! `i members` with the radios, `i refused r: words`, or `i no call`. What was answered with `ok` is in the file.
 //!
 //! The file: a line with the version, the desk, the pages, and a sum over all of these, so that a bit that flipped on the disk
 //! is found even where the store is sound with it. A file that cannot be used is left as it is, and the program ends with 1.
 #![forbid(unsafe_code)]
-use boragefile::{Answer, Located, Record, Store, DESK_BYTES, LIST_BYTES, PAGES_BYTES, VERSION};
+use boragefile::{
+    Answer, Located, Record, Rectangle, Store, Watches, DESK_BYTES, LIST_BYTES, PAGES_BYTES,
+    VERSION, WATCHES,
+};
 use std::fs::{rename, File};
 use std::io::{self, BufRead, ErrorKind, Write};
 use std::path::{Path, PathBuf};
@@ -42,14 +46,26 @@ fn serve(path: &Path) -> Result<(), Failure> {
     let mut buffer = [0; LIST_BYTES];
     let mut out = io::stdout().lock();
     for (i, line) in (1..).zip(io::stdin().lock().split(b'\n')) {
-        let Some(record) = record_of(&line?) else {
-            writeln!(out, "{i} no record")?;
-            continue;
+        let answer = match call_of(&line?) {
+            Some(Call::Record(record)) => store.call(&record.to_bytes(), &mut buffer),
+            Some(Call::Watch(watch, area)) => store.watch_set(watch, area),
+            Some(Call::Unwatch(watch)) => store.watch_clear(watch),
+            Some(Call::Members(watch)) => {
+                let members = store.desk().watch(watch).into_iter();
+                let members = members.flat_map(|watch| watch.members());
+                writeln!(out, "{i} members{}", spaced(members))?;
+                continue;
+            }
+            None => {
+                writeln!(out, "{i} no call")?;
+                continue;
+            }
         };
-        match store.call(&record.to_bytes(), &mut buffer) {
-            Answer::Accepted { .. } => {
+        match answer {
+            Answer::Accepted { gained, lost, .. } => {
                 save(&store, path)?;
-                writeln!(out, "{i} ok")?;
+                let (gained, lost) = (named("gained", gained), named("lost", lost));
+                writeln!(out, "{i} ok{gained}{lost}")?;
             }
             Answer::Found(list) => {
                 writeln!(out, "{i} found {}", list.len())?;
@@ -63,6 +79,19 @@ fn serve(path: &Path) -> Result<(), Failure> {
         }
     }
     Ok(())
+}
+
+/// Each with a space before it.
+fn spaced(numbers: impl Iterator<Item = u16>) -> String {
+    numbers.map(|number| format!(" {number}")).collect()
+}
+
+/// Some watches after a word, or nothing.
+fn named(word: &str, watches: Watches) -> String {
+    if watches.is_empty() {
+        return String::new();
+    }
+    format!(" {word}{}", spaced(watches.iter()))
 }
 
 fn head() -> String {
@@ -112,17 +141,50 @@ fn save(store: &Store, path: &Path) -> io::Result<()> {
     File::open(folder.unwrap_or(Path::new(".")))?.sync_all()
 }
 
-/// The record of a line, if it is one. Its last number is the minute.
-fn record_of(line: &[u8]) -> Option<Record> {
+/// What a line asks for.
+enum Call {
+    Record(Record),
+    Watch(u16, Rectangle),
+    Unwatch(u16),
+    Members(u16),
+}
+
+/// The call of a line, if it is one.
+fn call_of(line: &[u8]) -> Option<Call> {
     let mut words = line
         .split(u8::is_ascii_whitespace)
         .filter(|word| !word.is_empty());
     let kind = words.next()?;
     let numbers = words.map(number_of).collect::<Option<Vec<u32>>>()?;
+    watch_of(kind, &numbers).or_else(|| record_of(kind, &numbers).map(Call::Record))
+}
+
+fn fields_of(numbers: &[u32]) -> Option<Vec<u16>> {
+    let fields = numbers.iter().map(|number| u16::try_from(*number).ok());
+    fields.collect()
+}
+
+fn watch_of(kind: &[u8], numbers: &[u32]) -> Option<Call> {
+    match (kind, fields_of(numbers)?.as_slice()) {
+        (b"watch", &[watch, west, east, south, north]) => Some(Call::Watch(
+            watch,
+            Rectangle {
+                west,
+                east,
+                south,
+                north,
+            },
+        )),
+        (b"unwatch", &[watch]) => Some(Call::Unwatch(watch)),
+        (b"members", &[watch]) if usize::from(watch) < WATCHES => Some(Call::Members(watch)),
+        _ => None,
+    }
+}
+
+/// The last number of a record is the minute.
+fn record_of(kind: &[u8], numbers: &[u32]) -> Option<Record> {
     let (&minute, fields) = numbers.split_last()?;
-    let fields = fields.iter().map(|field| u16::try_from(*field).ok());
-    let fields = fields.collect::<Option<Vec<u16>>>()?;
-    Some(match (kind, fields.as_slice()) {
+    Some(match (kind, fields_of(fields)?.as_slice()) {
         (b"on", &[radio, east, north]) => Record::SignOn {
             radio,
             east,

@@ -1,4 +1,4 @@
-/* The position desk: the three functions of libboragefile.a, the desk that they are lent, and what they answer. docs/USING.md says how to use them. */
+/* The position desk: the five functions of libboragefile.a, the desk that they are lent, and what they answer. docs/USING.md says how to use them. */
 #ifndef BORAGEFILE_H
 #define BORAGEFILE_H
 
@@ -8,15 +8,16 @@
 
 /* The layout of the desk is part of the version: a desk that another version saved is not for this one. */
 #define BORAGEFILE_VERSION_MAJOR 0
-#define BORAGEFILE_VERSION_MINOR 5
+#define BORAGEFILE_VERSION_MINOR 6
 #define BORAGEFILE_VERSION_PATCH 0
-#define BORAGEFILE_VERSION "0.5.0"
+#define BORAGEFILE_VERSION "0.6.0"
 
 #define BORAGEFILE_PAGES_BYTES 41984 /* 128 pages of 328 bytes */
-#define BORAGEFILE_DESK_BYTES 14928
+#define BORAGEFILE_DESK_BYTES 23280
 #define BORAGEFILE_ENTRY_BYTES 6   /* radio, east, north: what a range lists of a radio */
 #define BORAGEFILE_LIST_BYTES 3072 /* an answer buffer that takes 512 radios, all that may be on */
 #define BORAGEFILE_KEPT_MINUTES 720 /* a range leaves out a radio whose minute is more than this before its own */
+#define BORAGEFILE_WATCHES 16 /* rectangles that may be watched, under numbers 0 to 15 */
 
 /* the kinds of records */
 enum {
@@ -26,7 +27,8 @@ enum {
     BORAGEFILE_KIND_RANGE = 4
 };
 
-/* an answer's number: 0, or that of the first check that turned the call down. They are checked in this order, but 12 and then 13 after 6 and before 7. */
+/* an answer's number: 0, or that of the first check that turned the call down. They are checked in this order, but 12 and then 13 after 6 and before 7,
+ * and 14 after 2. */
 enum {
     BORAGEFILE_ACCEPTED = 0,
     BORAGEFILE_PAGE_BUFFER = 1,
@@ -41,7 +43,8 @@ enum {
     BORAGEFILE_FULL = 10,
     BORAGEFILE_ANSWER_BUFFER = 11,
     BORAGEFILE_NO_FIX = 12,
-    BORAGEFILE_TOO_EARLY = 13
+    BORAGEFILE_TOO_EARLY = 13,
+    BORAGEFILE_NO_WATCH = 14
 };
 
 /* An answer's number in words. The text is constant; it is never null. */
@@ -55,20 +58,21 @@ static inline const char *boragefile_words(uint16_t number)
     case BORAGEFILE_KIND: return "the kind isn't 1 to 4";
     case BORAGEFILE_LENGTH_OF_KIND: return "the length isn't the one for its kind";
     case BORAGEFILE_RADIO: return "a radio is 0 or above 4,095";
-    case BORAGEFILE_RECTANGLE: return "a range has west above east or south above north";
+    case BORAGEFILE_RECTANGLE: return "a range or watch has west above east or south above north";
     case BORAGEFILE_ALREADY_ON: return "a sign-on names a radio that is on";
     case BORAGEFILE_NOT_ON: return "a report or sign-off names a radio that isn't on";
     case BORAGEFILE_FULL: return "a sign-on comes while 512 are on";
     case BORAGEFILE_ANSWER_BUFFER: return "the answer buffer is too small for the radios found";
     case BORAGEFILE_NO_FIX: return "a sign-on or report has the place (0,0): the radio has no fix";
     case BORAGEFILE_TOO_EARLY: return "the minute is below the store's highest";
+    case BORAGEFILE_NO_WATCH: return "a watch number is above 15, or the watch to be cleared isn't set";
     default: return "no number of this version";
     }
 }
 
-/* The desk, field by field as the proved code has it: first its parts, with every count, then four arrays. Every field is a 16-bit number but the highest
+/* The desk, field by field as the proved code has it: first its parts, with every count, then five arrays. Every field is a 16-bit number but the highest
  * minute, which has 32 bits, with nothing between the fields and nothing after the last: two desks with equal fields are equal byte by byte, and a desk may be
- * saved and compared as bytes. Slots past a count are zero. */
+ * saved and compared as bytes. Slots past a count, and watches that aren't set, are zero. */
 
 /* the cuts of one direction, rising: n of them */
 typedef struct {
@@ -109,17 +113,31 @@ typedef struct {
     uint16_t radio, missed, placed, east, north;
 } boragefile_line;
 
+/* a watch: set is 1 where it is, and all of it is zero where it is not. Bit j of members[i] is radio 16 i + j's: boragefile_has_member reads it */
+typedef struct {
+    uint16_t set, west, east, south, north;
+    uint16_t members[256];
+} boragefile_watch;
+
 typedef struct {
     boragefile_parts parts;
     boragefile_slot cells[64];  /* in the order of the round, its front first; parts.frame.cells of them */
     boragefile_waiting waiting; /* parts.waiting of them */
     boragefile_line memo[1152]; /* by rising radio, parts.lines of them: room for two more than there may be between two calls */
     uint16_t on[512];           /* the radios on, rising; parts.on of them */
+    boragefile_watch watches[BORAGEFILE_WATCHES];
 } boragefile_desk;
 
-/* 0, or the number of the check that turned the call down; and what it counted */
+/* Whether a radio, from 1 to 4,095, is a member of a watch: it is on, and its latest place lies in the watch's rectangle, whatever its age. */
+static inline bool boragefile_has_member(const boragefile_watch *watch, uint16_t radio)
+{
+    return radio < 4096 && (watch->members[radio / 16] >> radio % 16 & 1) == 1;
+}
+
+/* 0, or the number of the check that turned the call down; what it counted; and of an accepted sign-on, report or sign-off, which watches gained its radio
+ * and which lost it: bit w is set exactly if watch w did. Both are 0 for every other answer. */
 typedef struct {
-    uint16_t number, count;
+    uint16_t number, count, gained, lost;
 } boragefile_answer;
 
 #ifdef __cplusplus
@@ -147,12 +165,19 @@ BORAGEFILE_STATIC_ASSERT(offsetof(boragefile_waiting, news) == 768, "marks of th
 BORAGEFILE_STATIC_ASSERT(offsetof(boragefile_waiting, lows) == 1024, "lower halves of the minutes");
 BORAGEFILE_STATIC_ASSERT(offsetof(boragefile_waiting, highs) == 1280, "higher halves of the minutes");
 BORAGEFILE_STATIC_ASSERT(sizeof(boragefile_line) == 10, "line");
+BORAGEFILE_STATIC_ASSERT(sizeof(boragefile_watch) == 522, "watch");
+BORAGEFILE_STATIC_ASSERT(offsetof(boragefile_watch, west) == 2, "west edge of a watch");
+BORAGEFILE_STATIC_ASSERT(offsetof(boragefile_watch, east) == 4, "east edge of a watch");
+BORAGEFILE_STATIC_ASSERT(offsetof(boragefile_watch, south) == 6, "south edge of a watch");
+BORAGEFILE_STATIC_ASSERT(offsetof(boragefile_watch, north) == 8, "north edge of a watch");
+BORAGEFILE_STATIC_ASSERT(offsetof(boragefile_watch, members) == 10, "members of a watch");
 BORAGEFILE_STATIC_ASSERT(sizeof(boragefile_desk) == BORAGEFILE_DESK_BYTES, "desk");
 BORAGEFILE_STATIC_ASSERT(offsetof(boragefile_desk, cells) == 80, "cells in the desk");
 BORAGEFILE_STATIC_ASSERT(offsetof(boragefile_desk, waiting) == 848, "waiting in the desk");
 BORAGEFILE_STATIC_ASSERT(offsetof(boragefile_desk, memo) == 2384, "memo in the desk");
 BORAGEFILE_STATIC_ASSERT(offsetof(boragefile_desk, on) == 13904, "on in the desk");
-BORAGEFILE_STATIC_ASSERT(sizeof(boragefile_answer) == 4, "answer");
+BORAGEFILE_STATIC_ASSERT(offsetof(boragefile_desk, watches) == 14928, "watches in the desk");
+BORAGEFILE_STATIC_ASSERT(sizeof(boragefile_answer) == 8, "answer");
 
 #undef BORAGEFILE_STATIC_ASSERT
 
@@ -172,6 +197,14 @@ boragefile_answer boragefile_begin(boragefile_desk *desk, uint8_t *pages, size_t
 boragefile_answer boragefile_call(boragefile_desk *desk, uint8_t *pages, size_t pages_length,
                                   const uint8_t *bytes, size_t bytes_length,
                                   uint8_t *buffer, size_t buffer_length);
+
+/* Watches a rectangle under a number from 0 to 15; one that is watched under it already is replaced. Its edges are as a range's. Its members are
+ * desk->watches[watch] then, and every accepted sign-on, report or sign-off keeps them so. Numbers 1, 2, 14 and 7 can turn it down; pages are only read. */
+boragefile_answer boragefile_watch_set(boragefile_desk *desk, const uint8_t *pages, size_t pages_length, uint16_t watch,
+                                       uint16_t west, uint16_t east, uint16_t south, uint16_t north);
+
+/* Watches the rectangle under this number no longer. Numbers 1, 2 and 14 can turn it down. */
+boragefile_answer boragefile_watch_clear(boragefile_desk *desk, const uint8_t *pages, size_t pages_length, uint16_t watch);
 
 /* Whether desk and pages are those of a sound store: the test that each call makes first. It changes nothing. */
 bool boragefile_sound(const boragefile_desk *desk, const uint8_t *pages, size_t pages_length);

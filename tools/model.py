@@ -1,7 +1,7 @@
 #!/usr/bin/env python3
 """A plain model of the position desk: the contract with the user, sentence by sentence, on lists and dicts.
 
-    from model import Model             Model().call(record, buffer, lent) answers number, count and the bytes written
+    from model import Model             Model().call(record, buffer, lent) carries out a record and answers it; watch_set and watch_clear likewise
     tools/model.py FILE...              holds journals (see tools/replay-vectors) against the model
 
 It is written from the contract's text and from the readings in docs/DECISIONS.md, not from the crates, so that one can be held
@@ -37,6 +37,7 @@ JOIN_MOST = 24              # "the two have at most 24 entries together"
 SWEEP_EVERY = 16            # "At 16, sweep the cell at the front of the round"
 KEPT_MINUTES = 720          # "more than 720 before the range's own; exactly 720 stays in" (02, Job 3)
 LAST_MINUTE = 2**32 - 1     # "a 32-bit minute"
+MOST_WATCHES = 16           # "Let up to 16 be watched under numbers 0 to 15" (02, Job 5)
 
 RECORD_HEAD = 4             # "its length in bytes, its kind"
 MINUTE_BYTES = 4            # "Every record ends with a 32-bit minute"
@@ -44,7 +45,8 @@ SIGN_ON, REPORT, SIGN_OFF, RANGE = 1, 2, 3, 4
 LENGTHS = {SIGN_ON: 14, REPORT: 14, SIGN_OFF: 10, RANGE: 16}
 
 EAST, NORTH = 0, 1          # the two directions; a place is (east, north)
-STRANGE = ("page_bytes", "damage")  # what a journal's line may say of the page buffer (tools/replay-vectors)
+ARGUMENTS = ("call", "record", "buffer", "watch", "rect")  # what a journal's line hands in (tools/replay-vectors)
+STRANGE = ("page_bytes", "damage")  # what it may say of the page buffer
 ORDER = ("west", "east", "south", "north")  # "take the first of west, east, south, north" (02, Job 7)
 
 
@@ -85,6 +87,20 @@ def entry_bytes(radio, fix):
 def listed_bytes(radio, fix):
     """A radio in the list of a range."""
     return fields(radio, *fix.place)
+
+
+class Answer(NamedTuple):
+    """What a call answers. "these, and whatever later requests add to the answer, are 0 where nothing else is said" (02, Job 5)"""
+    number: int
+    count: int = 0
+    written: bytes = b""
+    gained: int = 0
+    lost: int = 0
+
+
+def bits(numbers):
+    """A number with these bits set."""
+    return sum(1 << number for number in numbers)
 
 
 def too_old(fix, minute):
@@ -134,6 +150,7 @@ class Model:
         self.on = set()
         self.tally = 0
         self.highest = 0        # "the highest minute of an accepted sign-on, report or sign-off, 0 when fresh"
+        self.watches = {}       # number: rectangle; "none in a fresh store"
         self.seen = []          # what the last call went through, in words, for those who write journals
 
     # ---- one call
@@ -143,15 +160,16 @@ class Model:
         self.seen = []
         number = self.pages_refusal(lent) or self.refusal(given)
         if number:
-            return number, 0, b""
+            return Answer(number)
         kind, body, minute = parsed(given)
         if kind == RANGE:
             found = [(radio, fix) for radio in sorted(self.on) for fix in [self.latest(radio)]
                      if in_range(fix.place, *body) and not too_old(fix, minute)]
             if buffer < LISTED_BYTES * len(found):
-                return 11, len(found), b""
-            return 0, len(found), b"".join(listed_bytes(radio, fix) for radio, fix in found)
+                return Answer(11, len(found))
+            return Answer(0, len(found), b"".join(listed_bytes(radio, fix) for radio, fix in found))
         radio, fix = body[0], Fix(tuple(body[1:3]), minute)
+        before = self.watches_with(radio)
         self.highest = max(self.highest, minute)
         if kind == SIGN_OFF:
             self.sign_off(radio)
@@ -161,7 +179,44 @@ class Model:
             self.waiting[radio] = (fix, marked)
             self.flush_if_due(fix.place)
         self.tick()
-        return 0, 0, b""
+        after = self.watches_with(radio)
+        return Answer(0, gained=bits(after - before), lost=bits(before - after))
+
+    # ---- watches
+
+    def watch_set(self, watch, rectangle, lent=None):
+        self.seen = []
+        number = self.pages_refusal(lent) or self.set_refusal(watch, rectangle)
+        if number == 0:
+            self.watches[watch] = tuple(rectangle)      # "setting again meaning replaced"
+        return Answer(number)
+
+    def watch_clear(self, watch, lent=None):
+        self.seen = []
+        # "14, a watch number above 15, or clearing one not set"
+        number = self.pages_refusal(lent) or (0 if watch in self.watches else 14)
+        if number == 0:
+            del self.watches[watch]
+        return Answer(number)
+
+    def set_refusal(self, watch, rectangle):
+        # "checked after 2, with number 7 following for the rectangle"
+        if watch >= MOST_WATCHES:
+            return 14
+        west, east, south, north = rectangle
+        return 7 if west > east or south > north else 0
+
+    def members(self, rectangle):
+        # "the list a range over that rectangle would give if no age were tested"
+        return [radio for radio in sorted(self.on) if in_range(self.latest(radio).place, *rectangle)]
+
+    def watches_with(self, radio):
+        """The watches whose rectangle takes in the radio's latest place."""
+        if radio not in self.on:
+            return set()
+        return {watch for watch, rectangle in self.watches.items() if in_range(self.latest(radio).place, *rectangle)}
+
+    # ---- checks
 
     def pages_refusal(self, lent):
         # "Turned down, in checking order": 1 and 2, or 0
@@ -408,6 +463,7 @@ class Model:
             "on": sorted(self.on),
             "tally": self.tally,
             "highest": self.highest,
+            "watches": [[watch, list(rectangle), self.members(rectangle)] for watch, rectangle in sorted(self.watches.items())],
         }
 
     def lent(self, page_bytes=None, damage=()):
@@ -421,14 +477,34 @@ class Model:
             pages[at] = byte
         return bytes(pages)
 
-    def line(self, given, buffer, with_store, **strange):
+    def handed(self, arguments, lent):
+        """Makes the call that a line's arguments name."""
+        if "call" not in arguments:
+            return self.call(bytes.fromhex(arguments["record"]), arguments["buffer"], lent)
+        if arguments["call"] == "watch-set":
+            return self.watch_set(arguments["watch"], arguments["rect"], lent)
+        if arguments["call"] == "watch-clear":
+            return self.watch_clear(arguments["watch"], lent)
+        raise ValueError(f"no call of this model: {arguments['call']}")
+
+    def line(self, arguments, with_store, **strange):
         """Makes a call. Answers its line of a journal. `strange` is what the line says of the page buffer: `page_bytes`, `damage`."""
         lent = self.lent(**strange)
-        number, count, answer = self.call(given, buffer, lent)
-        left = lent if number in (1, 2) else self.pages()
-        line = {"record": given.hex(), "buffer": buffer, **strange, "number": number, "count": count, "answer": answer.hex(),
+        answer = self.handed(arguments, lent)
+        left = lent if answer.number in (1, 2) else self.pages()
+        written = {} if "call" in arguments else {"answer": answer.written.hex()}
+        line = {**arguments, **strange, "number": answer.number, "count": answer.count, **written, "gained": answer.gained, "lost": answer.lost,
                 "pages": hashlib.sha256(left).hexdigest()}
         return {**line, "store": self.store()} if with_store else line
+
+
+def differing(made, wanted):
+    """What a line has otherwise. What it does not name, as one from before watches, is not looked at."""
+    for key, value in wanted.items():
+        if key == "store":
+            yield from (f"store, {name}" for name in value if made["store"].get(name) != value[name])
+        elif made.get(key) != value:
+            yield key
 
 
 def main(files):
@@ -442,10 +518,10 @@ def main(files):
             for number, line in enumerate(lines, 1):
                 wanted = json.loads(line)
                 strange = {key: wanted[key] for key in STRANGE if key in wanted}
-                made = model.line(bytes.fromhex(wanted["record"]), wanted["buffer"], "store" in wanted, **strange)
-                if made != wanted:
-                    differing = [key for key in wanted if made.get(key) != wanted[key]]
-                    print(f"{name}: line {number}: {', '.join(differing)}")
+                arguments = {key: wanted[key] for key in ARGUMENTS if key in wanted}
+                differences = list(differing(model.line(arguments, "store" in wanted, **strange), wanted))
+                if differences:
+                    print(f"{name}: line {number}: {', '.join(differences)}")
                     agreed = False
                     break
             else:

@@ -42,6 +42,9 @@ memo-words = 5760
 abbrev pub on-words : ℕ
 on-words = 512
 
+abbrev pub watches-words : ℕ
+watches-words = 4176
+
 abbrev pub cells-at : ℕ
 cells-at = 80
 
@@ -53,6 +56,9 @@ memo-at = 2384
 
 abbrev pub on-at : ℕ
 on-at = 13904
+
+abbrev pub watches-at : ℕ
+watches-at = 14928
 
 pub parts-field : fieldOf D′.mir 0 ≡ just (P′.mir, 0)
 parts-field = refl
@@ -69,9 +75,12 @@ memo-field = refl
 pub on-field : fieldOf D′.mir 4 ≡ just (tyArray (tyInt w16) on-words, on-at)
 on-field = refl
 
+pub watches-field : fieldOf D′.mir 5 ≡ just (tyArray (tyInt w16) watches-words, watches-at)
+watches-field = refl
+
 -- ---- what is known of the fields
 -- what relates a value to machine values relates it to those that lowering writes
-as-lowered : (R : Declared) (l : LL.Lowered R) (d : R .D) (vs : List Val) → Is (row R) d vs → Is (row R) d (l .lowered d ∷ [])
+pub as-lowered : (R : Declared) (l : LL.Lowered R) (d : R .D) (vs : List Val) → Is (row R) d vs → Is (row R) d (l .lowered d ∷ [])
 as-lowered R l d vs i = subst (Is (row R) d) (l .val-is d vs i) i
 
 -- a field that is an array has the values `map (λ v. v) ws`
@@ -87,6 +96,7 @@ pub record Arrays (d : Desk) : Type 0 where
   pub waiting : AreWords waiting-words (d .waiting)
   pub memo : AreWords memo-words (d .memo)
   pub on : AreWords on-words (d .on)
+  pub watches : AreWords watches-words (d .watches)
 
 -- of a desk: its parts, and its arrays
 pub parts-known : (d : Desk) (vs : List Val) → Is D.the-row d vs → Is P.the-row (d .parts) (P′.lowered (d .parts) ∷ [])
@@ -100,6 +110,7 @@ arrays-known d vs i =
       waiting = words-out waiting-words (d .waiting) (p .1 .0);
       memo = words-out memo-words (d .memo) (p .1 .1 .0);
       on = words-out on-words (d .on) (p .1 .1 .1 .0);
+      watches = words-out watches-words (d .watches) (p .1 .1 .1 .1 .0);
     }
 
 -- an array is as long as its type says
@@ -107,8 +118,9 @@ long : (n : ℕ) (ws : List ℕ) → AreWords n ws → length ws ≡ n
 long n ws i = i .1 .0 .1
 
 pub arrays-long : (d : Desk) → Arrays d
-    → (length (d .cells) ≡ cell-words) × (length (d .waiting) ≡ waiting-words) × (length (d .memo) ≡ memo-words) × (length (d .on) ≡ on-words)
-arrays-long d i = (long cell-words (d .cells) (i .cells), long waiting-words (d .waiting) (i .waiting), long memo-words (d .memo) (i .memo), long on-words (d .on) (i .on))
+    → ((length (d .cells) ≡ cell-words) × (length (d .waiting) ≡ waiting-words) × (length (d .memo) ≡ memo-words) × (length (d .on) ≡ on-words)) × (length (d .watches) ≡ watches-words)
+arrays-long d i =
+    ((long cell-words (d .cells) (i .cells), long waiting-words (d .waiting) (i .waiting), long memo-words (d .memo) (i .memo), long on-words (d .on) (i .on)), long watches-words (d .watches) (i .watches))
 
 -- and the desk of such
 pub desk-made : (d : Desk) (vs : List Val) → Is P.the-row (d .parts) vs → Arrays d → Is D.the-row d (D′.lowered d ∷ [])
@@ -116,7 +128,7 @@ desk-made d vs i a =
     as-lowered D.the-type D′.lowers d _
     (LL.owes D.the-type D′.the-laws d (
       subst (Is P.the-row (d .parts)) (LL.tells P.the-type P′.the-laws (d .parts) vs i) i,
-      (words-in cell-words (d .cells) (a .cells), (words-in waiting-words (d .waiting) (a .waiting), (words-in memo-words (d .memo) (a .memo), (words-in on-words (d .on) (a .on), tt)))),
+      (words-in cell-words (d .cells) (a .cells), (words-in waiting-words (d .waiting) (a .waiting), (words-in memo-words (d .memo) (a .memo), (words-in on-words (d .on) (a .on), (words-in watches-words (d .watches) (a .watches), tt))))),
     ))
 
 -- and that the parts are of their type, so that they may be stored
@@ -126,10 +138,10 @@ parts-typed 𝓤 H A W p i = LL.lawful P.the-type P′.the-laws 𝓤 H A W .type
 -- ---- the cells
 -- the types and the machine values of the desk's fields
 abbrev τs : Tys
-τs = tcons P′.mir (tcons (tyArray (tyInt w16) cell-words) (tcons (tyArray (tyInt w16) waiting-words) (tcons (tyArray (tyInt w16) memo-words) (tcons (tyArray (tyInt w16) on-words) tnil))))
+τs = tcons P′.mir (tcons (tyArray (tyInt w16) cell-words) (tcons (tyArray (tyInt w16) waiting-words) (tcons (tyArray (tyInt w16) memo-words) (tcons (tyArray (tyInt w16) on-words) (tcons (tyArray (tyInt w16) watches-words) tnil)))))
 
 abbrev desk-vals : Desk → Vs
-desk-vals d = vcons (P′.lowered (d .parts)) (vcons (words-val (d .cells)) (vcons (words-val (d .waiting)) (vcons (words-val (d .memo)) (vcons (words-val (d .on)) vnil))))
+desk-vals d = vcons (P′.lowered (d .parts)) (vcons (words-val (d .cells)) (vcons (words-val (d .waiting)) (vcons (words-val (d .memo)) (vcons (words-val (d .on)) (vcons (words-val (d .watches)) vnil)))))
 
 module _ {M : Type 1} (𝓤 : URA M) (H : Heap 𝓤) (q : Share) (b o : ℕ) where
   abbrev pub parts-cell : Desk → Item 𝓤
@@ -147,6 +159,9 @@ module _ {M : Type 1} (𝓤 : URA M) (H : Heap 𝓤) (q : Share) (b o : ℕ) whe
   abbrev pub on-cell : Desk → Item 𝓤
   on-cell d = ‵ (words-at q on-words (d .on) b (o + on-at))
 
+  abbrev pub watches-cell : Desk → Item 𝓤
+  watches-cell d = ‵ (words-at q watches-words (d .watches) b (o + watches-at))
+
   -- the desk's cell from its fields' cells
   abbrev Way : Vs → SProp 𝓤
   Way us = wand 𝓤 (fieldsAt 𝓤 H q τs zero b o us) (H .at q D′.mir b o (vstruct us))
@@ -157,7 +172,7 @@ module _ {M : Type 1} (𝓤 : URA M) (H : Heap 𝓤) (q : Share) (b o : ℕ) whe
 
   -- all that the desk's cell is taken apart into, and that cell
   abbrev pub fields : Desk → List (Item 𝓤)
-  fields d = parts-cell d ∷ cells-cell d ∷ waiting-cell d ∷ memo-cell d ∷ on-cell d ∷ raw Back ∷ []
+  fields d = parts-cell d ∷ cells-cell d ∷ waiting-cell d ∷ memo-cell d ∷ on-cell d ∷ watches-cell d ∷ raw Back ∷ []
 
   abbrev pub desk-cell : Desk → Fml
   desk-cell d = cellAt q (D.the-row .mir) (D′.lowered d ∷ []) b o
@@ -167,15 +182,15 @@ module _ {M : Type 1} (𝓤 : URA M) (H : Heap 𝓤) (q : Share) (b o : ℕ) whe
     unfolding Back
     apart =
         qed W (‵ (desk-cell d) ∷ []) ∵ use1 W (‵ (fat q D′.mir b o (vstruct (desk-vals d)))) (W .laws .raw-at q D′.mir b o (vstruct (desk-vals d))) $
-        use1 W ((parts-cell d ⊛ (cells-cell d ⊛ (waiting-cell d ⊛ (memo-cell d ⊛ (on-cell d ⊛ ‵ ftrue))))) ⊛ raw (all 𝓤 Way)) (W .laws .at-fields q (D.struct .name) τs b o (desk-vals d)) $
-        split ! $ split ! $ move ! (1 ∷ []) $ split ! $ move ! (1 ∷ []) $ split ! $ move ! (1 ∷ []) $ split ! $ move ! (1 ∷ []) $ split ! $
-        -- [on; true; memo; waiting; cells; parts; the way back]
-        keep ! (5 ∷ 4 ∷ 3 ∷ 2 ∷ 0 ∷ 6 ∷ []) $ done !
+        use1 W ((parts-cell d ⊛ (cells-cell d ⊛ (waiting-cell d ⊛ (memo-cell d ⊛ (on-cell d ⊛ (watches-cell d ⊛ ‵ ftrue)))))) ⊛ raw (all 𝓤 Way)) (W .laws .at-fields q (D.struct .name) τs b o (desk-vals d)) $
+        split ! $ split ! $ move ! (1 ∷ []) $ split ! $ move ! (1 ∷ []) $ split ! $ move ! (1 ∷ []) $ split ! $ move ! (1 ∷ []) $ split ! $ move ! (1 ∷ []) $ split ! $
+        -- [watches; true; on; memo; waiting; cells; parts; the way back]
+        keep ! (6 ∷ 5 ∷ 4 ∷ 3 ∷ 2 ∷ 0 ∷ 7 ∷ []) $ done !
 
     together : ent 𝓤 (⋆ 𝓤 H A (fields d)) (sem 𝓤 H A (desk-cell d))
     unfolding Back
     together =
-        qed W (fields d) ∵ nothing ! $ move ! (5 ∷ 0 ∷ []) $ join ! $ move ! (4 ∷ 0 ∷ []) $ join ! $ move ! (3 ∷ 0 ∷ []) $ join ! $ move ! (2 ∷ 0 ∷ []) $ join ! $ move ! (1 ∷ 0 ∷ []) $ join ! $
+        qed W (fields d) ∵ nothing ! $ move ! (6 ∷ 0 ∷ []) $ join ! $ move ! (5 ∷ 0 ∷ []) $ join ! $ move ! (4 ∷ 0 ∷ []) $ join ! $ move ! (3 ∷ 0 ∷ []) $ join ! $ move ! (2 ∷ 0 ∷ []) $ join ! $ move ! (1 ∷ 0 ∷ []) $ join ! $
         -- [all fields; the way back]
         move ! (1 ∷ []) $ use1 W (raw (Way (desk-vals d))) (allE 𝓤 Way (desk-vals d)) $ move ! (1 ∷ 0 ∷ []) $
         use2 W (‵ (fat q D′.mir b o (vstruct (desk-vals d)))) (apply∗ 𝓤 (fieldsAt 𝓤 H q τs zero b o (desk-vals d)) (H .at q D′.mir b o (vstruct (desk-vals d)))) $

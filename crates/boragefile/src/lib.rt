@@ -1,18 +1,21 @@
-// The desk's calls on a desk that is lent: thin functions over `carry_lent` and `fresh::begin`, and those for programs in Rust or C, with the test of
-// soundness.
+// The desk's calls on a desk that is lent: thin functions over `carry_lent`, `set_lent`, `clear_lent` and `fresh::begin`, and those for programs in
+// Rust or C, with the test of soundness.
 ghost use mathlib.Core.Bool.{true};
+ghost use mathlib.Core.List.{[]};
 ghost use mathlib.Core.Path.{_≡_};
+ghost use Rattle.rules.specs.Calls.{hands, clears};
 ghost use Rattle.desk.specs.Call.{handed, left, Answers};
 ghost use Rattle.desk.specs.Sound.{Sound};
-ghost use Rattle.fresh.specs.Begin.{Begins};
+ghost use Rattle.fresh.specs.Begin.{found, made, Begins};
+ghost use Rattle.watching.specs.Watching.{setsWithin};
 use desk::Answer;
 use desk::Desk;
 
 // `carry_lent` on a desk that is lent and altered there: its parts, which are small, are copied out and stored back, and its arrays are lent on.
 pub fn call(desk: &mut Desk, pages: &mut [u8], bytes: &[u8], buffer: &mut [u8]) -> Answer
     ensures { λ r. ⌜ Answers
-        (handed (now (desk .entry)) (now (pages .entry)) (now (bytes .entry)) (now (buffer .entry)))
-        (left (r .number) (r .count) (now (desk .exit)) (now (pages .exit)) (now (buffer .exit))) ⌝ }
+        (handed (now (desk .entry)) (now (pages .entry)) (hands (now (bytes .entry))) (now (buffer .entry)))
+        (left r (now (desk .exit)) (now (pages .exit)) (now (buffer .exit))) ⌝ }
 {
     let parts = desk.parts;
     let told = carry::carry_lent(
@@ -21,6 +24,7 @@ pub fn call(desk: &mut Desk, pages: &mut [u8], bytes: &[u8], buffer: &mut [u8]) 
         &mut desk.waiting,
         &mut desk.memo,
         &mut desk.on,
+        &mut desk.watches,
         pages,
         bytes,
         buffer,
@@ -38,17 +42,73 @@ pub extern "C" fn boragefile_call(
     buffer: &mut [u8],
 ) -> Answer
     ensures { λ a. ⌜ Answers
-        (handed (now (desk .entry)) (now (pages .entry)) (now (bytes .entry)) (now (buffer .entry)))
-        (left (a .number) (a .count) (now (desk .exit)) (now (pages .exit)) (now (buffer .exit))) ⌝ }
+        (handed (now (desk .entry)) (now (pages .entry)) (hands (now (bytes .entry))) (now (buffer .entry)))
+        (left a (now (desk .exit)) (now (pages .exit)) (now (buffer .exit))) ⌝ }
 {
     call(desk, pages, bytes, buffer)
 }
 
+// ---- watches
+
+// `set_lent` on a desk that is lent: its watches are altered there. For a serving program in Rust or C.
+#[no_mangle]
+pub extern "C" fn boragefile_watch_set(
+    desk: &mut Desk,
+    pages: &[u8],
+    watch: u16,
+    west: u16,
+    east: u16,
+    south: u16,
+    north: u16,
+) -> Answer
+    ensures { λ a. ⌜ Answers
+        (handed (now (desk .entry)) (now (pages .entry)) (setsWithin watch west east south north) [])
+        (left a (now (desk .exit)) (now (pages .entry)) []) ⌝ }
+{
+    let parts = desk.parts;
+    watching::set_lent(
+        parts,
+        &desk.cells,
+        &desk.waiting,
+        &desk.memo,
+        &desk.on,
+        &mut desk.watches,
+        pages,
+        watch,
+        west,
+        east,
+        south,
+        north,
+    )
+}
+
+// `clear_lent` on a desk that is lent: its watches are altered there. For a serving program in Rust or C.
+#[no_mangle]
+pub extern "C" fn boragefile_watch_clear(desk: &mut Desk, pages: &[u8], watch: u16) -> Answer
+    ensures { λ a. ⌜ Answers
+        (handed (now (desk .entry)) (now (pages .entry)) (clears watch) [])
+        (left a (now (desk .exit)) (now (pages .entry)) []) ⌝ }
+{
+    let parts = desk.parts;
+    watching::clear_lent(
+        parts,
+        &desk.cells,
+        &desk.waiting,
+        &desk.memo,
+        &desk.on,
+        &mut desk.watches,
+        pages,
+        watch,
+    )
+}
+
+// ---- a fresh store, and the test
+
 // A fresh store on a desk that is lent and altered there.
 pub fn begin(desk: &mut Desk, pages: &mut [u8]) -> Answer
     ensures { λ r. ⌜ Begins
-        (record { desk = now (desk .entry); pages = now (pages .entry) })
-        (record { number = r .number; count = r .count; desk = now (desk .exit); pages = now (pages .exit) }) ⌝ }
+        (found (now (desk .entry)) (now (pages .entry)))
+        (made r (now (desk .exit)) (now (pages .exit))) ⌝ }
 {
     let d = *desk;
     let c = fresh::begin(d, pages);
@@ -60,8 +120,8 @@ pub fn begin(desk: &mut Desk, pages: &mut [u8]) -> Answer
 #[no_mangle]
 pub extern "C" fn boragefile_begin(desk: &mut Desk, pages: &mut [u8]) -> Answer
     ensures { λ a. ⌜ Begins
-        (record { desk = now (desk .entry); pages = now (pages .entry) })
-        (record { number = a .number; count = a .count; desk = now (desk .exit); pages = now (pages .exit) }) ⌝ }
+        (found (now (desk .entry)) (now (pages .entry)))
+        (made a (now (desk .exit)) (now (pages .exit))) ⌝ }
 {
     begin(desk, pages)
 }
@@ -79,6 +139,7 @@ pub extern "C" fn boragefile_sound(desk: &Desk, pages: &[u8]) -> bool
         &desk.waiting,
         &desk.memo,
         &desk.on,
+        &desk.watches,
         pages,
     )
 }

@@ -1,104 +1,194 @@
 -- Demands 2 and 3 hold of every list of calls: beside each list goes a well-formed store that desk and pages lay out, and that is linked to the plain rule.
+use mathlib.Core.Bool.{true, false, not, cond}
 use mathlib.Core.List.{List}
+use mathlib.Core.Option.{none, some}
 use mathlib.Core.Path.{_≡_, refl, sym, ap, _∙_, subst}
 use Prim.Native.Nat.{ℕ}
+use native.Mathlib.Omega.{arith}
+use lib.Dec.{eqb, leb}
+use lib.ListN.{set, replicate}
+use borrow.Author.Tests.{eqb-true}
+use Rattle.lists.specs.Tests.{either, isSome}
 use Rattle.lists.specs.Words.{Bytes}
+use Rattle.lists.proofs.Cases.{by-cases}
+use Rattle.rules.specs.Grid.{Rect, isReversed}
 use Rattle.rules.specs.Store.{Store, fresh}
 use Rattle.rules.specs.Carry.{carry}
 use Rattle.rules.specs.Plain.{Plain, plainFresh, plainStep}
+use Rattle.rules.specs.Watches.{maxWatches, Watch, watchAt, Watched, RightWatches, freshWatched}
+use Rattle.rules.specs.Calls.{Call, hands, sets, clears, carryRecord, setRefusal, clearRefusal, numbered, watchCall, carryCall, plainCall}
 use Rattle.rules.specs.WellFormed.{WellFormed}
 use Rattle.rules.proofs.LinkLaws.{Link, fresh-link}
 use Rattle.rules.proofs.PlainLaws.{step-link}
 use Rattle.rules.proofs.StepLaws.{step-well}
 use Rattle.rules.proofs.ToldLaws.{told-same, told-not-2, told-zero}
+use Rattle.rules.proofs.WatchesLaws.{right-set}
 use Rattle.rules.proofs.WellLaws.{well-core}
 use Rattle.desk.specs.declared.Desk.{Desk}
-use Rattle.desk.specs.Layout.{deskOf, Laid, freshPages}
+use Rattle.desk.specs.Layout.{Laid, freshPages}
 use Rattle.desk.specs.Sound.{Sound}
-use Rattle.desk.specs.Call.{After, Answers, laidOut}
+use Rattle.desk.specs.Call.{After, handed, Answers, laidOut}
 use Rattle.desk.proofs.CallLaws.{answers-sound}
 use Rattle.desk.proofs.PagesLaws.{laid-pages}
-use Rattle.desk.proofs.FreshLaws.{fresh-laid, fresh-well}
-use Rattle.demands.specs.Trace.{Trace, begun, called, freshDesk, deskCuts, EveryState, EveryCall}
-use Rattle.demands.specs.Demands.{AsTold, Demand2, Kept, NotRefused, Demand3}
-use Rattle.demands.proofs.KeptLaws.{kept, desk-cuts}
+use Rattle.desk.proofs.FreshLaws.{fresh-laid, fresh-well, fresh-right}
+use Rattle.demands.specs.Trace.{InBytes, Trace, begun, called, freshDesk, deskCuts, watchesThen, watchesSet, EveryState, Step, EveryCall}
+use Rattle.demands.specs.Demands.{toldCall, AsTold, Demand2, Kept, HadSpace, NotRefused, Demand3}
+use Rattle.demands.proofs.KeptLaws.{deskAt, kept, desk-cuts}
 
 -- ---- the store beside a list of calls
 
-pub record Beside (d : Desk) (b : List ℕ) (x : Plain) : Type 0 where
+pub record Beside (d : Desk) (b : List ℕ) (x : Plain) (l : List Watch) : Type 0 where
   pub store : Store
   pub well : WellFormed store
-  pub held : d ≡ deskOf store
+  pub right : RightWatches l
+  pub held : d ≡ deskAt store l
   pub laid : Laid store b
   pub link : Link store x
 
-abbrev pub sound : {d : Desk} {b : List ℕ} {x : Plain} → Beside d b x → Sound d b
-sound k = record { store = k .store; well = k .well; held = k .held; laid = k .laid }
+abbrev pub watched : {d : Desk} {b : List ℕ} {x : Plain} {l : List Watch} → Beside d b x l → Watched
+watched {l = l} k = record { store = k .store; watches = l }
 
-unfoldable pub begins : Beside freshDesk freshPages plainFresh
-begins = record { store = fresh; well = fresh-well; held = refl; laid = fresh-laid; link = fresh-link }
+abbrev pub sound : {d : Desk} {b : List ℕ} {x : Plain} {l : List Watch} → Beside d b x l → Sound d b
+sound k = record { watched = watched k; well = k .well; right = k .right; held = k .held; laid = k .laid }
 
--- what a call answers and leaves, as the rules say of the store beside it
-unfoldable pub outcome : {d : Desk} {b : List ℕ} {x : Plain} (k : Beside d b x) (bytes buffer : List ℕ) {y : After}
-    → y ≡ laidOut (carry (k .store) bytes buffer) → Bytes bytes
-    → Beside (y .desk) (y .pages) (plainStep (deskCuts d) bytes x)
-unfolding laidOut
-outcome {d} {b} {x} k bytes buffer {y} e small =
+unfoldable pub begins : Beside freshDesk freshPages plainFresh (replicate maxWatches none)
+unfolding freshWatched
+begins = record { store = fresh; well = fresh-well; right = fresh-right; held = refl; laid = fresh-laid; link = fresh-link }
+
+-- ---- what a call answers and leaves, as the rules say of the store beside it
+
+-- a record
+unfoldable pub outcome : {d : Desk} {b : List ℕ} {x : Plain} {l : List Watch} (k : Beside d b x l) (bytes buffer : List ℕ) {y : After}
+    → y ≡ laidOut (carryRecord bytes (watched k) buffer) → Bytes bytes
+    → Beside (y .desk) (y .pages) (plainStep (deskCuts d) bytes x) l
+unfolding laidOut carryRecord
+outcome {d} {b} {x} {l} k bytes buffer {y} e small =
     let s = carry (k .store) bytes buffer .store in
     let w = step-well (k .store) bytes buffer small (k .well) in
-    let cuts : deskCuts d ≡ k .store .cuts = ap deskCuts (k .held) ∙ desk-cuts (k .store) in
+    let cuts : deskCuts d ≡ k .store .cuts = ap deskCuts (k .held) ∙ desk-cuts (k .store) l in
     record {
       store = s;
       well = w;
+      right = k .right;
       held = ap (λ (z : After). z .desk) e;
-      laid = subst (λ (l : List ℕ). Laid s l) (sym (ap (λ (z : After). z .pages) e)) (laid-pages s (w .once));
+      laid = subst (λ (n : List ℕ). Laid s n) (sym (ap (λ (z : After). z .pages) e)) (laid-pages s (w .once));
       link = rw cuts (step-link (k .store) x bytes buffer small (k .well) (k .link));
     }
 
-beside : {d : Desk} {b : List ℕ} {x : Plain} → Trace d b x → Beside d b x
-beside begun = begins
-beside (called t bytes buffer y small a) = let k = beside t in outcome k bytes buffer (answers-sound a (sound k)) small
+-- a call that changes the watches, or nothing
+unfoldable pub rewatched : {d : Desk} {b : List ℕ} {x : Plain} {l : List Watch} (k : Beside d b x l) (z : List Watch) (number : ℕ) (buffer : List ℕ) → RightWatches z → {y : After}
+    → y ≡ laidOut (numbered number (record { store = k .store; watches = z }) buffer) → Beside (y .desk) (y .pages) x z
+unfolding laidOut
+rewatched k z number buffer right {y} e = record {
+  store = k .store;
+  well = k .well;
+  right = right;
+  held = ap (λ (a : After). a .desk) e;
+  laid = subst (λ (n : List ℕ). Laid (k .store) n) (sym (ap (λ (a : After). a .pages) e)) (laid-pages (k .store) (k .well .once));
+  link = k .link;
+}
 
-state : {d : Desk} {b : List ℕ} {x : Plain} → Beside d b x → Kept d b x
-state {d} {b} {x} k = rw (k .held) (kept (k .store) x b (k .well) (k .laid) (k .link))
+-- a rectangle that is set is not reversed
+upright : (w : ℕ) (rect : Rect) → eqb (setRefusal w rect) 0 ≡ true → isReversed rect ≡ false
+upright w rect e =
+    let z = eqb-true (setRefusal w rect) 0 e in
+    by-cases (leb maxWatches w) (λ t. absurd (omega (arith, rw t at z))) (λ t. let z₁ = rw t at z in by-cases (isReversed rect) (λ u. absurd (omega (arith, rw u at z₁))) (λ u. u))
+
+pub right-then : (call : Call) {l : List Watch} → RightWatches l → RightWatches (watchesThen call l)
+right-then (hands bytes) h = h
+right-then (sets w rect) {l} h =
+    by-cases (eqb (setRefusal w rect) 0) (λ t. rw t (right-set l w (some rect) (upright w rect t) h)) (λ t. rw t h)
+right-then (clears w) {l} h = by-cases (eqb (clearRefusal w l) 0) (λ t. rw t (right-set l w none tt h)) (λ t. rw t h)
+
+-- under number 0 the watches are changed, under any other all stays
+pub watched-then : (s : Store) (l : List Watch) (number w : ℕ) (watch : Watch) (buffer : List ℕ)
+    → watchCall number w watch (record { store = s; watches = l }) buffer ≡ numbered number (record { store = s; watches = cond (eqb number 0) (set l w watch) l }) buffer
+unfolding watchCall
+watched-then s l number w watch buffer = by-cases (eqb number 0) (λ t. rw t (ap (λ (n : ℕ). numbered n (record { store = s; watches = set l w watch }) buffer) (sym (eqb-true number 0 t)))) (λ t. rw t)
+
+-- any call
+unfoldable pub follows : {d : Desk} {b : List ℕ} {x : Plain} {l : List Watch} (k : Beside d b x l) (call : Call) (buffer : List ℕ) {y : After}
+    → y ≡ laidOut (carryCall call (watched k) buffer) → InBytes call → Beside (y .desk) (y .pages) (plainCall (deskCuts d) call x) (watchesThen call l)
+unfolding carryCall
+follows k (hands bytes) buffer e small = outcome k bytes buffer e small
+follows {l = l} k (sets w rect) buffer e small =
+    rewatched k (watchesThen (sets w rect) l) (setRefusal w rect) buffer (right-then (sets w rect) (k .right)) (e ∙ ap laidOut (watched-then (k .store) l (setRefusal w rect) w (some rect) buffer))
+follows {l = l} k (clears w) buffer e small =
+    rewatched k (watchesThen (clears w) l) (clearRefusal w l) buffer (right-then (clears w) (k .right)) (e ∙ ap laidOut (watched-then (k .store) l (clearRefusal w l) w none buffer))
+
+pub beside : {d : Desk} {b : List ℕ} {x : Plain} (t : Trace d b x) → Beside d b x (watchesSet t)
+unfolding watchesSet
+beside begun = begins
+beside (called t call buffer y small a) = let k = beside t in follows k call buffer (answers-sound a (sound k)) small
+
+state : {d : Desk} {b : List ℕ} {x : Plain} {l : List Watch} → Beside d b x l → Kept d b x
+state {d} {b} {x} {l} k = rw (k .held) (kept (k .store) l x b (k .well) (k .laid) (k .link))
 
 -- ---- each call is answered as the plain rule says
 
-as-told : {d : Desk} {b : List ℕ} {x : Plain} (k : Beside d b x) (bytes buffer : List ℕ) {y : After}
-    → Answers (record { desk = d; pages = b; bytes = bytes; buffer = buffer }) y → AsTold x bytes buffer y
-unfolding laidOut
-as-told {x = x} k bytes buffer a =
-    let c = answers-sound a (sound k) in
-    let t = told-same (k .store) x bytes buffer (well-core (k .store) (k .well) .signed) (k .link) in
-    record {
-      number = ap (λ (z : After). z .number) c ∙ t .0;
-      count = ap (λ (z : After). z .count) c ∙ t .1;
-      buffer = ap (λ (z : After). z .buffer) c ∙ t .2;
-    }
+module _ {d : Desk} {b : List ℕ} {x : Plain} {l : List Watch} (k : Beside d b x l) where
+  abbrev step : Call → List ℕ → After → Step
+  step call buffer y = record { desk = d; plain = x; watches = l; call = call; buffer = buffer; after = y }
+
+  watch-told : (number w : ℕ) (watch : Watch) (buffer : List ℕ) {y : After} → y ≡ laidOut (watchCall number w watch (watched k) buffer)
+      → (y .number ≡ number) × (y .count ≡ 0) × (y .buffer ≡ buffer)
+  unfolding laidOut
+  watch-told number w watch buffer e =
+      let c = e ∙ ap laidOut (watched-then (k .store) l number w watch buffer) in
+      (ap (λ (z : After). z .number) c, ap (λ (z : After). z .count) c, ap (λ (z : After). z .buffer) c)
+
+  as-told : (call : Call) (buffer : List ℕ) {y : After} → Answers (handed d b call buffer) y → AsTold (step call buffer y)
+  unfolding laidOut carryCall carryRecord
+  as-told (hands bytes) buffer a =
+      let c = answers-sound a (sound k) in
+      let t = told-same (k .store) x bytes buffer (well-core (k .store) (k .well) .signed) (k .link) in
+      record {
+        number = ap (λ (z : After). z .number) c ∙ t .0;
+        count = ap (λ (z : After). z .count) c ∙ t .1;
+        buffer = ap (λ (z : After). z .buffer) c ∙ t .2;
+      }
+  as-told (sets w rect) buffer a = let t = watch-told (setRefusal w rect) w (some rect) buffer (answers-sound a (sound k)) in record { number = t .0; count = t .1; buffer = t .2 }
+  as-told (clears w) buffer a = let t = watch-told (clearRefusal w l) w none buffer (answers-sound a (sound k)) in record { number = t .0; count = t .1; buffer = t .2 }
 
 every-told : {d : Desk} {b : List ℕ} {x : Plain} (t : Trace d b x) → EveryCall AsTold t
 every-told begun = tt
-every-told (called t bytes buffer y small a) = (every-told t, as-told (beside t) bytes buffer a)
+every-told (called t call buffer y small a) = (every-told t, as-told (beside t) call buffer a)
 
 pub demand2 : Demand2
 demand2 d b x t = every-told t
 
 -- ---- what holds of desk and pages, and of each call
 
-every-kept : {d : Desk} {b : List ℕ} {x : Plain} (t : Trace d b x) → EveryState Kept t
+every-kept : {d : Desk} {b : List ℕ} {x : Plain} (t : Trace d b x) → EveryState (λ d b x l. Kept d b x) t
 every-kept begun = state begins
-every-kept (called t bytes buffer y small a) = (every-kept t, state (beside (called t bytes buffer y small a)))
+every-kept (called t call buffer y small a) = (every-kept t, state (beside (called t call buffer y small a)))
 
--- number 2 is no refusal of a record's, nor is 11 one of a sign-on or report
-not-refused : {x : Plain} (bytes buffer : List ℕ) {y : After} → AsTold x bytes buffer y → NotRefused x bytes buffer y
-not-refused {x} bytes buffer {y} t = record {
-  found-sound = λ e. told-not-2 x bytes buffer (sym (t .number) ∙ e);
-  had-space = λ q e. t .number ∙ told-zero x bytes buffer q e;
+set-not-2 : (w : ℕ) (rect : Rect) → setRefusal w rect ≡ 2 → ⊥
+set-not-2 w rect e = by-cases (leb maxWatches w) (λ t. absurd (omega (arith, rw t at e))) (λ t. let e₁ = rw t at e in by-cases (isReversed rect) (λ u. absurd (omega (arith, rw u at e₁))) (λ u. absurd (omega (arith, rw u at e₁))))
+
+clear-not-2 : (w : ℕ) (l : List Watch) → clearRefusal w l ≡ 2 → ⊥
+clear-not-2 w l e = by-cases (either (leb maxWatches w) (not (isSome (watchAt l w)))) (λ t. absurd (omega (arith, rw t at e))) (λ t. absurd (omega (arith, rw t at e)))
+
+-- number 2 is no refusal of a record's or a watch's, nor is 11 one of a sign-on or report
+told-sound : (x : Plain) (l : List Watch) (call : Call) (room : List ℕ) → toldCall x l call room .number ≡ 2 → ⊥
+told-sound x l (hands bytes) room e = told-not-2 x bytes room e
+told-sound x l (sets w rect) room e = set-not-2 w rect e
+told-sound x l (clears w) room e = clear-not-2 w l e
+
+told-space : (x : Plain) (l : List Watch) (call : Call) (room : List ℕ) {number : ℕ} → number ≡ toldCall x l call room .number → HadSpace x call number
+told-space x l (hands bytes) room t = λ q e. t ∙ told-zero x bytes room q e
+told-space x l (sets w rect) room t = tt
+told-space x l (clears w) room t = tt
+
+not-refused : (c : Step) → AsTold c → NotRefused c
+not-refused c t = record {
+  found-sound = λ e. told-sound (c .plain) (c .watches) (c .call) (c .buffer) (sym (t .number) ∙ e);
+  had-space = told-space (c .plain) (c .watches) (c .call) (c .buffer) (t .number);
 }
 
 every-call : {d : Desk} {b : List ℕ} {x : Plain} (t : Trace d b x) → EveryCall NotRefused t
 every-call begun = tt
-every-call (called t bytes buffer y small a) = (every-call t, not-refused bytes buffer (as-told (beside t) bytes buffer a))
+every-call (called t call buffer y small a) = (every-call t, not-refused (record { desk = _; plain = _; watches = _; call = call; buffer = buffer; after = y }) (as-told (beside t) call buffer a))
 
 pub demand3 : Demand3
 demand3 d b x t = record { states = every-kept t; calls = every-call t }

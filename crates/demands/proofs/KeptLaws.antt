@@ -27,13 +27,15 @@ use Rattle.rules.specs.Store.{Store, Cell, Report as StoreReport, Line as Store
 use Rattle.rules.specs.Sweep.{isAt}
 use Rattle.rules.specs.Carry.{isOn, fixOf, liveIn, storedIn}
 use Rattle.rules.specs.Plain.{Plain, placeOf}
+use Rattle.rules.specs.Watches.{Watch}
 use Rattle.rules.specs.WellFormed.{countIf, liveOf, staleOf, chains, WellFormed, PagesOnce}
 use Rattle.rules.proofs.LinkLaws.{Link, length-waiting}
 use Rattle.rules.proofs.BooksLaws.{missed-total}
 use Rattle.rules.proofs.PlaceLaws.{samePlace-refl}
 use Rattle.rules.proofs.TilingLaws.{some-cell}
 use Rattle.rules.proofs.WellLaws.{well-core, well-tiling}
-use Rattle.desk.specs.Layout.{slotOf, gridOf, reportOf, waitingOf, lineWith, lineOf, deskOf, Laid}
+use Rattle.desk.specs.declared.Desk.{Desk}
+use Rattle.desk.specs.Layout.{slotOf, gridOf, reportOf, waitingOf, lineWith, lineOf, ledgerOf, deskOf, Laid}
 use Rattle.desk.proofs.ReadLaws.{ChainRead, CellRead, FreePage, cells-read, free-read, Paged, pages-enough}
 use Rattle.desk.proofs.UniqueLaws.{take-cuts, take-slots, take-waiting, take-memo}
 use Rattle.demands.specs.Trace.{deskCuts}
@@ -41,9 +43,13 @@ use Rattle.demands.specs.Demands.{chainAt, allChains, staleEntry, staleE
 
 -- ---- the desk's lists
 
-pub desk-cuts : (s : Store) → deskCuts (deskOf s) ≡ s .cuts
-unfolding deskCuts deskOf gridOf
-desk-cuts s = let a = take-cuts (s .cuts .easts) in let o = take-cuts (s .cuts .norths) in λ i. record { easts = a i; norths = o i }
+-- the desk of a store and its watches
+abbrev pub deskAt : Store → List Watch → Desk
+deskAt s vs = deskOf (record { store = s; watches = vs })
+
+pub desk-cuts : (s : Store) (vs : List Watch) → deskCuts (deskAt s vs) ≡ s .cuts
+unfolding deskCuts deskOf ledgerOf gridOf
+desk-cuts s vs = let a = take-cuts (s .cuts .easts) in let o = take-cuts (s .cuts .norths) in λ i. record { easts = a i; norths = o i }
 
 line-radio : (r m : ℕ) (o : Option Place) → lineWith r m o .radio ≡ r
 line-radio r m none = refl
@@ -60,9 +66,9 @@ missed-found (x ∷ xs) r =
     rw (line-radio (x .key) (x .val .missed) (x .val .last), line-missed (x .key) (x .val .missed) (x .val .last), missed-found xs r)
     (by-cases (eqb r (x .key)) (λ t. rw t) (λ t. rw t))
 
-pub missed-count : (s : Store) (r : ℕ) → missedCount (deskOf s) r ≡ missedOf (find (s .memo) r)
-unfolding missedCount deskOf
-missed-count s r = ap (λ l. missedIn l r) (take-memo (s .memo)) ∙ missed-found (s .memo) r
+pub missed-count : (s : Store) (vs : List Watch) (r : ℕ) → missedCount (deskAt s vs) r ≡ missedOf (find (s .memo) r)
+unfolding missedCount deskOf ledgerOf
+missed-count s vs r = ap (λ l. missedIn l r) (take-memo (s .memo)) ∙ missed-found (s .memo) r
 
 lines-keys : (l : Rows StoreLine) (r : ℕ) → sumBy (λ y. one-if (eqb r (y .radio))) (map lineOf l) ≡ sumBy (λ y. one-if (eqb r (y .key))) l
 unfolding sumBy
@@ -73,36 +79,36 @@ count-line : (r : ℕ) (o : Option StoreLine) → countFound (λ k _. one-if (eq
 count-line r none = refl
 count-line r (some l) = rw (eq-eqb r r refl)
 
-pub memo-lines : (s : Store) → WellFormed s → (r : ℕ) → memoLines (deskOf s) r ≡ one-if (isSome (find (s .memo) r))
-unfolding memoLines deskOf
-memo-lines s w r =
+pub memo-lines : (s : Store) (vs : List Watch) → WellFormed s → (r : ℕ) → memoLines (deskAt s vs) r ≡ one-if (isSome (find (s .memo) r))
+unfolding memoLines deskOf ledgerOf
+memo-lines s vs w r =
     ap (sumBy (λ y. one-if (eqb r (y .radio)))) (take-memo (s .memo)) ∙ lines-keys (s .memo) r
     ∙ sum-at-key (λ y. one-if (eqb r (y .key))) 0 r (s .memo) (λ y d. ap one-if (ne-eqb r (y .key) (λ q. d (sym q)))) (w .memo-rises)
     ∙ count-line r (find (s .memo) r)
 
-pub one-line : (s : Store) → WellFormed s → (r : ℕ) → memoLines (deskOf s) r ≤ one-if (isRadio r)
+pub one-line : (s : Store) (vs : List Watch) → WellFormed s → (r : ℕ) → memoLines (deskAt s vs) r ≤ one-if (isRadio r)
 unfolding isRadio both
-one-line s w r =
+one-line s vs w r =
     by-cases (isSome (find (s .memo) r))
     (λ t. let k = find-within 0 maxRadio r (s .memo) (w .memo-rises) (w .memo-radios) t in
-    rw (memo-lines s w r, t, lt-ltb 0 r (k .0), lt-ltb r (suc maxRadio) (omega (arith, k .1))) (omega arith))
-    (λ t. rw (memo-lines s w r, t) (omega arith))
+    rw (memo-lines s vs w r, t, lt-ltb 0 r (k .0), lt-ltb r (suc maxRadio) (omega (arith, k .1))) (omega arith))
+    (λ t. rw (memo-lines s vs w r, t) (omega arith))
 
 waiting-found : (l : Rows StoreReport) (r : ℕ) → waitingFix (map reportOf l) r ≡ fixOf (find l r)
 unfolding waitingFix find
 waiting-found [] r = refl
 waiting-found (x ∷ xs) r = by-cases (eqb r (x .key)) (λ t. rw (t, wide-halves (x .val .fix .minute))) (λ t. rw t (waiting-found xs r))
 
-pub waiting-place : (s : Store) (r : ℕ) → waitingFix (take (deskOf s .parts .waiting) (everyReport (deskOf s .waiting))) r ≡ fixOf (find (s .waiting) r)
-unfolding deskOf
-waiting-place s r = ap (λ l. waitingFix l r) (take-waiting (s .waiting)) ∙ waiting-found (s .waiting) r
+pub waiting-place : (s : Store) (vs : List Watch) (r : ℕ) → waitingFix (take (deskAt s vs .parts .waiting) (everyReport (deskAt s vs .waiting))) r ≡ fixOf (find (s .waiting) r)
+unfolding deskOf ledgerOf
+waiting-place s vs r = ap (λ l. waitingFix l r) (take-waiting (s .waiting)) ∙ waiting-found (s .waiting) r
 
-pub waiting-number : (s : Store) → deskOf s .parts .waiting ≡ length (s .waiting)
-unfolding deskOf waitingOf
-waiting-number s = refl
+pub waiting-number : (s : Store) (vs : List Watch) → deskAt s vs .parts .waiting ≡ length (s .waiting)
+unfolding deskOf ledgerOf waitingOf
+waiting-number s vs = refl
 
-pub exactly-waiting : (s : Store) (x : Plain) → WellFormed s → Link s x → deskOf s .parts .waiting ≡ sumTo (suc maxRadio) (λ r. one-if (x .waits r))
-exactly-waiting s x w k = waiting-number s ∙ length-waiting s x k (well-core s w .waits)
+pub exactly-waiting : (s : Store) (vs : List Watch) (x : Plain) → WellFormed s → Link s x → deskAt s vs .parts .waiting ≡ sumTo (suc maxRadio) (λ r. one-if (x .waits r))
+exactly-waiting s vs x w k = waiting-number s vs ∙ length-waiting s x k (well-core s w .waits)
 
 -- ---- the chains
 
@@ -115,9 +121,9 @@ unfolding concat
 cell-chains b [] e = refl
 cell-chains b (c ∷ cs) e = ap₂ (λ (x y : List ℕ). x ++ y) (chain-at b (c .chain) (e .0 .read)) (cell-chains b cs (e .1))
 
-pub all-chains : (s : Store) (b : List ℕ) → PagesOnce s → Laid s b → allChains (deskOf s) b ≡ chains s
-unfolding allChains chains deskOf gridOf
-all-chains s b once l =
+pub all-chains : (s : Store) (vs : List Watch) (b : List ℕ) → PagesOnce s → Laid s b → allChains (deskAt s vs) b ≡ chains s
+unfolding allChains chains deskOf ledgerOf gridOf
+all-chains s vs b once l =
     ap₂ (λ (x y : List ℕ). x ++ y)
     (ap (λ z. concat (map (λ c. chainAt b (c .first)) z)) (take-slots (s .cells)) ∙ cell-chains b (s .cells) (cells-read s once b l))
     (chain-at b (s .free) (free-read s once b l .read))
@@ -206,23 +212,23 @@ pub stale-missed : (s : Store) (x : Plain) (b : List ℕ) → WellFormed s → L
 stale-missed s x b w l k r = stale-cells s x b w l r ∙ stale-flushed s x w k r
 
 -- 16 × 63 + 15 + 127 = 1,150: the inequality at the front of the round, with the tally at its greatest
-stale-bounded : (s : Store) (x : Plain) (b : List ℕ) → WellFormed s → Laid s b → Link s x → sumTo (suc maxRadio) (staleEntries x b) + deskOf s .parts .waiting ≤ staleBound
-stale-bounded s x b w l k =
+stale-bounded : (s : Store) (vs : List Watch) (x : Plain) (b : List ℕ) → WellFormed s → Laid s b → Link s x → sumTo (suc maxRadio) (staleEntries x b) + deskAt s vs .parts .waiting ≤ staleBound
+stale-bounded s vs x b w l k =
     omega (
       arith,
       sumTo-ext (suc maxRadio) (staleEntries x b) (λ r. missedOf (find (s .memo) r)) (λ r h. stale-missed s x b w l k r),
       missed-total (well-core s w .books),
-      waiting-number s,
+      waiting-number s vs,
       w .bounded 0 (some-cell (well-tiling s w)),
       w .tallied,
     )
 
-pub kept : (s : Store) (x : Plain) (b : List ℕ) → WellFormed s → Laid s b → Link s x → Kept (deskOf s) b x
-kept s x b w l k = record {
-  missed = λ r _ _. stale-missed s x b w l k r ∙ sym (missed-count s r);
-  one-line = one-line s w;
-  bounded = stale-bounded s x b w l k;
-  once = λ p. ap (count p) (all-chains s b (w .once) l) ∙ w .once p;
-  waiting = λ r. waiting-place s r ∙ k .waiting r;
-  exactly = exactly-waiting s x w k;
+pub kept : (s : Store) (vs : List Watch) (x : Plain) (b : List ℕ) → WellFormed s → Laid s b → Link s x → Kept (deskAt s vs) b x
+kept s vs x b w l k = record {
+  missed = λ r _ _. stale-missed s x b w l k r ∙ sym (missed-count s vs r);
+  one-line = one-line s vs w;
+  bounded = stale-bounded s vs x b w l k;
+  once = λ p. ap (count p) (all-chains s vs b (w .once) l) ∙ w .once p;
+  waiting = λ r. waiting-place s vs r ∙ k .waiting r;
+  exactly = exactly-waiting s vs x w k;
 }

@@ -27,6 +27,8 @@ use Rattle.rules.specs.Sweep.{isAt, staleBy}
 use Rattle.rules.specs.Records.{requestOf}
 use Rattle.rules.specs.Carry.{carry}
 use Rattle.rules.specs.Plain.{Plain, plainStep}
+use Rattle.rules.specs.Watches.{Watch}
+use Rattle.rules.specs.Calls.{Call, hands, sets, clears, carryRecord, carryCall, plainCall}
 use Rattle.rules.specs.WellFormed.{countIf, staleOf, WellFormed}
 use Rattle.rules.specs.Parts.{Rowed, Clean}
 use Rattle.rules.specs.Lasting.{isCounted, lastingRecords}
@@ -38,10 +40,10 @@ use Rattle.rules.proofs.WellLaws.{well-core}
 use Rattle.desk.specs.declared.Desk.{Desk}
 use Rattle.desk.specs.Call.{After, Answers, handed, laidOut}
 use Rattle.desk.proofs.CallLaws.{answers-sound}
-use Rattle.demands.specs.Trace.{Trace, begun, called, deskCuts}
+use Rattle.demands.specs.Trace.{InBytes, Trace, begun, called, deskCuts, watchesSet}
 use Rattle.demands.specs.Lasting.{isEntry, entriesAt, isRecord, recordsSince, Lasting, LastingLess, OneEntry}
 use Rattle.demands.proofs.KeptLaws.{pages-sum, stale-flushed}
-use Rattle.demands.proofs.Demands.{Beside, sound, begins, outcome}
+use Rattle.demands.proofs.Demands.{Beside, watched, sound, begins, outcome, rewatched, follows}
 
 sum-le-among : {A : Type 0} (f g : A → ℕ) (l : List A) → ((x : A) → Among l x → f x ≤ g x) → sumBy f l ≤ sumBy g l
 unfolding sumBy
@@ -51,12 +53,12 @@ sum-le-among f g (x ∷ xs) h = omega (arith, h x (among-head x xs), sum-le-amon
 -- ---- how the records are counted
 
 -- once it is stale, the count goes on from where it was, or from 0
-since-called : {d : Desk} {b : List ℕ} {x : Plain} (t : Trace d b x) (bytes buffer : List ℕ) (y : After) (small : Bytes bytes)
-    (a : Answers (handed d b bytes buffer) y) (r : ℕ) (p : Place) → isAt (plainStep (deskCuts d) bytes x .flushed r) p ≡ false
-    → recordsSince r p (called t bytes buffer y small a) ≤ cond (isAt (x .flushed r) p) 0 (recordsSince r p t + one-if (isRecord bytes y))
+since-called : {d : Desk} {b : List ℕ} {x : Plain} (t : Trace d b x) (call : Call) (buffer : List ℕ) (y : After) (small : InBytes call)
+    (a : Answers (handed d b call buffer) y) (r : ℕ) (p : Place) → isAt (plainCall (deskCuts d) call x .flushed r) p ≡ false
+    → recordsSince r p (called t call buffer y small a) ≤ cond (isAt (x .flushed r) p) 0 (recordsSince r p t + one-if (isRecord call y))
 unfolding recordsSince either
-since-called {x = x} t bytes buffer y small a r p stale =
-    let n = recordsSince r p t + one-if (isRecord bytes y) in
+since-called {x = x} t call buffer y small a r p stale =
+    let n = recordsSince r p t + one-if (isRecord call y) in
     by-cases (isAt (x .flushed r) p)
     (λ u. rw u (omega arith))
     (λ u. rw u (omega (arith, ap (λ (z : Bool). cond z 0 n) stale)))
@@ -65,8 +67,8 @@ since-called {x = x} t bytes buffer y small a r p stale =
 live-none : {d : Desk} {b : List ℕ} {x : Plain} (t : Trace d b x) (r : ℕ) (p : Place) → isAt (x .flushed r) p ≡ true → recordsSince r p t ≡ 0
 unfolding recordsSince either
 live-none begun r p e = refl
-live-none (called {d} {b} {x} t bytes buffer y small a) r p e =
-    let n = recordsSince r p t + one-if (isRecord bytes y) in
+live-none (called {d} {b} {x} t call buffer y small a) r p e =
+    let n = recordsSince r p t + one-if (isRecord call y) in
     by-cases (isAt (x .flushed r) p)
     (λ u. rw u (omega arith))
     (λ u. rw u (omega (arith, ap (λ (z : Bool). cond z 0 n) e)))
@@ -107,20 +109,20 @@ abbrev Soon : Store → Plain → ℕ → Place → ℕ → Type 0
 Soon s x r p n = (c : Cell) (a : Among (s .cells) c) → HeldAt c r p → isAt (x .flushed r) p ≡ false
     → sweepEvery * length (a .before) + sweepEvery + n < lastingRecords + s .tally
 
--- a call: what counts as a record brings the cell nearer, and anything else leaves store and plain rule as they were
-module _ {d : Desk} {b : List ℕ} {x : Plain} (k : Beside d b x) (bytes buffer : List ℕ) {y : After} (e : y ≡ laidOut (carry (k .store) bytes buffer))
+-- a record: what counts as one brings the cell nearer, and anything else leaves store and plain rule as they were
+module _ {d : Desk} {b : List ℕ} {x : Plain} {l : List Watch} (k : Beside d b x l) (bytes buffer : List ℕ) {y : After} (e : y ≡ laidOut (carryRecord bytes (watched k) buffer))
     (small : Bytes bytes) (r : ℕ) (p : Place) (n : ℕ) (h : Soon (k .store) x r p n) where
-  abbrev then : Beside (y .desk) (y .pages) (plainStep (deskCuts d) bytes x)
+  abbrev then : Beside (y .desk) (y .pages) (plainStep (deskCuts d) bytes x) l
   then = outcome k bytes buffer e small
 
   abbrev live : Bool
   live = isAt (x .flushed r) p
 
-  record-told : isRecord bytes y ≡ both (eqb (carry (k .store) bytes buffer .number) 0) (isCounted (requestOf bytes))
-  unfolding isRecord laidOut
+  record-told : isRecord (hands bytes) y ≡ both (eqb (carry (k .store) bytes buffer .number) 0) (isCounted (requestOf bytes))
+  unfolding isRecord laidOut carryRecord
   record-told = ap (λ (z : After). both (eqb (z .number) 0) (isCounted (requestOf bytes))) e
 
-  soon-record : isRecord bytes y ≡ true → Soon (then .store) (plainStep (deskCuts d) bytes x) r p (cond live 0 (n + 1))
+  soon-record : isRecord (hands bytes) y ≡ true → Soon (then .store) (plainStep (deskCuts d) bytes x) r p (cond live 0 (n + 1))
   unfolding outcome
   soon-record t c now held stale =
       let told = sym record-told ∙ t in
@@ -132,7 +134,7 @@ module _ {d : Desk} {b : List ℕ} {x : Plain} (k : Beside d b x) (bytes buffer 
       (λ u. rw u (omega (arith, j .sooner, within-round (j .was) (k .well .few-cells))))
       (λ u. rw u (omega (arith, j .sooner, h c (j .was) held u)))
 
-  soon-other : isRecord bytes y ≡ false → Soon (then .store) (plainStep (deskCuts d) bytes x) r p (cond live 0 (n + 0))
+  soon-other : isRecord (hands bytes) y ≡ false → Soon (then .store) (plainStep (deskCuts d) bytes x) r p (cond live 0 (n + 0))
   unfolding outcome
   soon-other t =
       let told = sym record-told ∙ t in
@@ -140,35 +142,58 @@ module _ {d : Desk} {b : List ℕ} {x : Plain} (k : Beside d b x) (bytes buffer 
       rw (step-same (k .store) bytes buffer told, plain)
       (λ c now held stale. rw stale (omega (arith, h c now held stale)))
 
-  soon-called : Soon (then .store) (plainStep (deskCuts d) bytes x) r p (cond live 0 (n + one-if (isRecord bytes y)))
+  soon-called : Soon (then .store) (plainStep (deskCuts d) bytes x) r p (cond live 0 (n + one-if (isRecord (hands bytes) y)))
   soon-called =
-      by-cases (isRecord bytes y)
+      by-cases (isRecord (hands bytes) y)
       (λ u. rw u (soon-record u))
       (λ u. rw u (soon-other u))
 
 -- ---- over the whole list
 
 record Aged {d : Desk} {b : List ℕ} {x : Plain} (t : Trace d b x) : Type 0 where
-  beside : Beside d b x
+  beside : Beside d b x (watchesSet t)
   soon : (r : ℕ) (p : Place) → Soon (beside .store) x r p (recordsSince r p t)
 
 aged-begun : Aged begun
-unfolding begins fresh recordsSince
+unfolding begins fresh recordsSince watchesSet
 aged-begun = record { beside = begins; soon = λ r p c a held stale. omega (arith, place-below a) }
+
+module _ {d : Desk} {b : List ℕ} {x : Plain} (t : Trace d b x) (k : Aged t) where
+  -- a call that leaves the store and the plain rule as they were
+  soon-same : (call : Call) (buffer : List ℕ) (y : After) (small : InBytes call) (a : Answers (handed d b call buffer) y) (r : ℕ) (p : Place)
+      → plainCall (deskCuts d) call x ≡ x → isRecord call y ≡ false → Soon (k .beside .store) x r p (recordsSince r p (called t call buffer y small a))
+  soon-same call buffer y small a r p plain other c now held stale = omega (
+    arith,
+    since-called t call buffer y small a r p (rw plain stale),
+    ap (λ (z : Bool). cond z 0 (recordsSince r p t + one-if (isRecord call y))) stale,
+    ap one-if other,
+    k .soon r p c now held stale,
+  )
+
+  aged-called : (call : Call) (buffer : List ℕ) (y : After) (small : InBytes call) (a : Answers (handed d b call buffer) y) → Aged (called t call buffer y small a)
+  unfolding watchesSet follows rewatched isRecord carryCall
+  aged-called (hands bytes) buffer y small a =
+      let e = answers-sound a (sound (k .beside)) in
+      record {
+        beside = outcome (k .beside) bytes buffer e small;
+        soon = λ r p c now held stale. omega (
+          arith,
+          since-called t (hands bytes) buffer y small a r p stale,
+          soon-called (k .beside) bytes buffer e small r p (recordsSince r p t) (k .soon r p) c now held stale,
+        );
+      }
+  aged-called (sets w rect) buffer y small a = record {
+    beside = follows (k .beside) (sets w rect) buffer (answers-sound a (sound (k .beside))) small;
+    soon = λ r p. soon-same (sets w rect) buffer y small a r p refl refl;
+  }
+  aged-called (clears w) buffer y small a = record {
+    beside = follows (k .beside) (clears w) buffer (answers-sound a (sound (k .beside))) small;
+    soon = λ r p. soon-same (clears w) buffer y small a r p refl refl;
+  }
 
 aged : {d : Desk} {b : List ℕ} {x : Plain} (t : Trace d b x) → Aged t
 aged begun = aged-begun
-aged (called t bytes buffer y small a) =
-    let k = aged t in
-    let e = answers-sound a (sound (k .beside)) in
-    record {
-      beside = outcome (k .beside) bytes buffer e small;
-      soon = λ r p c now held stale. omega (
-        arith,
-        since-called t bytes buffer y small a r p stale,
-        soon-called (k .beside) bytes buffer e small r p (recordsSince r p t) (k .soon r p) c now held stale,
-      );
-    }
+aged (called t call buffer y small a) = aged-called t (aged t) call buffer y small a
 
 -- ---- the entries on the pages
 
@@ -198,7 +223,7 @@ module _ (r : ℕ) (p : Place) where
       at-p : Fix → Bool
       at-p f = samePlace p (f .place)
 
-  module _ {d : Desk} {b : List ℕ} {x : Plain} (k : Beside d b x) where
+  module _ {d : Desk} {b : List ℕ} {x : Plain} {l : List Watch} (k : Beside d b x l) where
     abbrev cells : List Cell
     cells = k .store .cells
 

@@ -12,14 +12,14 @@ use Rattle.demands.specs.Same.{Fed, callsOf, Alike, SameDesks}
 
 alike : {d e : Desk} {b c : List ℕ} {x z : Plain} (t : Trace d b x) (u : Trace e c z) → callsOf t ≡ callsOf u → Alike t u
 alike begun begun q = record { answers = refl; desk = refl; pages = refl }
-alike begun (called u bytes buffer y small a) q = let n : _≡_ {A = ℕ} 0 1 = cc in absurd (omega arith)
-alike (called t bytes buffer y small a) begun q = let n : _≡_ {A = ℕ} 0 1 = cc in absurd (omega arith)
-alike (called {d = d} {b = b} t bytes buffer y small a) (called {d = e} {b = c} u bytes′ buffer′ z small′ a′) q =
-    let fed : _≡_ {A = Fed} (record { bytes = bytes; buffer = buffer }) (record { bytes = bytes′; buffer = buffer′ }) = cc in
+alike begun (called u call buffer y small a) q = let n : _≡_ {A = ℕ} 0 1 = cc in absurd (omega arith)
+alike (called t call buffer y small a) begun q = let n : _≡_ {A = ℕ} 0 1 = cc in absurd (omega arith)
+alike (called {d = d} {b = b} t call buffer y small a) (called {d = e} {b = c} u call′ buffer′ z small′ a′) q =
+    let fed : _≡_ {A = Fed} (record { call = call; buffer = buffer }) (record { call = call′; buffer = buffer′ }) = cc in
     let earlier : callsOf t ≡ callsOf u = cc in
     let k = alike t u earlier in
-    let same : _≡_ {A = Before} (record { desk = e; pages = c; bytes = bytes′; buffer = buffer′ }) (record { desk = d; pages = b; bytes = bytes; buffer = buffer }) =
-    sym (λ i. record { desk = k .desk i; pages = k .pages i; bytes = fed i .bytes; buffer = fed i .buffer }) in
+    let same : _≡_ {A = Before} (record { desk = e; pages = c; call = call′; buffer = buffer′ }) (record { desk = d; pages = b; call = call; buffer = buffer }) =
+    sym (λ i. record { desk = k .desk i; pages = k .pages i; call = fed i .call; buffer = fed i .buffer }) in
     let one : y ≡ z = answers-once a (subst (λ (w : Before). Answers w z) same a′) in
     record { answers = ap₂ _∷_ one (k .answers); desk = ap (λ (w : After). w .desk) one; pages = ap (λ (w : After). w .pages) one }
 

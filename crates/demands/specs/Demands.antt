@@ -17,21 +17,28 @@ use Rattle.page.specs.Buffer.{pageAt}
 use Rattle.rules.specs.Records.{kindField, kindSignOn, kindReport}
 use Rattle.rules.specs.Sweep.{isAt}
 use Rattle.rules.specs.Plain.{Plain, plainRefusal}
-use Rattle.rules.specs.Told.{told}
+use Rattle.rules.specs.Told.{Told, told}
+use Rattle.rules.specs.Watches.{Watch}
+use Rattle.rules.specs.Calls.{Call, hands, sets, clears, setRefusal, clearRefusal}
 use Rattle.desk.specs.declared.Desk.{Desk}
 use Rattle.desk.specs.declared.Line.{Line}
 use Rattle.desk.specs.declared.Report.{Report}
 use Rattle.desk.specs.Views.{everyReport, everySlot, linesIn}
-use Rattle.desk.specs.Call.{After}
-use Rattle.demands.specs.Trace.{Trace, EveryState, EveryCall}
+use Rattle.demands.specs.Trace.{Trace, EveryState, Step, EveryCall}
 
 -- ---- Demand 2
 
--- each call is answered as the plain rule says: number, count and answer buffer
-pub record AsTold (x : Plain) (bytes room : List ℕ) (y : After) : Type 0 where
-  pub number : y .number ≡ told x bytes room .number
-  pub count : y .count ≡ told x bytes room .count
-  pub buffer : y .buffer ≡ told x bytes room .buffer
+-- what is answered: to a record what the plain rule says; to a watch that is set or cleared its number, which the watches that are set decide
+abbrev pub toldCall : Plain → List Watch → Call → List ℕ → Told
+toldCall x l (hands bytes) room = told x bytes room
+toldCall x l (sets w rect) room = record { number = setRefusal w rect; count = 0; buffer = room }
+toldCall x l (clears w) room = record { number = clearRefusal w l; count = 0; buffer = room }
+
+-- each call is answered so: number, count and answer buffer
+pub record AsTold (c : Step) : Type 0 where
+  pub number : c .after .number ≡ toldCall (c .plain) (c .watches) (c .call) (c .buffer) .number
+  pub count : c .after .count ≡ toldCall (c .plain) (c .watches) (c .call) (c .buffer) .count
+  pub buffer : c .after .buffer ≡ toldCall (c .plain) (c .watches) (c .call) (c .buffer) .buffer
 
 -- "After any run of calls from a fresh store, a rectangle's list is exactly the radios on whose latest accepted place lies in it, once each, by rising
 -- number; sign-on, report and sign-off are accepted as the plain rule says."
@@ -100,15 +107,20 @@ pub record Kept (d : Desk) (b : List ℕ) (x : Plain) : Type 0 where
   -- "exactly": as many reports as there are radios that wait, so none of a radio twice
   pub exactly : d .parts .waiting ≡ sumTo (suc maxRadio) (λ r. one-if (x .waits r))
 
+-- "A sign-on or report is turned down for lack of space if the desk turns it down where the plain rule carries it out."
+abbrev pub HadSpace : Plain → Call → ℕ → Type 0
+HadSpace x (hands bytes) number = either (eqb (kindField bytes) kindSignOn) (eqb (kindField bytes) kindReport) ≡ true → plainRefusal x bytes ≡ 0 → number ≡ 0
+HadSpace x (sets w rect) number = Unit {0}
+HadSpace x (clears w) number = Unit {0}
+
 -- what holds of each call
-pub record NotRefused (x : Plain) (bytes buffer : List ℕ) (y : After) : Type 0 where
+pub record NotRefused (c : Step) : Type 0 where
   -- "To find the store unsound is to answer number 2."
-  pub found-sound : y .number ≡ 2 → ⊥
-  -- "A sign-on or report is turned down for lack of space if the desk turns it down where the plain rule carries it out."
-  pub had-space : either (eqb (kindField bytes) kindSignOn) (eqb (kindField bytes) kindReport) ≡ true → plainRefusal x bytes ≡ 0 → y .number ≡ 0
+  pub found-sound : c .after .number ≡ 2 → ⊥
+  pub had-space : HadSpace (c .plain) (c .call) (c .after .number)
 
 pub record WholeList {d : Desk} {b : List ℕ} {x : Plain} (t : Trace d b x) : Type 0 where
-  pub states : EveryState Kept t
+  pub states : EveryState (λ d b x l. Kept d b x) t
   pub calls : EveryCall NotRefused t
 
 abbrev pub Demand3 : Type 0

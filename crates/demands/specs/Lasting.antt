@@ -1,5 +1,5 @@
 -- How long an old entry can last (02, Job 8), over desk and page bytes: "in any sequence from a fresh store".
-use mathlib.Core.Bool.{Bool, cond}
+use mathlib.Core.Bool.{Bool, false, cond}
 use mathlib.Core.List.{List}
 use mathlib.Core.Path.{_≡_}
 use Prim.Native.Nat.{ℕ, _+_, _≤_}
@@ -13,7 +13,8 @@ use Rattle.page.specs.Buffer.{pageAt}
 use Rattle.rules.specs.Grid.{samePlace}
 use Rattle.rules.specs.Records.{requestOf}
 use Rattle.rules.specs.Sweep.{isAt}
-use Rattle.rules.specs.Plain.{Plain, plainStep}
+use Rattle.rules.specs.Plain.{Plain}
+use Rattle.rules.specs.Calls.{Call, hands, sets, clears, plainCall}
 use Rattle.rules.specs.Lasting.{isCounted, lastingRecords}
 use Rattle.desk.specs.declared.Desk.{Desk}
 use Rattle.desk.specs.Call.{After}
@@ -32,8 +33,10 @@ entriesAt b r p = sumTo pages (λ q. sumBy (λ e. one-if (isEntry r p e)) (entri
 -- ---- "after it"
 
 -- "such record": an accepted sign-on, report or sign-off
-unfoldable pub isRecord : List ℕ → After → Bool
-isRecord bytes y = both (eqb (y .number) 0) (isCounted (requestOf bytes))
+unfoldable pub isRecord : Call → After → Bool
+isRecord (hands bytes) y = both (eqb (y .number) 0) (isCounted (requestOf bytes))
+isRecord (sets w rect) y = false
+isRecord (clears w) y = false
 
 -- how many such records came "after" the one in which an entry of radio r at place p "became stale": none while p is the last place flushed for r, nor at
 -- the end of the very record after which it is so no longer. "one added later for that radio, even at the same place, is another entry": to add one is to
@@ -41,9 +44,9 @@ isRecord bytes y = both (eqb (y .number) 0) (isCounted (requestOf bytes))
 -- cell that holds it, and a flush sweeps its cell before it enters a report.
 unfoldable pub recordsSince : ℕ → Place → {d : Desk} {b : List ℕ} {x : Plain} → Trace d b x → ℕ
 recordsSince r p begun = 0
-recordsSince r p (called {d} {b} {x} before bytes buffer y small a) =
-    cond (either (isAt (x .flushed r) p) (isAt (plainStep (deskCuts d) bytes x .flushed r) p)) 0
-    (recordsSince r p before + one-if (isRecord bytes y))
+recordsSince r p (called {d} {b} {x} before call buffer y small a) =
+    cond (either (isAt (x .flushed r) p) (isAt (plainCall (deskCuts d) call x .flushed r) p)) 0
+    (recordsSince r p before + one-if (isRecord call y))
 
 -- ---- the claims
 

@@ -1,12 +1,12 @@
--- What a call is handed settles what it answers and leaves: the three cases shut one another out, and a desk and its pages are those of one store.
+-- What a call is handed settles what it answers and leaves: the three cases shut one another out, and a desk and its pages are those of one store with its watches.
 use mathlib.Core.Path.{_≡_, sym, ap, _∙_}
 use lib.ListN.{length}
 use Rattle.page.specs.Buffer.{bufferBytes}
-use Rattle.rules.specs.Store.{Store}
-use Rattle.rules.specs.Carry.{carry}
+use Rattle.rules.specs.Calls.{carryCall}
+use Rattle.rules.specs.Watches.{Watched}
 use Rattle.desk.specs.Call.{Before, After, turnedDown, laidOut, CarriedOut, Answers, wrong-size, unsound, carried}
 use Rattle.desk.specs.Sound.{Sound}
-use Rattle.desk.proofs.UniqueLaws.{unique}
+use Rattle.desk.proofs.UniqueLaws.{one-watched}
 
 module _ {x : Before} {y : After} where
   pub answers-size : Answers x y → (length (x .pages) ≡ bufferBytes → ⊥) → y ≡ turnedDown 1 x
@@ -22,7 +22,7 @@ module _ {x : Before} {y : After} where
   pub answers-sound : Answers x y → (s : Sound (x .desk) (x .pages)) → CarriedOut x s y
   answers-sound (wrong-size n _) s = absurd (n (s .laid .size))
   answers-sound (unsound _ never _) s = absurd (never s)
-  answers-sound (carried t e) s = e ∙ ap (λ (z : Store). laidOut (carry z (x .bytes) (x .buffer))) (unique (x .desk) (x .pages) t s)
+  answers-sound (carried t e) s = e ∙ ap (λ (z : Watched). laidOut (carryCall (x .call) z (x .buffer))) (one-watched (x .desk) (x .pages) t s)
 
 -- two results that meet the contract for the same call are equal
 pub answers-once : {x : Before} {y z : After} → Answers x y → Answers x z → y ≡ z

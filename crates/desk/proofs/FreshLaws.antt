@@ -1,7 +1,8 @@
 -- A fresh store is sound: it is well-formed, and `freshPages` are its pages.
-use mathlib.Core.Path.{_≡_, refl, sym, ap, _∙_}
+use mathlib.Core.Path.{_≡_, refl, sym, ap, ap₂, _∙_}
 use mathlib.Core.Bool.{cond}
 use mathlib.Core.List.{List, [], _∷_}
+use mathlib.Core.Option.{none}
 use Prim.Native.Nat.{ℕ, zero, suc, _+_, _-_, _*_, _<_}
 use native.Mathlib.Omega.{arith}
 use lib.Dec.{eqb}
@@ -23,13 +24,15 @@ use Rattle.rules.specs.Grid.{square}
 use Rattle.rules.specs.Limits.{maxCells, maxCuts, fullMemory}
 use Rattle.rules.specs.Store.{Cell, fresh, pagesFor}
 use Rattle.rules.specs.Carry.{isOn, waitingIn}
+use Rattle.rules.specs.Watches.{maxWatches, latestPlace, NotReversed, RightWatches, freshWatched}
 use Rattle.rules.specs.WellFormed.{liveOf, staleIn, chains, GoodCell, WellFormed, PagesOnce}
-use Rattle.desk.specs.Layout.{deskOf, gridOf, cutListOf, slotOf, slotFields, slotted, directoryOf, reportFields, reportWords, waitingOf, lineFields, lineSlots, memoOf, onOf, leaves, cellLeaves, cellsLeaves, freeLeaves, storeLeaves, At, Laid, pagesOf, freshPages}
+use Rattle.desk.specs.Layout.{ledgerOf, watchFields, deskOf, gridOf, cutListOf, slotOf, slotFields, slotted, directoryOf, reportFields, reportWords, waitingOf, lineFields, lineSlots, memoOf, onOf, leaves, cellLeaves, cellsLeaves, freeLeaves, storeLeaves, At, Laid, pagesOf, freshPages}
 use Rattle.desk.specs.Sound.{Sound}
 use Rattle.desk.specs.Views.{everySlot}
 use Rattle.desk.specs.declared.Desk.{Desk}
 use Rattle.desk.proofs.SlotsLaws.{slot-alone}
 use Rattle.desk.proofs.PagesLaws.{pages-laid}
+use Rattle.desk.proofs.WatchesLaws.{blank-watches}
 use Rattle.rules.proofs.TilingLaws.{tiling-fresh}
 
 -- ---- its pages
@@ -124,14 +127,25 @@ fresh-well = record {
   bounded = λ k h. omega (arith, sum-zero (staleIn []) (drop k (freshCell ∷ [])) none-stale);
 }
 
-pub fresh-sound : Sound (deskOf fresh) freshPages
-fresh-sound = record { store = fresh; well = fresh-well; held = refl; laid = fresh-laid }
+-- ---- no watch is set
+
+fresh-none : (n : ℕ) → Each NotReversed (replicate n none)
+fresh-none zero = tt
+fresh-none (suc n) = (tt, fresh-none n)
+
+pub fresh-right : RightWatches (freshWatched .watches)
+unfolding freshWatched
+fresh-right = record { sixteen = refl; none-reversed = fresh-none maxWatches }
+
+pub fresh-sound : Sound (deskOf freshWatched) freshPages
+unfolding freshWatched
+fresh-sound = record { watched = freshWatched; well = fresh-well; right = fresh-right; held = refl; laid = fresh-laid }
 
 -- ---- its desk
 
 -- what `Desk::fresh` makes, cell 0 being written in a blank array
-abbrev freshWith : List ℕ → Desk
-freshWith cells = record {
+abbrev freshWith : List ℕ → List ℕ → Desk
+freshWith cells watches = record {
   parts = record {
     frame = record { easts = record { n = 0; at = replicate maxCuts 0 }; norths = record { n = 0; at = replicate maxCuts 0 }; cells = 1; free = 1 };
     waiting = 0;
@@ -144,9 +158,10 @@ freshWith cells = record {
   waiting = replicate (reportFields * fullMemory) 0;
   memo = replicate (lineFields * lineSlots) 0;
   on = replicate maxOn 0;
+  watches = watches;
 }
 
 pub fresh-desk : (cells : List ℕ) → everySlot cells ≡ set (everySlot (replicate (slotFields * maxCells) 0)) 0 (slotOf freshCell) → length cells ≡ slotFields * maxCells
-    → freshWith cells ≡ deskOf fresh
-unfolding fresh deskOf gridOf cutListOf directoryOf waitingOf memoOf onOf slotted tab concat reportWords
-fresh-desk cells e l = ap freshWith (slot-alone cells (slotOf freshCell) e l)
+    → freshWith cells (replicate (watchFields * maxWatches) 0) ≡ deskOf freshWatched
+unfolding freshWatched fresh deskOf ledgerOf gridOf cutListOf directoryOf waitingOf memoOf onOf slotted tab concat reportWords
+fresh-desk cells e l = ap₂ freshWith (slot-alone cells (slotOf freshCell) e l) (sym (blank-watches (latestPlace fresh) maxWatches))

@@ -6,3 +6,4 @@ pub mod ReadLaws
 pub mod ReportsLaws
 pub mod SlotsLaws
 pub mod UniqueLaws
+pub mod WatchesLaws

@@ -18,15 +18,18 @@ use Rattle.lists.proofs.MapLaws.{map-injective}
 use Rattle.page.specs.Page.{entries}
 use Rattle.page.specs.Buffer.{pageAt, chainFrom}
 use Rattle.rules.specs.Store.{Report as StoreReport, Line as StoreLine, Cell, Store}
+use Rattle.rules.specs.Watches.{latestPlace, Watched}
 use Rattle.rules.specs.WellFormed.{WellFormed, PagesOnce}
 use Rattle.desk.specs.declared.CutList.{CutList}
 use Rattle.desk.specs.declared.Desk.{Desk}
-use Rattle.desk.specs.Layout.{slotted, cutListOf, slotOf, directoryOf, gridOf, reportOf, waitingOf, lineWith, lineOf, memoOf, onOf, deskOf, Laid}
-use Rattle.desk.specs.Views.{cutsIn, everySlot, everyReport, linesIn}
-use Rattle.desk.specs.Sound.{Sound}
+use Rattle.desk.specs.Held.{Ledger, deskLedger}
+use Rattle.desk.specs.Layout.{slotted, cutListOf, slotOf, directoryOf, gridOf, reportOf, waitingOf, lineWith, lineOf, memoOf, onOf, ledgerOf, watchesOf, deskOf, Laid}
+use Rattle.desk.specs.Views.{cutsIn, everySlot, everyReport, linesIn, watchesIn}
+use Rattle.desk.specs.Sound.{SoundLedger, Sound}
 use Rattle.desk.proofs.LinesLaws.{lines-laid}
 use Rattle.desk.proofs.SlotsLaws.{slots-of-words}
 use Rattle.desk.proofs.ReportsLaws.{reports-of-words}
+use Rattle.desk.proofs.WatchesLaws.{watches-read}
 use Rattle.desk.proofs.ReadLaws.{CellRead, cells-read, free-read, Paged, pages-enough}
 
 -- ---- the desk's lists, by their counts
@@ -89,41 +92,41 @@ radio-injective x y e = λ i. record { key = e i; val = tt }
 
 -- ---- what a desk says of its store
 
-module _ (s t : Store) (e : deskOf s ≡ deskOf t) where
+module _ (s t : Store) (e : ledgerOf s ≡ ledgerOf t) where
   pub same-cuts : s .cuts ≡ t .cuts
-  unfolding deskOf gridOf
+  unfolding ledgerOf gridOf
   same-cuts =
       let a = sym (take-cuts (s .cuts .easts)) ∙ ap (λ d. take (d .parts .frame .easts .n) (d .parts .frame .easts .at)) e ∙ take-cuts (t .cuts .easts) in
       let o = sym (take-cuts (s .cuts .norths)) ∙ ap (λ d. take (d .parts .frame .norths .n) (d .parts .frame .norths .at)) e ∙ take-cuts (t .cuts .norths) in
       λ i. record { easts = a i; norths = o i }
 
   pub same-slots : map slotOf (s .cells) ≡ map slotOf (t .cells)
-  unfolding deskOf gridOf
+  unfolding ledgerOf gridOf
   same-slots = sym (take-slots (s .cells)) ∙ ap (λ d. take (d .parts .frame .cells) (everySlot (d .cells))) e ∙ take-slots (t .cells)
 
   pub same-front : firstOf noPage (s .free) ≡ firstOf noPage (t .free)
-  unfolding deskOf gridOf
+  unfolding ledgerOf gridOf
   same-front = ap (λ d. d .parts .frame .free) e
 
   pub same-waiting : s .waiting ≡ t .waiting
-  unfolding deskOf
+  unfolding ledgerOf
   same-waiting =
       map-injective reportOf report-injective (s .waiting) (t .waiting) (sym (take-waiting (s .waiting)) ∙ ap (λ d. take (d .parts .waiting) (everyReport (d .waiting))) e ∙ take-waiting (t .waiting))
 
   pub same-memo : s .memo ≡ t .memo
-  unfolding deskOf
+  unfolding ledgerOf
   same-memo = map-injective lineOf line-injective (s .memo) (t .memo) (sym (take-memo (s .memo)) ∙ ap (λ d. take (d .parts .lines) (linesIn (d .memo))) e ∙ take-memo (t .memo))
 
   pub same-on : s .on ≡ t .on
-  unfolding deskOf
+  unfolding ledgerOf
   same-on = map-injective (λ x. x .key) radio-injective (s .on) (t .on) (sym (take-on (s .on)) ∙ ap (λ d. take (d .parts .on) (d .on)) e ∙ take-on (t .on))
 
   pub same-tally : s .tally ≡ t .tally
-  unfolding deskOf
+  unfolding ledgerOf
   same-tally = ap (λ d. d .parts .tally) e
 
   same-highest : s .highest ≡ t .highest
-  unfolding deskOf
+  unfolding ledgerOf
   same-highest = ap (λ d. d .parts .highest) e
 
 -- ---- cells, with the bytes
@@ -151,7 +154,7 @@ module _ (b : List ℕ) where
 
 -- ---- one store at most
 
-pub same-store : (s t : Store) (b : List ℕ) → PagesOnce s → PagesOnce t → Each Paged (s .cells) → Each Paged (t .cells) → deskOf s ≡ deskOf t → Laid s b → Laid t b → s ≡ t
+pub same-store : (s t : Store) (b : List ℕ) → PagesOnce s → PagesOnce t → Each Paged (s .cells) → Each Paged (t .cells) → ledgerOf s ≡ ledgerOf t → Laid s b → Laid t b → s ≡ t
 same-store s t b os ot ps pt e ls lt =
     let cu = same-cuts s t e in
     let ce = same-cells b (s .cells) (t .cells) (same-slots s t e) ps pt (cells-read s os b ls) (cells-read t ot b lt) in
@@ -166,7 +169,29 @@ same-store s t b os ot ps pt e ls lt =
 paged-cells : (s : Store) → WellFormed s → Each Paged (s .cells)
 paged-cells s w = each-map _ Paged (s .cells) (λ c g. g .paged) (w .cells)
 
-pub unique : (d : Desk) (b : List ℕ) (x y : Sound d b) → x .store ≡ y .store
+pub unique : (d : Ledger) (b : List ℕ) (x y : SoundLedger d b) → x .store ≡ y .store
 unique d b x y =
     same-store (x .store) (y .store) b (x .well .once) (y .well .once) (paged-cells (x .store) (x .well)) (paged-cells (y .store) (y .well))
     (sym (x .held) ∙ y .held) (x .laid) (y .laid)
+
+-- ---- and one set of watches
+
+pub desk-ledger : (x : Watched) → deskLedger (deskOf x) ≡ ledgerOf (x .store)
+unfolding deskOf
+desk-ledger x = refl
+
+-- the ledger of a sound desk is sound
+abbrev pub sound-ledger : {d : Desk} {b : List ℕ} → Sound d b → SoundLedger (deskLedger d) b
+sound-ledger s = record { store = s .watched .store; well = s .well; held = ap deskLedger (s .held) ∙ desk-ledger (s .watched); laid = s .laid }
+
+pub desk-watches : (x : Watched) → deskOf x .watches ≡ watchesOf (latestPlace (x .store)) (x .watches)
+unfolding deskOf
+desk-watches x = refl
+
+pub one-watched : (d : Desk) (b : List ℕ) (x y : Sound d b) → x .watched ≡ y .watched
+one-watched d b x y =
+    let s = unique (deskLedger d) b (sound-ledger x) (sound-ledger y) in
+    let w : x .watched .watches ≡ y .watched .watches
+    = sym (watches-read _ (x .watched .watches) (x .right .sixteen)) ∙ ap watchesIn (sym (desk-watches (x .watched)) ∙ ap (λ (e : Desk). e .watches) (sym (x .held) ∙ y .held) ∙ desk-watches (y .watched))
+    ∙ watches-read _ (y .watched .watches) (y .right .sixteen) in
+    λ i. record { store = s i; watches = w i }

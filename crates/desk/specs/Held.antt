@@ -35,6 +35,14 @@ pub record On : Type 0 where
   pub n : ℕ
   pub radios : List ℕ
 
+-- the desk but for its watches: all that a record is carried out on, and a watch only looks at
+pub record Ledger : Type 0 where
+  pub parts : Parts
+  pub cells : List ℕ
+  pub waiting : List ℕ
+  pub memo : List ℕ
+  pub on : List ℕ
+
 -- ---- from counts and arrays that are lent
 
 abbrev pub directoryIn : ℕ → List ℕ → Directory
@@ -52,20 +60,29 @@ memoIn n words = record { n = n; words = words }
 abbrev pub onWith : ℕ → List ℕ → On
 onWith n radios = record { n = n; radios = radios }
 
--- the desk of its parts and its arrays
-abbrev pub deskWith : Parts → List ℕ → List ℕ → List ℕ → List ℕ → Desk
-deskWith parts cells waiting memo on = record { parts = parts; cells = cells; waiting = waiting; memo = memo; on = on }
+-- the ledger, and the desk, of parts and arrays
+abbrev pub ledgerWith : Parts → List ℕ → List ℕ → List ℕ → List ℕ → Ledger
+ledgerWith parts cells waiting memo on = record { parts = parts; cells = cells; waiting = waiting; memo = memo; on = on }
+
+abbrev pub deskWith : Parts → List ℕ → List ℕ → List ℕ → List ℕ → List ℕ → Desk
+deskWith parts cells waiting memo on watches = record { parts = parts; cells = cells; waiting = waiting; memo = memo; on = on; watches = watches }
 
 -- ---- of a desk
 
-abbrev pub deskGrid : Desk → Grid
-deskGrid d = gridIn (d .parts .frame) (d .cells)
+-- its ledger
+abbrev pub deskLedger : Desk → Ledger
+deskLedger d = ledgerWith (d .parts) (d .cells) (d .waiting) (d .memo) (d .on)
 
-abbrev pub deskWaiting : Desk → Waiting
-deskWaiting d = waitingWith (d .parts .waiting) (d .waiting)
+-- ---- of a ledger
 
-abbrev pub deskMemo : Desk → Memo
-deskMemo d = memoIn (d .parts .lines) (d .memo)
+abbrev pub ledgerGrid : Ledger → Grid
+ledgerGrid d = gridIn (d .parts .frame) (d .cells)
 
-abbrev pub deskOn : Desk → On
-deskOn d = onWith (d .parts .on) (d .on)
+abbrev pub ledgerWaiting : Ledger → Waiting
+ledgerWaiting d = waitingWith (d .parts .waiting) (d .waiting)
+
+abbrev pub ledgerMemo : Ledger → Memo
+ledgerMemo d = memoIn (d .parts .lines) (d .memo)
+
+abbrev pub ledgerOn : Ledger → On
+ledgerOn d = onWith (d .parts .on) (d .on)

@@ -1,11 +1,10 @@
--- A store laid out in parts of the desk and in the bytes of the pages: in the grid, in grid and memo, in these and the waiting reports, in the whole desk
+-- A store laid out in parts of the desk and in the bytes of the pages: in the grid, in grid and memo, in these and the waiting reports, in the whole ledger
 -- (01, "What the desk holds"). Each is a part of the next.
 use mathlib.Core.List.{List}
 use mathlib.Core.Path.{_≡_}
 use Prim.Native.Nat.{ℕ}
 use Rattle.rules.specs.Store.{Store}
-use Rattle.desk.specs.declared.Desk.{Desk}
-use Rattle.desk.specs.Held.{Grid, Waiting, Memo, deskGrid, deskWaiting, deskMemo, deskOn}
+use Rattle.desk.specs.Held.{Ledger, Grid, Waiting, Memo, ledgerGrid, ledgerWaiting, ledgerMemo, ledgerOn}
 use Rattle.desk.specs.Layout.{gridOf, waitingOf, memoOf, onOf, Laid}
 
 -- cuts, directory and free chain
@@ -23,9 +22,9 @@ pub record LaidWaiting (s : Store) (grid : Grid) (waiting : Waiting) (memo : Mem
   pub in-memo : LaidMemo s grid memo bytes
   pub waiting-is : waiting ≡ waitingOf (s .waiting)
 
--- the whole desk: who is on, the tally, and the highest minute
-pub record LaidDesk (s : Store) (desk : Desk) (bytes : List ℕ) : Type 0 where
-  pub in-waiting : LaidWaiting s (deskGrid desk) (deskWaiting desk) (deskMemo desk) bytes
-  pub on-is : deskOn desk ≡ onOf (s .on)
-  pub tally-is : desk .parts .tally ≡ s .tally
-  pub highest-is : desk .parts .highest ≡ s .highest
+-- the whole ledger: who is on, the tally, and the highest minute
+pub record LaidLedger (s : Store) (ledger : Ledger) (bytes : List ℕ) : Type 0 where
+  pub in-waiting : LaidWaiting s (ledgerGrid ledger) (ledgerWaiting ledger) (ledgerMemo ledger) bytes
+  pub on-is : ledgerOn ledger ≡ onOf (s .on)
+  pub tally-is : ledger .parts .tally ≡ s .tally
+  pub highest-is : ledger .parts .highest ≡ s .highest

@@ -1,5 +1,5 @@
 -- How a store is laid out: the desk's fields, and the bytes of the pages (01, "What the desk holds", "Records and pages").
-use mathlib.Core.Bool.{cond}
+use mathlib.Core.Bool.{Bool, cond}
 use mathlib.Core.List.{List, [], _∷_, _++_, map}
 use mathlib.Core.Option.{Option, none, some}
 use mathlib.Core.Path.{_≡_}
@@ -7,22 +7,25 @@ use Prim.Native.Nat.{ℕ, _+_, _-_, _*_}
 use lib.Dec.{eqb}
 use lib.ListN.{length, take, drop, replicate}
 use Rattle.terms.specs.Terms.{Place, Fix, pages, pageEntries, noPage, maxOn}
+use Rattle.lists.specs.Bits.{bits}
 use Rattle.lists.specs.Chains.{firstOf}
 use Rattle.lists.specs.Parts.{tab}
 use Rattle.lists.specs.Rows.{Row, Rows, find}
 use Rattle.lists.specs.Sums.{concat}
-use Rattle.lists.specs.Tests.{Each, one-if}
+use Rattle.lists.specs.Tests.{Each, one-if, isSome}
 use Rattle.lists.specs.Words.{lowHalf, highHalf}
 use Rattle.page.specs.Page.{pageBytes, kindFirst, kindFurther, pageOf, freePageOf}
 use Rattle.page.specs.Buffer.{bufferBytes, pageAt}
 use Rattle.rules.specs.Limits.{maxCells, maxCuts, fullMemory}
+use Rattle.rules.specs.Grid.{Rect}
 use Rattle.rules.specs.Store.{Store, Cell, Report as StoreReport, Line as StoreLine}
+use Rattle.rules.specs.Watches.{Watch, isMember, latestPlace, Watched}
 use Rattle.desk.specs.declared.CutList.{CutList}
 use Rattle.desk.specs.declared.Slot.{Slot}
 use Rattle.desk.specs.declared.Report.{Report}
 use Rattle.desk.specs.declared.Line.{Line}
 use Rattle.desk.specs.declared.Desk.{Desk}
-use Rattle.desk.specs.Held.{Directory, Grid, Waiting, Memo, On}
+use Rattle.desk.specs.Held.{Directory, Grid, Waiting, Memo, On, Ledger, deskWith}
 
 -- ---- the desk
 
@@ -121,9 +124,9 @@ memoOf l = record { n = length l; words = slotted (lineFields * lineSlots) 0 (co
 unfoldable pub onOf : Rows (Unit {0}) → On
 onOf l = record { n = length l; radios = slotted maxOn 0 (map (λ x. x .key) l) }
 
--- the desk that holds these
-abbrev pub deskHolding : Grid → Waiting → Memo → On → ℕ → ℕ → Desk
-deskHolding grid waiting memo on tally highest = record {
+-- the ledger that holds these
+abbrev pub ledgerHolding : Grid → Waiting → Memo → On → ℕ → ℕ → Ledger
+ledgerHolding grid waiting memo on tally highest = record {
   parts = record {
     frame = record { easts = grid .easts; norths = grid .norths; cells = grid .cells .n; free = grid .free };
     waiting = waiting .n;
@@ -140,8 +143,44 @@ deskHolding grid waiting memo on tally highest = record {
 
 -- "The desk has cuts, directory, the front of the free chain, waiting reports, memo, who is signed on, the round, and the tally c."; 02, Job 3: "The store
 -- remembers the highest minute"
-unfoldable pub deskOf : Store → Desk
-deskOf s = deskHolding (gridOf s) (waitingOf (s .waiting)) (memoOf (s .memo)) (onOf (s .on)) (s .tally) (s .highest)
+unfoldable pub ledgerOf : Store → Ledger
+ledgerOf s = ledgerHolding (gridOf s) (waitingOf (s .waiting)) (memoOf (s .memo)) (onOf (s .on)) (s .tally) (s .highest)
+
+-- ---- the watches (02, Job 5)
+
+-- a watch's members: a bit for each number up to the greatest radio's, 16 to a number
+abbrev pub memberWords : ℕ
+memberWords = 256
+
+unfoldable pub membersOf : (ℕ → Bool) → List ℕ
+membersOf isMember = tab memberWords (λ i. bits 16 (λ j. isMember (16 * i + j)))
+
+-- a mark, the rectangle and the members
+abbrev pub areaFields : ℕ
+areaFields = 5
+
+abbrev pub watchFields : ℕ
+watchFields = areaFields + memberWords
+
+abbrev pub areaOf : Watch → Rect
+areaOf none = record { easts = record { low = 0; high = 0 }; norths = record { low = 0; high = 0 } }
+areaOf (some rect) = rect
+
+-- what a watch takes, from its rectangle and the place of each radio; none of it is another's, so that "watches whose list didn't change keep every byte".
+-- A watch that is not set is zero throughout: a rectangle from 0 to 0 takes in nothing
+unfoldable pub watchWords : (ℕ → Option Place) → Watch → List ℕ
+watchWords places watch =
+    one-if (isSome watch) ∷ areaOf watch .easts .low ∷ areaOf watch .easts .high ∷ areaOf watch .norths .low ∷ areaOf watch .norths .high
+    ∷ membersOf (λ r. isMember watch (places r))
+
+unfoldable pub watchesOf : (ℕ → Option Place) → List Watch → List ℕ
+watchesOf places watches = concat (map (watchWords places) watches)
+
+-- the whole desk
+unfoldable pub deskOf : Watched → Desk
+deskOf x =
+    deskWith (ledgerOf (x .store) .parts) (ledgerOf (x .store) .cells) (ledgerOf (x .store) .waiting) (ledgerOf (x .store) .memo) (ledgerOf (x .store) .on)
+    (watchesOf (latestPlace (x .store)) (x .watches))
 
 -- ---- the pages
 

@@ -2,5 +2,6 @@ pub mod Call
 pub mod Held
 pub mod Laid
 pub mod Layout
+pub mod Sizes
 pub mod Sound
 pub mod Views

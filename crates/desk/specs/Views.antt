@@ -1,20 +1,23 @@
 -- The parts of a desk in any condition, each as far as its count says: what a store would have there.
-use mathlib.Core.Bool.{cond}
+use mathlib.Core.Bool.{Bool, cond}
 use mathlib.Core.List.{List, [], _∷_, map}
-use Prim.Native.Nat.{ℕ, _+_, _*_, _/_}
+use mathlib.Core.Option.{none, some}
+use Prim.Native.Nat.{ℕ, _+_, _*_, _/_, _%_}
 use lib.Dec.{eqb}
 use lib.ListN.{length, getD, take}
+use Rattle.lists.specs.Bits.{bit}
 use Rattle.lists.specs.Parts.{tab}
 use Rattle.lists.specs.Rows.{Row, Rows}
 use Rattle.rules.specs.Limits.{maxCells}
 use Rattle.rules.specs.Grid.{Axis, eastward, northward, Rect, Cuts}
+use Rattle.rules.specs.Watches.{maxWatches, Watch}
 use Rattle.desk.specs.declared.CutList.{CutList}
 use Rattle.desk.specs.declared.Slot.{Slot}
 use Rattle.desk.specs.declared.Report.{Report}
 use Rattle.desk.specs.declared.Line.{Line}
 use Rattle.desk.specs.declared.Rectangle.{Rectangle}
 use Rattle.desk.specs.Held.{Directory, On}
-use Rattle.desk.specs.Layout.{slotted, noSlot, slotFields, slotWords, reportFields, lineFields}
+use Rattle.desk.specs.Layout.{slotted, noSlot, slotFields, slotWords, reportFields, lineFields, areaFields, watchFields}
 
 -- the cuts of one direction, and of both
 unfoldable pub cutsIn : CutList → List ℕ
@@ -97,3 +100,19 @@ radioRow r = record { key = r; val = tt }
 
 unfoldable pub radiosOf : On → Rows (Unit {0})
 radiosOf on = map radioRow (take (on .n) (on .radios))
+
+-- the rectangle of a watch and the watch itself, as the array of the watches has them, and whether a radio is marked there as a member
+abbrev pub areaIn : List ℕ → ℕ → Rect
+areaIn ws w = record {
+  easts = record { low = getD ws (watchFields * w + 1) 0; high = getD ws (watchFields * w + 2) 0 };
+  norths = record { low = getD ws (watchFields * w + 3) 0; high = getD ws (watchFields * w + 4) 0 };
+}
+
+unfoldable pub watchIn : List ℕ → ℕ → Watch
+watchIn ws w = cond (eqb (getD ws (watchFields * w) 0) 0) none (some (areaIn ws w))
+
+unfoldable pub watchesIn : List ℕ → List Watch
+watchesIn ws = tab maxWatches (watchIn ws)
+
+unfoldable pub memberIn : List ℕ → ℕ → ℕ → Bool
+memberIn ws w r = bit (getD ws (watchFields * w + areaFields + r / 16) 0) (r % 16)

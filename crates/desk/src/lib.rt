@@ -2,8 +2,8 @@
 ghost use mathlib.Core.Path.{_≡_};
 ghost use Prim.Native.Nat.{_*_, _<_};
 ghost use lib.ListN.{length, getD, set};
-ghost use Rattle.rules.specs.Store.{fresh};
 ghost use Rattle.rules.specs.Limits.{maxCells, fullMemory};
+ghost use Rattle.rules.specs.Watches.{freshWatched};
 ghost use Rattle.desk.specs.Layout.{deskOf, slotFields, noSlot, reportFields, noReport, lineSlots, lineFields, noLine};
 ghost use Rattle.desk.specs.Views.{everySlot, everyReport, linesIn};
 
@@ -77,16 +77,33 @@ pub struct Desk {
     pub memo: [u16; Desk::MEMO_WORDS],
     // the radios on, rising
     pub on: [u16; Desk::MAX_ON],
+    // the watches, one after the other: 1 and the four edges of one that is set, and a bit for each radio, set where it is a member; all zero where none is set
+    pub watches: [u16; Desk::WATCHES_WORDS],
 }
 
-// What a call answers: 0 or the number of the check that turned it down, and what it counted.
+// What a call answers: 0 or the number of the check that turned it down, what it counted, and the watches that gained, or lost, the radio of an accepted
+// record, a bit for each.
 #[repr(C)]
 pub struct Answer {
     pub number: u16,
     pub count: u16,
+    pub gained: u16,
+    pub lost: u16,
 }
 
-// A range's rectangle.
+// A number, and 0 for all else: "these, and whatever later requests add to the answer, are 0 where nothing else is said".
+pub fn numbered(number: u16) -> Answer
+    ensures { λ r. ⌜ r ≡ record { number = number; count = 0; gained = 0; lost = 0 } ⌝ }
+{
+    Answer {
+        number,
+        count: 0,
+        gained: 0,
+        lost: 0,
+    }
+}
+
+// The rectangle of a range or a watch.
 pub struct Rectangle {
     pub west: u16,
     pub east: u16,
@@ -130,6 +147,18 @@ impl Desk {
 
     pub const MEMO_WORDS: usize = Desk::LINE_FIELDS * Desk::LINE_SLOTS;
 
+    pub const MAX_WATCHES: usize = 16;
+
+    // A mark and four edges.
+    pub const AREA_FIELDS: usize = 5;
+
+    // A bit for each number up to the greatest radio's.
+    pub const MEMBER_WORDS: usize = 256;
+
+    pub const WATCH_FIELDS: usize = Desk::AREA_FIELDS + Desk::MEMBER_WORDS;
+
+    pub const WATCHES_WORDS: usize = Desk::WATCH_FIELDS * Desk::MAX_WATCHES;
+
     pub const FULL_BOX: usize = 8;
 
     pub const SWEEP_EVERY: u16 = 16;
@@ -138,9 +167,9 @@ impl Desk {
 
     pub const LAST_METRE: u16 = 65535;
 
-    // "A fresh store has no cut, one cell (0) on page 0, and pages 1 to 127 free in that order."
+    // "A fresh store has no cut, one cell (0) on page 0, and pages 1 to 127 free in that order.", and no watch is set.
     pub fn fresh() -> Desk
-        ensures { λ r. ⌜ r ≡ deskOf fresh ⌝ }
+        ensures { λ r. ⌜ r ≡ deskOf freshWatched ⌝ }
     {
         let mut cells = [0u16; Desk::CELL_WORDS];
         put_slot(
@@ -179,6 +208,7 @@ impl Desk {
             waiting: [0; Desk::WAITING_WORDS],
             memo: [0; Desk::MEMO_WORDS],
             on: [0; Desk::MAX_ON],
+            watches: [0; Desk::WATCHES_WORDS],
         }
     }
 }

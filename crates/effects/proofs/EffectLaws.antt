@@ -13,44 +13,44 @@ use Rattle.rules.specs.Cut.{Cut}
 use Rattle.rules.specs.Flush.{Flushed, flushedInto, grown, splitAt, joinedWith, reshaped}
 use Rattle.rules.specs.Carry.{flushDue, afterReport}
 use Rattle.rules.proofs.CutLaws.{flush-cases, reshaped-cases}
-use Rattle.desk.specs.Held.{Grid, Memo, Waiting, deskGrid, deskWaiting, deskMemo, deskOn}
-use Rattle.desk.specs.declared.Desk.{Desk}
-use Rattle.desk.specs.Layout.{gridOf, waitingOf, memoOf, onOf, deskHolding, deskOf, Laid}
-use Rattle.desk.specs.Laid.{LaidWaiting, LaidDesk}
+use Rattle.desk.specs.Held.{Grid, Memo, Waiting, ledgerGrid, ledgerWaiting, ledgerMemo, ledgerOn}
+use Rattle.desk.specs.Held.{Ledger}
+use Rattle.desk.specs.Layout.{gridOf, waitingOf, memoOf, onOf, ledgerHolding, ledgerOf, Laid}
+use Rattle.desk.specs.Laid.{LaidWaiting, LaidLedger}
 use Rattle.tally.specs.Tally.{BeforeTally, AfterTally}
 use Rattle.flush.specs.Flush.{BeforeFlush}
 use Rattle.flush.proofs.AfterLaws.{after-tallied}
-use Rattle.effects.specs.Effects.{BeforeTallyDesk, BeforeFlushDesk}
+use Rattle.effects.specs.Effects.{BeforeTallyLedger, BeforeFlushLedger}
 
 -- ---- a desk by its parts
 
-module _ {desk : Desk} (s : Store) (held : desk ≡ deskOf s) where
-  pub grid-held : deskGrid desk ≡ gridOf s
-  unfolding deskOf
-  grid-held = ap (λ (d : Desk). deskGrid d) held
+module _ {desk : Ledger} (s : Store) (held : desk ≡ ledgerOf s) where
+  pub grid-held : ledgerGrid desk ≡ gridOf s
+  unfolding ledgerOf
+  grid-held = ap (λ (d : Ledger). ledgerGrid d) held
 
-  pub waiting-held : deskWaiting desk ≡ waitingOf (s .waiting)
-  unfolding deskOf
-  waiting-held = ap (λ (d : Desk). deskWaiting d) held
+  pub waiting-held : ledgerWaiting desk ≡ waitingOf (s .waiting)
+  unfolding ledgerOf
+  waiting-held = ap (λ (d : Ledger). ledgerWaiting d) held
 
-  pub memo-held : deskMemo desk ≡ memoOf (s .memo)
-  unfolding deskOf
-  memo-held = ap (λ (d : Desk). deskMemo d) held
+  pub memo-held : ledgerMemo desk ≡ memoOf (s .memo)
+  unfolding ledgerOf
+  memo-held = ap (λ (d : Ledger). ledgerMemo d) held
 
-  pub on-held : deskOn desk ≡ onOf (s .on)
-  unfolding deskOf
-  on-held = ap (λ (d : Desk). deskOn d) held
+  pub on-held : ledgerOn desk ≡ onOf (s .on)
+  unfolding ledgerOf
+  on-held = ap (λ (d : Ledger). ledgerOn d) held
 
   pub tally-held : desk .parts .tally ≡ s .tally
-  unfolding deskOf
-  tally-held = ap (λ (d : Desk). d .parts .tally) held
+  unfolding ledgerOf
+  tally-held = ap (λ (d : Ledger). d .parts .tally) held
 
   pub highest-held : desk .parts .highest ≡ s .highest
-  unfolding deskOf
-  highest-held = ap (λ (d : Desk). d .parts .highest) held
+  unfolding ledgerOf
+  highest-held = ap (λ (d : Ledger). d .parts .highest) held
 
 -- the same as one equation
-pub desk-laid : {desk : Desk} {b : List ℕ} (s : Store) → desk ≡ deskOf s → Laid s b → LaidDesk s desk b
+pub desk-laid : {desk : Ledger} {b : List ℕ} (s : Store) → desk ≡ ledgerOf s → Laid s b → LaidLedger s desk b
 desk-laid s held laid = record {
   in-waiting = record { in-memo = record { in-grid = record { grid-is = grid-held s held; laid = laid }; memo-is = memo-held s held }; waiting-is = waiting-held s held };
   on-is = on-held s held;
@@ -58,12 +58,12 @@ desk-laid s held laid = record {
   highest-is = highest-held s held;
 }
 
-pub laid-desk : {desk : Desk} {b : List ℕ} (s : Store) → LaidDesk s desk b → (desk ≡ deskOf s) × Laid s b
-unfolding deskOf
+pub laid-desk : {desk : Ledger} {b : List ℕ} (s : Store) → LaidLedger s desk b → (desk ≡ ledgerOf s) × Laid s b
+unfolding ledgerOf
 laid-desk s x =
     let w = x .in-waiting in
     let m = w .in-memo in
-    (λ i. deskHolding (m .in-grid .grid-is i) (w .waiting-is i) (m .memo-is i) (x .on-is i) (x .tally-is i) (x .highest-is i), m .in-grid .laid)
+    (λ i. ledgerHolding (m .in-grid .grid-is i) (w .waiting-is i) (m .memo-is i) (x .on-is i) (x .tally-is i) (x .highest-is i), m .in-grid .laid)
 
 -- ---- the tally
 
@@ -89,9 +89,9 @@ tick-highest : (s : Store) → tick s .highest ≡ s .highest
 unfolding sweepFront
 tick-highest s = tick-leaves (λ t. t .highest) s (λ c cs. refl) refl
 
-module _ {desk : Desk} {b : List ℕ} (x : BeforeTallyDesk desk b) where
-  pub tally-returns : {g : Grid} {m : Memo} {t : ℕ} {b′ : List ℕ} → ((y : BeforeTally (deskGrid desk) (deskMemo desk) (desk .parts .tally) b) → AfterTally (y .store) g m t b′)
-      → LaidDesk (tick (x .before .store)) (deskHolding g (deskWaiting desk) m (deskOn desk) t (desk .parts .highest)) b′
+module _ {desk : Ledger} {b : List ℕ} (x : BeforeTallyLedger desk b) where
+  pub tally-returns : {g : Grid} {m : Memo} {t : ℕ} {b′ : List ℕ} → ((y : BeforeTally (ledgerGrid desk) (ledgerMemo desk) (desk .parts .tally) b) → AfterTally (y .store) g m t b′)
+      → LaidLedger (tick (x .before .store)) (ledgerHolding g (ledgerWaiting desk) m (ledgerOn desk) t (desk .parts .highest)) b′
   tally-returns l =
       let t = l (x .before) in
       let s = x .before .store in
@@ -120,16 +120,16 @@ pub after-highest : (p : Place) (s : Store) → afterReport p s .highest ≡ s .
 after-highest p s =
     after-leaves (λ t. t .highest) p s (λ m d. unfold grown splitAt joinedWith flushedInto in reshaped-leaves (λ t. t .highest) (flushedInto m s d) refl (λ c. refl) (λ n. refl))
 
-module _ {desk : Desk} {p : Place} {b : List ℕ} (x : BeforeFlushDesk desk p b) where
+module _ {desk : Ledger} {p : Place} {b : List ℕ} (x : BeforeFlushLedger desk p b) where
   abbrev store : Store
   store = x .before .store
 
-  module _ {g : Grid} {w : Waiting} {m : Memo} {b′ : List ℕ} (l : (y : BeforeFlush (deskGrid desk) (deskWaiting desk) (deskMemo desk) b) → LaidWaiting (afterReport p (y .store)) g w m b′) where
+  module _ {g : Grid} {w : Waiting} {m : Memo} {b′ : List ℕ} (l : (y : BeforeFlush (ledgerGrid desk) (ledgerWaiting desk) (ledgerMemo desk) b) → LaidWaiting (afterReport p (y .store)) g w m b′) where
     abbrev after : LaidWaiting (afterReport p store) g w m b′
     after = l (x .before)
 
     -- what is tallied then
-    abbrev pub flushed-tallies : BeforeTallyDesk (deskHolding g w m (deskOn desk) (desk .parts .tally) (desk .parts .highest)) b′
+    abbrev pub flushed-tallies : BeforeTallyLedger (ledgerHolding g w m (ledgerOn desk) (desk .parts .tally) (desk .parts .highest)) b′
     flushed-tallies = record {
       before = after-tallied (x .before) p (desk .parts .tally) (x .others-few) after (x .tally-is);
       waiting-is = after .waiting-is;
@@ -137,7 +137,7 @@ module _ {desk : Desk} {p : Place} {b : List ℕ} (x : BeforeFlushDesk desk p b)
       highest-is = x .highest-is ∙ sym (after-highest p store);
     }
 
-    pub flush-returns : {r : Desk} {b″ : List ℕ}
-        → ((y : BeforeTallyDesk (deskHolding g w m (deskOn desk) (desk .parts .tally) (desk .parts .highest)) b′) → LaidDesk (tick (y .before .store)) r b″)
-        → LaidDesk (tick (afterReport p store)) r b″
+    pub flush-returns : {r : Ledger} {b″ : List ℕ}
+        → ((y : BeforeTallyLedger (ledgerHolding g w m (ledgerOn desk) (desk .parts .tally) (desk .parts .highest)) b′) → LaidLedger (tick (y .before .store)) r b″)
+        → LaidLedger (tick (afterReport p store)) r b″
     flush-returns k = k flushed-tallies

@@ -19,16 +19,16 @@ use Rattle.rules.proofs.WellLaws.{later-well}
 use Rattle.rules.proofs.StepLaws.{put-few, put-boxes, put-bounded, on-core, report-core, off-done}
 use Rattle.rules.specs.WellFormed.{WellFormed}
 use Rattle.rules.specs.Midway.{MidCall}
-use Rattle.desk.specs.Held.{Memo, On, Waiting, deskGrid, deskWaiting, deskMemo, deskOn}
-use Rattle.desk.specs.declared.Desk.{Desk}
-use Rattle.desk.specs.Layout.{waitingOf, memoOf, onOf, deskHolding}
+use Rattle.desk.specs.Held.{Memo, On, Waiting, ledgerGrid, ledgerWaiting, ledgerMemo, ledgerOn}
+use Rattle.desk.specs.Held.{Ledger}
+use Rattle.desk.specs.Layout.{waitingOf, memoOf, onOf, ledgerHolding}
 use Rattle.desk.specs.Views.{radiosOf}
-use Rattle.desk.specs.Laid.{LaidDesk}
+use Rattle.desk.specs.Laid.{LaidLedger}
 use Rattle.memo.specs.Memo.{linesOf}
 use Rattle.waiting.specs.Waiting.{reportsOf}
 use Rattle.own_effect.proofs.StoreLaws.{on-gives, report-gives, off-gives, on-laid, report-laid, off-laid}
 use Rattle.records.specs.Asked.{SignsOn, Reports}
-use Rattle.effects.specs.Effects.{BeforeFlushDesk, BeforeTallyDesk, BeforeSignOn, BeforeReport, BeforeSignOff, AfterRequest}
+use Rattle.effects.specs.Effects.{BeforeFlushLedger, BeforeTallyLedger, BeforeSignOn, BeforeReport, BeforeSignOff, AfterRequest}
 use Rattle.effects.proofs.EffectLaws.{desk-laid}
 
 -- ---- the store then
@@ -73,7 +73,7 @@ report-put s w r f x =
       others-few = put-boxes s′ w′ r (x .first) g f b refl;
     }
 
-put-effect : {desk : Desk} {p : Place} {b : List ℕ} (s : Store) → Put s p → LaidDesk s desk b → BeforeFlushDesk desk p b
+put-effect : {desk : Ledger} {p : Place} {b : List ℕ} (s : Store) → Put s p → LaidLedger s desk b → BeforeFlushLedger desk p b
 put-effect s x h = record {
   before = record { store = s; early = x .early; mid = x .mid; few = x .few; laid = h .in-waiting };
   others-few = x .others-few;
@@ -84,61 +84,61 @@ put-effect s x h = record {
 
 -- ---- sign-on
 
-module _ {desk : Desk} {r : ℕ} {f : Fix} {b : List ℕ} (x : BeforeSignOn desk r f b) where
+module _ {desk : Ledger} {r : ℕ} {f : Fix} {b : List ℕ} (x : BeforeSignOn desk r f b) where
   abbrev s : Store
   s = x .sound .store
 
   module _ {waiting : Waiting} {on : On}
-      (own : (waiting ≡ waitingOf (insert r (record { fix = f; new = true }) (reportsOf (deskWaiting desk)))) × (on ≡ onOf (insert r tt (radiosOf (deskOn desk))))) where
-    abbrev signed : Desk
-    signed = deskHolding (deskGrid desk) waiting (deskMemo desk) on (desk .parts .tally) (f .minute)
+      (own : (waiting ≡ waitingOf (insert r (record { fix = f; new = true }) (reportsOf (ledgerWaiting desk)))) × (on ≡ onOf (insert r tt (radiosOf (ledgerOn desk))))) where
+    abbrev signed : Ledger
+    signed = ledgerHolding (ledgerGrid desk) waiting (ledgerMemo desk) on (desk .parts .tally) (f .minute)
 
-    pub on-effect : BeforeFlushDesk signed (f .place) b
+    pub on-effect : BeforeFlushLedger signed (f .place) b
     unfolding put-effect
     on-effect =
         put-effect (signedOn r f (withHighest (f .minute) s)) (on-put s (x .sound .well) r f (x .signs))
         (desk-laid (signedOn r f (withHighest (f .minute) s)) (on-gives s desk (x .sound .held) r f own) (on-laid s b (x .sound .laid) r f))
 
-    pub on-carries : {d : Desk} {b′ : List ℕ} → ((y : BeforeFlushDesk signed (f .place) b) → LaidDesk (tick (afterReport (f .place) (y .before .store))) d b′) → AfterRequest s (signOn r f) d b′
+    pub on-carries : {d : Ledger} {b′ : List ℕ} → ((y : BeforeFlushLedger signed (f .place) b) → LaidLedger (tick (afterReport (f .place) (y .before .store))) d b′) → AfterRequest s (signOn r f) d b′
     unfolding on-effect put-effect carriedOut
     on-carries l = l on-effect
 
 -- ---- report
 
-module _ {desk : Desk} {r : ℕ} {f : Fix} {b : List ℕ} (x : BeforeReport desk r f b) where
-  module _ {waiting : Waiting} (own : waiting ≡ waitingOf (alter (λ w. some (record { fix = f; new = wasNew w })) r (reportsOf (deskWaiting desk)))) where
-    abbrev told : Desk
-    told = deskHolding (deskGrid desk) waiting (deskMemo desk) (deskOn desk) (desk .parts .tally) (f .minute)
+module _ {desk : Ledger} {r : ℕ} {f : Fix} {b : List ℕ} (x : BeforeReport desk r f b) where
+  module _ {waiting : Waiting} (own : waiting ≡ waitingOf (alter (λ w. some (record { fix = f; new = wasNew w })) r (reportsOf (ledgerWaiting desk)))) where
+    abbrev told : Ledger
+    told = ledgerHolding (ledgerGrid desk) waiting (ledgerMemo desk) (ledgerOn desk) (desk .parts .tally) (f .minute)
 
-    pub report-effect : BeforeFlushDesk told (f .place) b
+    pub report-effect : BeforeFlushLedger told (f .place) b
     unfolding put-effect
     report-effect =
         put-effect (reported r f (withHighest (f .minute) (x .sound .store))) (report-put (x .sound .store) (x .sound .well) r f (x .reports))
         (desk-laid (reported r f (withHighest (f .minute) (x .sound .store))) (report-gives (x .sound .store) desk (x .sound .held) r f own) (report-laid (x .sound .store) b (x .sound .laid) r f))
 
-    pub report-carries : {d : Desk} {b′ : List ℕ} → ((y : BeforeFlushDesk told (f .place) b) → LaidDesk (tick (afterReport (f .place) (y .before .store))) d b′) → AfterRequest (x .sound .store) (report r f) d b′
+    pub report-carries : {d : Ledger} {b′ : List ℕ} → ((y : BeforeFlushLedger told (f .place) b) → LaidLedger (tick (afterReport (f .place) (y .before .store))) d b′) → AfterRequest (x .sound .store) (report r f) d b′
     unfolding report-effect put-effect carriedOut
     report-carries l = l report-effect
 
 -- ---- sign-off
 
-module _ {desk : Desk} {r minute : ℕ} {b : List ℕ} (x : BeforeSignOff desk r minute b) where
+module _ {desk : Ledger} {r minute : ℕ} {b : List ℕ} (x : BeforeSignOff desk r minute b) where
   module _ {waiting : Waiting} {memo : Memo} {on : On}
-      (own : (waiting ≡ waitingOf (alter (λ _. none) r (reportsOf (deskWaiting desk))))
-      × (memo ≡ memoOf (cond (wasNew (find (reportsOf (deskWaiting desk)) r)) (linesOf (deskMemo desk)) (alter (raised none) r (linesOf (deskMemo desk)))))
-      × (on ≡ onOf (alter (λ _. none) r (radiosOf (deskOn desk))))) where
-    abbrev signed-off : Desk
-    signed-off = deskHolding (deskGrid desk) waiting memo on (desk .parts .tally) minute
+      (own : (waiting ≡ waitingOf (alter (λ _. none) r (reportsOf (ledgerWaiting desk))))
+      × (memo ≡ memoOf (cond (wasNew (find (reportsOf (ledgerWaiting desk)) r)) (linesOf (ledgerMemo desk)) (alter (raised none) r (linesOf (ledgerMemo desk)))))
+      × (on ≡ onOf (alter (λ _. none) r (radiosOf (ledgerOn desk))))) where
+    abbrev signed-off : Ledger
+    signed-off = ledgerHolding (ledgerGrid desk) waiting memo on (desk .parts .tally) minute
 
     early : signedOff r (withHighest minute (x .sound .store)) .tally < sweepEvery
     unfolding signedOff
     early = x .sound .well .tallied
 
-    pub off-tallies : BeforeTallyDesk signed-off b
+    pub off-tallies : BeforeTallyLedger signed-off b
     off-tallies =
         let s = x .sound .store in
         let s′ = withHighest minute s in
-        let h : LaidDesk (signedOff r s′) signed-off b = desk-laid (signedOff r s′) (off-gives s desk (x .sound .held) r minute own) (off-laid s b (x .sound .laid) r minute) in
+        let h : LaidLedger (signedOff r s′) signed-off b = desk-laid (signedOff r s′) (off-gives s desk (x .sound .held) r minute own) (off-laid s b (x .sound .laid) r minute) in
         record {
           before = record {
             store = signedOff r s′;
@@ -152,6 +152,6 @@ module _ {desk : Desk} {r minute : ℕ} {b : List ℕ} (x : BeforeSignOff desk r
           highest-is = h .highest-is;
         }
 
-    pub off-carries : {d : Desk} {b′ : List ℕ} → ((y : BeforeTallyDesk signed-off b) → LaidDesk (tick (y .before .store)) d b′) → AfterRequest (x .sound .store) (signOff r minute) d b′
+    pub off-carries : {d : Ledger} {b′ : List ℕ} → ((y : BeforeTallyLedger signed-off b) → LaidLedger (tick (y .before .store)) d b′) → AfterRequest (x .sound .store) (signOff r minute) d b′
     unfolding off-tallies carriedOut
     off-carries l = l off-tallies

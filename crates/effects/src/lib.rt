@@ -3,9 +3,9 @@ ghost use Rattle.terms.specs.Terms.{fixAt};
 ghost use Rattle.rules.specs.Sweep.{tick};
 ghost use Rattle.rules.specs.Records.{signOn, report, signOff};
 ghost use Rattle.rules.specs.Carry.{afterReport};
-ghost use Rattle.desk.specs.Held.{deskWith};
-ghost use Rattle.desk.specs.Laid.{LaidDesk};
-ghost use Rattle.effects.specs.Effects.{BeforeFlushDesk, BeforeTallyDesk, BeforeSignOn, BeforeReport, BeforeSignOff, AfterRequest};
+ghost use Rattle.desk.specs.Held.{ledgerWith};
+ghost use Rattle.desk.specs.Laid.{LaidLedger};
+ghost use Rattle.effects.specs.Effects.{BeforeFlushLedger, BeforeTallyLedger, BeforeSignOn, BeforeReport, BeforeSignOff, AfterRequest};
 use desk::Desk;
 use desk::Parts;
 
@@ -20,11 +20,11 @@ fn ticked<'a>(
     on: &'a [u16; Desk::MAX_ON],
     pages: &mut [u8],
 ) -> Parts
-    requires { ⌜ BeforeTallyDesk (deskWith parts (now cells) (now waiting) (now memo) (now on)) (now pages) ⌝ }
-    ensures { λ r. ⌜ ((x : BeforeTallyDesk (deskWith parts (now (cells .entry)) (now (waiting .entry)) (now (memo .entry)) (now (on .entry)))
+    requires { ⌜ BeforeTallyLedger (ledgerWith parts (now cells) (now waiting) (now memo) (now on)) (now pages) ⌝ }
+    ensures { λ r. ⌜ ((x : BeforeTallyLedger (ledgerWith parts (now (cells .entry)) (now (waiting .entry)) (now (memo .entry)) (now (on .entry)))
         (now (pages .entry)))
-        → LaidDesk (tick (x .before .store))
-        (deskWith r (now (cells .exit)) (now (waiting .entry)) (now (memo .exit)) (now (on .entry))) (now (pages .exit))) ⌝ }
+        → LaidLedger (tick (x .before .store))
+        (ledgerWith r (now (cells .exit)) (now (waiting .entry)) (now (memo .exit)) (now (on .entry))) (now (pages .exit))) ⌝ }
 {
     let done = tally::tick(pages, parts.frame, cells, memo, parts.lines, parts.tally);
     let frame = done.frame;
@@ -46,11 +46,11 @@ fn followed<'a>(
     east: u16,
     north: u16,
 ) -> Parts
-    requires { ⌜ BeforeFlushDesk (deskWith parts (now cells) (now waiting) (now memo) (now on)) (record { east = east; north = north }) (now pages) ⌝ }
-    ensures { λ r. ⌜ ((x : BeforeFlushDesk (deskWith parts (now (cells .entry)) (now (waiting .entry)) (now (memo .entry)) (now (on .entry)))
+    requires { ⌜ BeforeFlushLedger (ledgerWith parts (now cells) (now waiting) (now memo) (now on)) (record { east = east; north = north }) (now pages) ⌝ }
+    ensures { λ r. ⌜ ((x : BeforeFlushLedger (ledgerWith parts (now (cells .entry)) (now (waiting .entry)) (now (memo .entry)) (now (on .entry)))
         (record { east = east; north = north }) (now (pages .entry)))
-        → LaidDesk (tick (afterReport (record { east = east; north = north }) (x .before .store)))
-        (deskWith r (now (cells .exit)) (now (waiting .exit)) (now (memo .exit)) (now (on .entry))) (now (pages .exit))) ⌝ }
+        → LaidLedger (tick (afterReport (record { east = east; north = north }) (x .before .store)))
+        (ledgerWith r (now (cells .exit)) (now (waiting .exit)) (now (memo .exit)) (now (on .entry))) (now (pages .exit))) ⌝ }
 {
     let after = flush::after_report(
         pages,
@@ -86,11 +86,11 @@ pub fn sign_on<'a>(
     north: u16,
     minute: u32,
 ) -> Parts
-    requires { ⌜ BeforeSignOn (deskWith parts (now cells) (now waiting) (now memo) (now on)) radio (fixAt east north minute) (now pages) ⌝ }
-    ensures { λ r. ⌜ ((x : BeforeSignOn (deskWith parts (now (cells .entry)) (now (waiting .entry)) (now (memo .entry)) (now (on .entry))) radio
+    requires { ⌜ BeforeSignOn (ledgerWith parts (now cells) (now waiting) (now memo) (now on)) radio (fixAt east north minute) (now pages) ⌝ }
+    ensures { λ r. ⌜ ((x : BeforeSignOn (ledgerWith parts (now (cells .entry)) (now (waiting .entry)) (now (memo .entry)) (now (on .entry))) radio
         (fixAt east north minute) (now (pages .entry)))
         → AfterRequest (x .sound .store) (signOn radio (fixAt east north minute))
-        (deskWith r (now (cells .exit)) (now (waiting .exit)) (now (memo .exit)) (now (on .exit))) (now (pages .exit))) ⌝ }
+        (ledgerWith r (now (cells .exit)) (now (waiting .exit)) (now (memo .exit)) (now (on .exit))) (now (pages .exit))) ⌝ }
 {
     let own = own_effect::signed_on(
         waiting,
@@ -122,11 +122,11 @@ pub fn reported<'a>(
     north: u16,
     minute: u32,
 ) -> Parts
-    requires { ⌜ BeforeReport (deskWith parts (now cells) (now waiting) (now memo) (now on)) radio (fixAt east north minute) (now pages) ⌝ }
-    ensures { λ r. ⌜ ((x : BeforeReport (deskWith parts (now (cells .entry)) (now (waiting .entry)) (now (memo .entry)) (now (on .entry))) radio
+    requires { ⌜ BeforeReport (ledgerWith parts (now cells) (now waiting) (now memo) (now on)) radio (fixAt east north minute) (now pages) ⌝ }
+    ensures { λ r. ⌜ ((x : BeforeReport (ledgerWith parts (now (cells .entry)) (now (waiting .entry)) (now (memo .entry)) (now (on .entry))) radio
         (fixAt east north minute) (now (pages .entry)))
         → AfterRequest (x .sound .store) (report radio (fixAt east north minute))
-        (deskWith r (now (cells .exit)) (now (waiting .exit)) (now (memo .exit)) (now (on .entry))) (now (pages .exit))) ⌝ }
+        (ledgerWith r (now (cells .exit)) (now (waiting .exit)) (now (memo .exit)) (now (on .entry))) (now (pages .exit))) ⌝ }
 {
     let mut told = parts;
     told.highest = minute;
@@ -145,11 +145,11 @@ pub fn sign_off<'a>(
     radio: u16,
     minute: u32,
 ) -> Parts
-    requires { ⌜ BeforeSignOff (deskWith parts (now cells) (now waiting) (now memo) (now on)) radio minute (now pages) ⌝ }
-    ensures { λ r. ⌜ ((x : BeforeSignOff (deskWith parts (now (cells .entry)) (now (waiting .entry)) (now (memo .entry)) (now (on .entry))) radio minute
+    requires { ⌜ BeforeSignOff (ledgerWith parts (now cells) (now waiting) (now memo) (now on)) radio minute (now pages) ⌝ }
+    ensures { λ r. ⌜ ((x : BeforeSignOff (ledgerWith parts (now (cells .entry)) (now (waiting .entry)) (now (memo .entry)) (now (on .entry))) radio minute
         (now (pages .entry)))
         → AfterRequest (x .sound .store) (signOff radio minute)
-        (deskWith r (now (cells .exit)) (now (waiting .exit)) (now (memo .exit)) (now (on .exit))) (now (pages .exit))) ⌝ }
+        (ledgerWith r (now (cells .exit)) (now (waiting .exit)) (now (memo .exit)) (now (on .exit))) (now (pages .exit))) ⌝ }
 {
     let own = own_effect::signed_off(
         waiting,

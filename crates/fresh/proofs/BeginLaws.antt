@@ -16,10 +16,12 @@ use Rattle.page.specs.Page.{pageBytes, kindFree, kindFirst, pageOf, freePageOf}
 use Rattle.page.specs.Buffer.{bufferBytes, putPage}
 use Rattle.page.proofs.PageLaws.{length-pageOf}
 use Rattle.rules.specs.Store.{fresh}
+use Rattle.rules.specs.Watches.{freshWatched}
+use Rattle.desk.specs.declared.Answer.{Answer}
 use Rattle.desk.specs.declared.Desk.{Desk}
 use Rattle.desk.specs.Layout.{deskOf, pagesOf, freshPages}
 use Rattle.desk.proofs.FreshLaws.{fresh-laid, fresh-pages}
-use Rattle.fresh.specs.Begin.{Found, Begins}
+use Rattle.fresh.specs.Begin.{Found, made, numbered, Begins}
 
 -- ---- the pages
 
@@ -100,8 +102,8 @@ all-written b {c} es l e f =
 
 -- ---- the two ends
 
-pub begins-refused : (x : Found) → (length (x .pages) ≡ bufferBytes → ⊥) → Begins x (record { number = 1; count = 0; desk = x .desk; pages = x .pages })
-begins-refused x n = record { size = λ _. refl; made = λ e. absurd (n e) }
+pub begins-refused : (x : Found) {a : Answer} → (length (x .pages) ≡ bufferBytes → ⊥) → a ≡ numbered 1 → Begins x (made a (x .desk) (x .pages))
+begins-refused x n e = record { size = λ _. ap (λ (z : Answer). made z (x .desk) (x .pages)) e; begun = λ l. absurd (n l) }
 
-pub begins-made : (x : Found) {d : Desk} {p : List ℕ} → length (x .pages) ≡ bufferBytes → d ≡ deskOf fresh → p ≡ pagesOf fresh → Begins x (record { number = 0; count = 0; desk = d; pages = p })
-begins-made x l e f = record { size = λ n. absurd (n l); made = λ _. cc }
+pub begins-made : (x : Found) {a : Answer} {d : Desk} {p : List ℕ} → length (x .pages) ≡ bufferBytes → a ≡ numbered 0 → d ≡ deskOf freshWatched → p ≡ pagesOf fresh → Begins x (made a d p)
+begins-made x l g e f = record { size = λ n. absurd (n l); begun = λ _. cc }

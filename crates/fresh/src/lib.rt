@@ -10,7 +10,7 @@ ghost use Rattle.page.specs.Page.{pageBytes};
 ghost use Rattle.page.specs.Buffer.{bufferBytes};
 ghost use Rattle.rules.specs.Store.{fresh};
 ghost use Rattle.desk.specs.Layout.{pagesOf, freshPages};
-ghost use Rattle.fresh.specs.Begin.{Begins};
+ghost use Rattle.fresh.specs.Begin.{found, made, Begins};
 use desk::Answer;
 use desk::Desk;
 use entries::TABLE_WORDS;
@@ -69,24 +69,18 @@ fn write_pages(pages: &mut [u8])
 
 // Desk and pages are those of a fresh store, whatever they held; or the page buffer has another size, and every byte is kept.
 pub fn begin(desk: Desk, pages: &mut [u8]) -> Begun
-    ensures { λ r. ⌜ Begins (record { desk = desk; pages = now (pages .entry) })
-        (record { number = r .answer .number; count = r .answer .count; desk = r .desk; pages = now (pages .exit) }) ⌝ }
+    ensures { λ r. ⌜ Begins (found desk (now (pages .entry)))
+        (made (r .answer) (r .desk) (now (pages .exit))) ⌝ }
 {
     if pages.len() != BUFFER_BYTES {
         return Begun {
             desk,
-            answer: Answer {
-                number: WRONG_SIZE,
-                count: 0,
-            },
+            answer: desk::numbered(WRONG_SIZE),
         };
     }
     write_pages(pages);
     Begun {
         desk: Desk::fresh(),
-        answer: Answer {
-            number: 0,
-            count: 0,
-        },
+        answer: desk::numbered(0),
     }
 }

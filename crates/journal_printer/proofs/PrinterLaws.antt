@@ -15,8 +15,9 @@ use Rattle.lists.proofs.PartsLaws.{drop-take}
 use Rattle.page.specs.Buffer.{bufferBytes}
 use Rattle.rules.specs.Records.{lengthField, notAtHand}
 use Rattle.rules.specs.Plain.{Plain, plainFresh, plainStep}
+use Rattle.rules.specs.Calls.{hands}
 use Rattle.desk.specs.declared.Desk.{Desk}
-use Rattle.desk.specs.Call.{After, Answers}
+use Rattle.desk.specs.Call.{After, handed, left, Answers}
 use Rattle.desk.specs.Layout.{freshPages}
 use Rattle.desk.proofs.FreshLaws.{fresh-pages}
 use Rattle.fresh.specs.Begin.{Found, Made, Begins}
@@ -86,7 +87,7 @@ none-length l e = list-cases l (λ n. n) (λ x t n. absurd (omega (arith, ap len
 -- ---- a call
 
 module _ {desk : Desk} {pages bytes list : List ℕ} (p : Printed desk pages bytes) (some : 0 < length bytes) (small : Bytes bytes)
-    {y : After} (a : Answers (record { desk = desk; pages = pages; bytes = bytes; buffer = list }) y) where
+    {y : After} (a : Answers (handed desk pages (hands bytes) list) y) where
   pub turn-at-hand : (y .number ≡ 3 → ⊥) → notAtHand bytes ≡ false
   turn-at-hand = called-at-hand (p .calls) small a
 
@@ -95,11 +96,10 @@ module _ {desk : Desk} {pages bytes list : List ℕ} (p : Printed desk pages byt
       → Carries (holds desk pages bytes list) stage (holds (y .desk) (y .pages) (drop next bytes) (y .buffer)) × (next ≤ length bytes)
   carried written e s = (
     record {
-      number = y .number;
-      count = y .count;
+      answer = record { number = y .number; count = y .count; gained = y .gained; lost = y .lost };
       small = small;
       answers = a;
-      left = next-left bytes 0 (y .number) e;
+      rest = next-left bytes 0 (y .number) e;
       written = written;
       after = s;
     },
@@ -198,17 +198,17 @@ module _ {i : ℕ} {x : Holds} {stage : Stage} {y : Holds} (g : Going i (x .desk
 
   stepped-called : (some : 0 < length (x .hand ++ t .more)) → Handed (t .told) (x .hand ++ t .more) → Carries grown stage y → Stepped stage i y
   unfolding lastNumber callCount
-  stepped-called some handed c =
-      let after : After = record { number = c .number; count = c .count; desk = y .desk; pages = y .pages; buffer = y .list } in
-      let n = onward (more (g .run .records) (t .more) (t .told)) some handed (g .unended) (x .list) after (c .small) (c .answers) in
+  stepped-called some given c =
+      let after = left (c .answer) (y .desk) (y .pages) (y .list) in
+      let n = onward (more (g .run .records) (t .more) (t .told)) some given (g .unended) (x .list) after (c .small) (c .answers) in
       let p : Printed (y .desk) (y .pages) (y .hand) = record {
         plain = plainStep (deskCuts (x .desk)) (x .hand ++ t .more) (g .run .plain);
-        calls = called (g .run .calls) (x .hand ++ t .more) (x .list) after (c .small) (c .answers);
+        calls = called (g .run .calls) (hands (x .hand ++ t .more)) (x .list) after (c .small) (c .answers);
         read = g .run .read ++ t .more;
         told = t .told;
-        records = rw (c .left) n;
+        records = rw (c .rest) n;
       } in
-      subst (λ (s : Stage). Stepped s i y) (sym (c .after)) (stepped-after p (c .number) refl (g .counted) (omega (arith, g .counted)) (c .written))
+      subst (λ (s : Stage). Stepped s i y) (sym (c .after)) (stepped-after p (c .answer .number) refl (g .counted) (omega (arith, g .counted)) (c .written))
 
   stepped-ended : t .told ≡ Ended → x .hand ++ t .more ≡ [] → Stepped stage i y
   stepped-ended u e =
@@ -263,7 +263,7 @@ going-first d p = rw (d, p) (record {
 })
 
 pub begun-fresh : {x : Found} {y : Made} → Begins x y → length (x .pages) ≡ bufferBytes → (y .desk ≡ freshDesk) × (y .pages ≡ freshPages)
-begun-fresh g l = (ap (λ (z : Made). z .desk) (g .made l), ap (λ (z : Made). z .pages) (g .made l) ∙ fresh-pages)
+begun-fresh g l = (ap (λ (z : Made). z .desk) (g .begun l), ap (λ (z : Made). z .pages) (g .begun l) ∙ fresh-pages)
 
 -- ---- what was read is the calls' records, one after the other, and what is at hand
 

@@ -11,8 +11,10 @@ use Rattle.lists.specs.Words.{Bytes}
 use Rattle.rules.specs.Records.{lengthField}
 use Rattle.rules.specs.Carry.{listBytes}
 use Rattle.rules.specs.Plain.{Plain}
+use Rattle.rules.specs.Calls.{hands, sets, clears}
+use Rattle.desk.specs.declared.Answer.{Answer}
 use Rattle.desk.specs.declared.Desk.{Desk}
-use Rattle.desk.specs.Call.{After, Answers}
+use Rattle.desk.specs.Call.{After, handed, left, Answers}
 use Rattle.demands.specs.Trace.{Trace, begun, called}
 use Rattle.journal_replay.specs.Replay.{leftBy}
 use Rattle.journal_input.specs.declared.Source.{Source}
@@ -30,11 +32,11 @@ listRoom = listBytes * maxOn
 -- what the last call answered, 0 before the first
 unfoldable pub lastNumber : {d : Desk} {b : List ℕ} {x : Plain} → Trace d b x → ℕ
 lastNumber begun = 0
-lastNumber (called before bytes buffer y small a) = y .number
+lastNumber (called before call buffer y small a) = y .number
 
 unfoldable pub callCount : {d : Desk} {b : List ℕ} {x : Plain} → Trace d b x → ℕ
 callCount begun = 0
-callCount (called before bytes buffer y small a) = callCount before + 1
+callCount (called before call buffer y small a) = callCount before + 1
 
 -- what a call is handed: a whole record, or all that is left of an input that has ended
 abbrev pub Handed : Source → List ℕ → Type 0
@@ -51,8 +53,8 @@ pub data Reads : (d : Desk) (b : List ℕ) (x : Plain) → Trace d b x → List 
   -- a call is handed all that is at hand, some byte, and goes on by the record's length; after number 3 there is none
   onward : {d : Desk} {b : List ℕ} {x : Plain} {calls : Trace d b x} {read hand : List ℕ} {told : Source} → Reads _ _ _ calls read hand told
       → 0 < length hand → Handed told hand → (lastNumber calls ≡ 3 → ⊥)
-      → (buffer : List ℕ) (y : After) (small : Bytes hand) (a : Answers (record { desk = d; pages = b; bytes = hand; buffer = buffer }) y)
-      → Reads _ _ _ (called calls hand buffer y small a) read (leftBy hand (y .number)) told
+      → (buffer : List ℕ) (y : After) (small : Bytes hand) (a : Answers (handed d b (hands hand) buffer) y)
+      → Reads _ _ _ (called calls (hands hand) buffer y small a) read (leftBy hand (y .number)) told
 
 -- the bytes of a call's record: after number 3 nothing is left of what it was handed
 unfoldable pub recordBy : List ℕ → ℕ → List ℕ
@@ -61,7 +63,9 @@ recordBy bytes number = cond (eqb number 3) bytes (take (lengthField bytes) byte
 -- the records of the calls, one after the other
 unfoldable pub recordsOf : {d : Desk} {b : List ℕ} {x : Plain} → Trace d b x → List ℕ
 recordsOf begun = []
-recordsOf (called before bytes buffer y small a) = recordsOf before ++ recordBy bytes (y .number)
+recordsOf (called before (hands bytes) buffer y small a) = recordsOf before ++ recordBy bytes (y .number)
+recordsOf (called before (sets w rect) buffer y small a) = recordsOf before
+recordsOf (called before (clears w) buffer y small a) = recordsOf before
 
 -- desk and pages are what these calls leave
 pub record Printed (desk : Desk) (pages hand : List ℕ) : Type 0 where
@@ -130,14 +134,12 @@ stageAfter number false = CannotWrite
 
 -- a call that is handed all that is at hand: what it answers, and what it leaves at hand
 pub record Carries (x : Holds) (stage : Stage) (y : Holds) : Type 0 where
-  pub number : ℕ
-  pub count : ℕ
+  pub answer : Answer
   pub small : Bytes (x .hand)
-  pub answers : Answers (record { desk = x .desk; pages = x .pages; bytes = x .hand; buffer = x .list })
-      (record { number = number; count = count; desk = y .desk; pages = y .pages; buffer = y .list })
-  pub left : y .hand ≡ leftBy (x .hand) number
+  pub answers : Answers (handed (x .desk) (x .pages) (hands (x .hand)) (x .list)) (left answer (y .desk) (y .pages) (y .list))
+  pub rest : y .hand ≡ leftBy (x .hand) (answer .number)
   pub written : Bool
-  pub after : stage ≡ stageAfter number written
+  pub after : stage ≡ stageAfter (answer .number) written
 
 -- with what a read says of the input: it cannot be read; or it has ended, and nothing is at hand; or one call is handed all that is at hand
 pub record Turn (x : Holds) (told : Source) (stage : Stage) (y : Holds) : Type 0 where

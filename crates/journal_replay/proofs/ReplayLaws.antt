@@ -23,12 +23,14 @@ use Rattle.rules.specs.Carry.{listBytes, bytesOf}
 use Rattle.rules.specs.Plain.{Plain, plainFresh, plainStep, plainRefusal, plainFound}
 use Rattle.rules.specs.Store.{fresh}
 use Rattle.rules.specs.Told.{toldList, toldDone, told}
+use Rattle.rules.specs.Watches.{freshWatched}
+use Rattle.rules.specs.Calls.{hands}
 use Rattle.desk.specs.declared.Desk.{Desk}
 use Rattle.desk.specs.Layout.{deskOf, pagesOf}
-use Rattle.desk.specs.Call.{After, Answers}
+use Rattle.desk.specs.Call.{After, handed, Answers}
 use Rattle.desk.proofs.FreshLaws.{fresh-pages}
 use Rattle.fresh.specs.Begin.{Found as Begin·Found, Made, Begins}
-use Rattle.demands.specs.Trace.{deskCuts, Trace, begun, called, EveryCall}
+use Rattle.demands.specs.Trace.{deskCuts, Trace, begun, called, watchesSet, EveryCall}
 use Rattle.demands.specs.Demands.{AsTold, WholeList}
 use Rattle.demands.proofs.Demands.{demand2, demand3}
 use Rattle.journal_replay.specs.Replay.{leftBy, answerBytes, listedBytes, reply, replies, Running, Found, Held, Replays}
@@ -42,9 +44,9 @@ told-at-hand x bytes buffer = by-cases (notAtHand bytes) (λ t. rw t (λ n. absu
 
 -- what a call is handed after a list of calls is at hand, or it answers 3
 pub called-at-hand : {d : Desk} {b : List ℕ} {x : Plain} (calls : Trace d b x) {bytes buffer : List ℕ} {y : After} → Bytes bytes
-    → Answers (record { desk = d; pages = b; bytes = bytes; buffer = buffer }) y → (y .number ≡ 3 → ⊥) → notAtHand bytes ≡ false
+    → Answers (handed d b (hands bytes) buffer) y → (y .number ≡ 3 → ⊥) → notAtHand bytes ≡ false
 called-at-hand {x = x} calls {bytes} {buffer} {y} small a n =
-    told-at-hand x bytes buffer (λ e. n (demand2 _ _ _ (called calls bytes buffer y small a) .1 .number ∙ e))
+    told-at-hand x bytes buffer (λ e. n (demand2 _ _ _ (called calls (hands bytes) buffer y small a) .1 .number ∙ e))
 
 length-bytesOf : (l : Rows Place) → length (bytesOf l) ≡ listBytes * length l
 unfolding bytesOf
@@ -146,15 +148,15 @@ next-within journal at number {next} l h e =
 -- ---- a call more
 
 module _ {journal : List ℕ} {d : Desk} {b : List ℕ} {read : ℕ} {out : List ℕ} {written : ℕ} (k : Running journal d b read out written) (small : Bytes journal) (l : read < length journal) (h : written + answerBytes ≤ length out)
-    {y : After} (given : Answers (record { desk = d; pages = b; bytes = take (length journal - read) (drop read journal); buffer = take (length out - (written + answerBytes)) (drop (written + answerBytes) out) }) y) where
-  answers-rest : Answers (record { desk = d; pages = b; bytes = drop read journal; buffer = drop (written + answerBytes) out }) y
+    {y : After} (given : Answers (handed d b (hands (take (length journal - read) (drop read journal))) (take (length out - (written + answerBytes)) (drop (written + answerBytes) out))) y) where
+  answers-rest : Answers (handed d b (hands (drop read journal)) (drop (written + answerBytes) out)) y
   answers-rest = rw (rest-whole journal read, rest-whole out (written + answerBytes)) at given
 
   -- the list of calls with this one
   abbrev longer : Trace (y .desk) (y .pages) (plainStep (deskCuts d) (drop read journal) (k .plain))
-  longer = called (k .calls) (drop read journal) (drop (written + answerBytes) out) y (rest-bytes journal read small) answers-rest
+  longer = called (k .calls) (hands (drop read journal)) (drop (written + answerBytes) out) y (rest-bytes journal read small) answers-rest
 
-  as-told : AsTold (k .plain) (drop read journal) (drop (written + answerBytes) out) y
+  as-told : AsTold (record { desk = d; plain = k .plain; watches = watchesSet (k .calls); call = hands (drop read journal); buffer = drop (written + answerBytes) out; after = y })
   as-told = demand2 _ _ _ longer .1
 
   pub call-at-hand : (y .number ≡ 3 → ⊥) → notAtHand (drop read journal) ≡ false
@@ -234,7 +236,7 @@ next-field journal at number n e = rw (ne-eqb number 3 n, e, rest-whole journal 
 
 -- ---- the whole journal
 
-pub run-start : (journal out : List ℕ) {d : Desk} {b : List ℕ} → d ≡ deskOf fresh → b ≡ pagesOf fresh → Running journal d b 0 out 0
+pub run-start : (journal out : List ℕ) {d : Desk} {b : List ℕ} → d ≡ deskOf freshWatched → b ≡ pagesOf fresh → Running journal d b 0 out 0
 unfolding replies
 run-start journal out e f =
     rw (e, f, fresh-pages) (record { plain = plainFresh; calls = begun; records = refl; within = omega arith; answers = refl; room = omega arith })
@@ -248,29 +250,29 @@ kept-further xs ys zs w v h e f =
 -- ---- from the fresh store
 
 -- making a fresh store answers 0 just where the size is right
-begins-size : {x : Begin·Found} {y : Made} → Begins x y → y .number ≡ 0 → length (x .pages) ≡ bufferBytes
+begins-size : {x : Begin·Found} {y : Made} → Begins x y → y .answer .number ≡ 0 → length (x .pages) ≡ bufferBytes
 begins-size {x} {y} g e =
     by-cases (eqb (length (x .pages)) bufferBytes) (λ t. eqb-true (length (x .pages)) bufferBytes t)
-    (λ t. let f : y .number ≡ 1 = ap (λ (z : Made). z .number) (g .size (eqb-false (length (x .pages)) bufferBytes t)) in absurd (omega arith))
+    (λ t. let f : y .answer .number ≡ 1 = ap (λ (z : Made). z .answer .number) (g .size (eqb-false (length (x .pages)) bufferBytes t)) in absurd (omega arith))
 
-pub begins-fresh : {x : Begin·Found} {y : Made} → Begins x y → y .number ≡ 0 → (y .desk ≡ deskOf fresh) × (y .pages ≡ pagesOf fresh)
-begins-fresh g e = let f = g .made (begins-size g e) in (ap (λ (z : Made). z .desk) f, ap (λ (z : Made). z .pages) f)
+pub begins-fresh : {x : Begin·Found} {y : Made} → Begins x y → y .answer .number ≡ 0 → (y .desk ≡ deskOf freshWatched) × (y .pages ≡ pagesOf fresh)
+begins-fresh g e = let f = g .begun (begins-size g e) in (ap (λ (z : Made). z .desk) f, ap (λ (z : Made). z .pages) f)
 
-pub replays-refused : (journal out : List ℕ) {x : Begin·Found} {y : Made} → Begins x y → (y .number ≡ 0 → ⊥)
-    → Replays journal (record { desk = x .desk; pages = x .pages; out = out }) (record { number = y .number; desk = y .desk; pages = y .pages; read = 0; written = 0; out = out })
+pub replays-refused : (journal out : List ℕ) {x : Begin·Found} {y : Made} → Begins x y → (y .answer .number ≡ 0 → ⊥)
+    → Replays journal (record { desk = x .desk; pages = x .pages; out = out }) (record { number = y .answer .number; desk = y .desk; pages = y .pages; read = 0; written = 0; out = out })
 replays-refused journal out {x} {y} g n =
-    let zero : length (x .pages) ≡ bufferBytes → y .number ≡ 0 = λ l. ap (λ (z : Made). z .number) (g .made l) in
+    let zero : length (x .pages) ≡ bufferBytes → y .answer .number ≡ 0 = λ l. ap (λ (z : Made). z .answer .number) (g .begun l) in
     record {
-      size = λ l. ap (λ (z : Made). record { number = z .number; desk = z .desk; pages = z .pages; read = 0; written = 0; out = out }) (g .size l);
+      size = λ l. ap (λ (z : Made). record { number = z .answer .number; desk = z .desk; pages = z .pages; read = 0; written = 0; out = out }) (g .size l);
       accepted = zero;
       run = λ l. absurd (n (zero l));
       whole = λ l. absurd (n (zero l));
       kept = refl;
     }
 
-pub replays-run : (journal : List ℕ) {x : Begin·Found} {y : Made} {d : Desk} {b : List ℕ} {read written : ℕ} {out after : List ℕ} → Begins x y → y .number ≡ 0
+pub replays-run : (journal : List ℕ) {x : Begin·Found} {y : Made} {d : Desk} {b : List ℕ} {read written : ℕ} {out after : List ℕ} → Begins x y → y .answer .number ≡ 0
     → Running journal d b read after written × (written + answerBytes ≤ length out → read ≡ length journal) × (drop written after ≡ drop written out)
-    → Replays journal (record { desk = x .desk; pages = x .pages; out = out }) (record { number = y .number; desk = d; pages = b; read = read; written = written; out = after })
+    → Replays journal (record { desk = x .desk; pages = x .pages; out = out }) (record { number = y .answer .number; desk = d; pages = b; read = read; written = written; out = after })
 replays-run journal g e r = record { size = λ n. absurd (n (begins-size g e)); accepted = λ _. e; run = λ _. r .0; whole = λ _. r .1; kept = r .2 }
 
 -- ---- Demands 2 and 3 of the run

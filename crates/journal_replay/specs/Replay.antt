@@ -11,6 +11,7 @@ use Rattle.page.specs.Buffer.{bufferBytes}
 use Rattle.rules.specs.Records.{lengthField}
 use Rattle.rules.specs.Carry.{listBytes}
 use Rattle.rules.specs.Plain.{Plain}
+use Rattle.rules.specs.Calls.{hands, sets, clears}
 use Rattle.desk.specs.declared.Desk.{Desk}
 use Rattle.desk.specs.Call.{After}
 use Rattle.demands.specs.Trace.{Trace, begun, called}
@@ -21,10 +22,12 @@ use Rattle.demands.specs.Trace.{Trace, begun, called}
 unfoldable pub leftBy : List ℕ → ℕ → List ℕ
 leftBy bytes number = cond (eqb number 3) [] (drop (lengthField bytes) bytes)
 
--- the calls are the journal's records: each is handed what the one before it left, some byte of it, and the last one leaves `left`
+-- the calls are the journal's records, and no others: each is handed what the one before it left, some byte of it, and the last one leaves `left`
 abbrev pub Leaves : List ℕ → {d : Desk} {b : List ℕ} {x : Plain} → Trace d b x → List ℕ → Type 0
 Leaves journal begun left = left ≡ journal
-Leaves journal (called before bytes buffer y small a) left = Leaves journal before bytes × (0 < length bytes) × (left ≡ leftBy bytes (y .number))
+Leaves journal (called before (hands bytes) buffer y small a) left = Leaves journal before bytes × (0 < length bytes) × (left ≡ leftBy bytes (y .number))
+Leaves journal (called before (sets w rect) buffer y small a) left = ⊥
+Leaves journal (called before (clears w) buffer y small a) left = ⊥
 
 -- ---- the answers
 
@@ -42,7 +45,7 @@ reply y = le fieldBytes (y .number) ++ (le fieldBytes (y .count) ++ take (listed
 
 unfoldable pub replies : {d : Desk} {b : List ℕ} {x : Plain} → Trace d b x → List ℕ
 replies begun = []
-replies (called before bytes buffer y small a) = replies before ++ reply y
+replies (called before call buffer y small a) = replies before ++ reply y
 
 -- ---- the run
 

@@ -10,6 +10,7 @@ ghost use Rattle.lists.specs.Parts.{put};
 ghost use Rattle.lists.specs.Words.{le};
 ghost use Rattle.rules.specs.Records.{lengthField, notAtHand};
 ghost use Rattle.rules.specs.Store.{fresh};
+ghost use Rattle.rules.specs.Watches.{freshWatched};
 ghost use Rattle.desk.specs.Layout.{deskOf, pagesOf};
 ghost use Rattle.journal_replay.specs.Replay.{answerBytes, listedBytes, Running, Replays, handed, left};
 use desk::Answer;
@@ -86,7 +87,7 @@ fn step(run: Run, pages: &mut [u8], journal: &[u8], out: &mut [u8]) -> Run
 
 // The whole journal, on a fresh store, as long as there is room for an answer.
 fn carry_all(desk: Desk, pages: &mut [u8], journal: &[u8], out: &mut [u8]) -> Run
-    requires { ⌜ (desk ≡ deskOf fresh) × (now pages ≡ pagesOf fresh) ⌝ }
+    requires { ⌜ (desk ≡ deskOf freshWatched) × (now pages ≡ pagesOf fresh) ⌝ }
     ensures { λ r. ⌜ Running (now (journal .entry)) (r .desk) (now (pages .exit)) (r .read) (now (out .exit)) (r .written)
         × (r .written + answerBytes ≤ length (now (out .entry)) → r .read ≡ length (now (journal .entry)))
         × (drop (r .written) (now (out .exit)) ≡ drop (r .written) (now (out .entry))) ⌝ }

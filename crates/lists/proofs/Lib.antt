@@ -1,4 +1,5 @@
 pub mod AmongLaws
+pub mod BitsLaws
 pub mod Cases
 pub mod ChainsLaws
 pub mod MapLaws

@@ -1,4 +1,5 @@
 pub mod Among
+pub mod Bits
 pub mod Chains
 pub mod Parts
 pub mod Rows

@@ -214,7 +214,7 @@ module _ (s : Store) (w : WellFormed s) (look : Sought) (r : ℕ) (on : isOn s r
           stored-count (s .memo) r (s .cells) (omega arith) t,
         ))
 
-  seen-latest : seen look (tableAny look s r) ≡ seen look (latest s r)
+  pub seen-latest : seen look (tableAny look s r) ≡ seen look (latest s r)
   seen-latest =
       option-cases (find (s .waiting) r)
       (λ e. ap (seen look) (reports-find ∙ ap (λ (o : Option Report). foundOr (λ x. x .fix) o (stored r)) e)
@@ -255,7 +255,7 @@ module _ (look : Sought) where
   abbrev pub tableOf : Store → Places
   tableOf s = reportsOver look (s .waiting) (over (cellOver (s .memo)) (s .cells) noPlaces)
 
-  table-seen : (s : Store) → tableOf s ≡ seenAt (tableAny look s)
+  pub table-seen : (s : Store) → tableOf s ≡ seenAt (tableAny look s)
   unfolding reportsOver noPlaces
   table-seen s =
       ap (reportsOver look (s .waiting)) (over-seen (cellAny (s .memo) look) (cellOver (s .memo)) (cell-seen (s .memo)) (s .cells) noFixes)

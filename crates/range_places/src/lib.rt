@@ -12,7 +12,6 @@ ghost use Rattle.entries.specs.Entries.{rowOf};
 ghost use Rattle.page.specs.Page.{entries};
 ghost use Rattle.page.specs.Buffer.{pageAt, there, entriesFrom};
 ghost use Rattle.rules.specs.Limits.{maxCells, fullMemory, keptMinutes};
-ghost use Rattle.rules.specs.Grid.{takesIn, covers};
 ghost use Rattle.rules.specs.Plain.{putAt};
 ghost use Rattle.desk.specs.Layout.{slotFields, reportFields};
 ghost use Rattle.desk.specs.Views.{slotsIn, edgesOf, rectOf};
@@ -33,27 +32,12 @@ use terms::PAGES;
 
 // ---- rectangles
 
-// Whether a range's two edges take in a coordinate: the low edge is inside, the high one outside, but at the last metre it takes in that line. No branch: which
-// radios are found follows no pattern.
-fn takes_in(low: u16, high: u16, x: u16) -> bool
-    ensures { λ r. ⌜ r ≡ takesIn (record { low = low; high = high }) x ⌝ }
-{
-    (low <= x) & ((x < high) | (high == Desk::LAST_METRE))
-}
-
-// Whether the range takes in the place.
-fn is_covered(area: Rectangle, east: u16, north: u16) -> bool
-    ensures { λ r. ⌜ r ≡ covers (rectOf area) (record { east = east; north = north }) ⌝ }
-{
-    takes_in(area.west, area.east, east) & takes_in(area.south, area.north, north)
-}
-
 // Whether a range's edges and a cell's have a coordinate in common: the cell begins in the range, or the range in the cell.
 fn is_meeting(low: u16, high: u16, cell_low: u16, cell_high: u16) -> bool
     ensures { λ r. ⌜ r ≡ meets (record { low = low; high = high }) (record { low = «cell_low»; high = «cell_high» }) ⌝ }
 {
-    takes_in(low, high, cell_low)
-        | ((cell_low <= low) & (low <= cell_high) & takes_in(low, high, low))
+    rectangles::takes_in(low, high, cell_low)
+        | ((cell_low <= low) & (low <= cell_high) & rectangles::takes_in(low, high, low))
 }
 
 // Whether the rectangle touches the cell.
@@ -96,7 +80,7 @@ pub fn search_of(area: Rectangle, minute: u32) -> Search
 fn is_sought(search: Search, east: u16, north: u16, minute: u32) -> bool
     ensures { λ r. ⌜ r ≡ isSought (soughtOf search) (fixAt east north minute) ⌝ }
 {
-    is_covered(search.area, east, north) & (search.since <= minute)
+    rectangles::is_covered(search.area, east, north) & (search.since <= minute)
 }
 
 // ---- a table by radio

@@ -84,7 +84,7 @@ module _ (s : Store) (on : On) (b : List ℕ) {highest : ℕ} {c : Checked} (lai
 
   -- carried out
   module _ (q : Request) (is : c ≡ asks q) where
-    taken : (refusal (s .highest) (isOn s) (onCount s) b ≡ 0) × (requestOf b ≡ q)
+    pub taken : (refusal (s .highest) (isOn s) (onCount s) b ≡ 0) × (requestOf b ≡ q)
     taken = rw (refusal-laid s on laid late b) at (means-asks _ (requestOf b) told q is)
 
     pub taken-carry : (buffer : List ℕ) → carry s b buffer ≡ carriedOut q s buffer

@@ -18,4 +18,5 @@ pub mod SquaresLaws
 pub mod StepLaws
 pub mod TilingLaws
 pub mod ToldLaws
+pub mod WatchesLaws
 pub mod WellLaws

@@ -135,6 +135,9 @@ none-counted memo r (c ∷ cs) h =
     (λ e. none-live (λ _. true) memo r c cs e ∙ none-counted memo r cs (rw (stored-step memo r c cs, e) at h))
     (λ p e. let z : _≡_ {A = Option Fix} (some p) none = rw (stored-step memo r c cs, e) at h in cc)
 
+pub stored-live : (memo : Rows Line) (r : ℕ) (cells : List Cell) → storedIn memo r cells ≡ none → liveOf memo r cells ≡ 0
+stored-live memo r cells h = sym (live-true memo r cells) ∙ none-counted memo r cells h
+
 abbrev sameFix : Fix → Fix → Bool
 sameFix f g = both (samePlace (f .place) (g .place)) (eqb (f .minute) (g .minute))
 

@@ -64,6 +64,10 @@ takesIn s x = both (leb (s .low) x) (either (ltb x (s .high)) (eqb (s .high) las
 abbrev pub covers : Rect → Place → Bool
 covers r p = both (takesIn (r .easts) (p .east)) (takesIn (r .norths) (p .north))
 
+-- "west above east or south above north"
+abbrev pub isReversed : Rect → Bool
+isReversed r = either (ltb (r .easts .high) (r .easts .low)) (ltb (r .norths .high) (r .norths .low))
+
 -- the whole square
 abbrev pub square : Rect
 square = record { easts = record { low = 0; high = lastMetre }; norths = record { low = 0; high = lastMetre } }

@@ -1,3 +1,4 @@
+pub mod Calls
 pub mod Carry
 pub mod Cut
 pub mod Flush
@@ -14,5 +15,6 @@ pub mod Squares
 pub mod Store
 pub mod Sweep
 pub mod Told
+pub mod Watches
 pub mod WellFormed
 pub mod Worked

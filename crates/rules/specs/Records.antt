@@ -8,7 +8,7 @@ use lib.ListN.{length}
 use Rattle.terms.specs.Terms.{Place, Fix, fieldBytes, minuteBytes, maxRadio, maxOn}
 use Rattle.lists.specs.Tests.{isSome, both, either}
 use Rattle.lists.specs.Words.{word}
-use Rattle.rules.specs.Grid.{Rect}
+use Rattle.rules.specs.Grid.{Rect, isReversed}
 
 -- "A record is its length in bytes, its kind, its body."
 abbrev field : List ℕ → ℕ → ℕ
@@ -106,9 +106,7 @@ tooEarly highest b = ltb (minuteField b) highest
 
 -- 7: "A range has west above east or south above north."
 unfoldable pub reversed : List ℕ → Bool
-reversed b =
-    both (eqb (kindField b) kindRange)
-    (either (ltb (rectField b .easts .high) (rectField b .easts .low)) (ltb (rectField b .norths .high) (rectField b .norths .low)))
+reversed b = both (eqb (kindField b) kindRange) (isReversed (rectField b))
 
 -- 8: "A sign-on names a radio that is on."
 unfoldable pub onAlready : (ℕ → Bool) → List ℕ → Bool

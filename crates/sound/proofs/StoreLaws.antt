@@ -11,11 +11,10 @@ use Rattle.lists.proofs.TestsLaws.{both-left, both-right, both-intro, each-map,
 use Rattle.rules.specs.Limits.{maxCells}
 use Rattle.rules.specs.Store.{Cell, Store}
 use Rattle.rules.specs.WellFormed.{chains, PagesOnce}
-use Rattle.desk.specs.declared.Desk.{Desk}
-use Rattle.desk.specs.Held.{deskGrid}
-use Rattle.desk.specs.Layout.{slotted, cutListOf, slotOf, noSlot, slotWords, directoryOf, gridOf, waitingOf, memoOf, onOf, deskHolding, deskOf}
+use Rattle.desk.specs.Held.{Ledger, ledgerGrid}
+use Rattle.desk.specs.Layout.{slotted, cutListOf, slotOf, noSlot, slotWords, directoryOf, gridOf, waitingOf, memoOf, onOf, ledgerHolding, ledgerOf}
 use Rattle.desk.specs.Views.{everySlot}
-use Rattle.desk.specs.Sound.{Sound}
+use Rattle.desk.specs.Sound.{SoundLedger}
 use Rattle.desk.proofs.ReadLaws.{Paged}
 use Rattle.desk.proofs.UniqueLaws.{take-slots, same-store}
 use Rattle.sound_clauses.specs.Cells.{rowsOf, chainTest, radiosTest, insideTest, minutesTest}
@@ -87,7 +86,7 @@ module _ (s : Store) where
 
 -- ---- desk and pages that have passed their own tests
 
-module _ (d : Desk) (b : List ℕ) (shape : Shaped d) (desk : deskSound d ≡ true) (x : PagesSound (d .parts .highest) b (deskGrid d .cells) (deskGrid d .free)) where
+module _ (d : Ledger) (b : List ℕ) (shape : Shaped d) (desk : deskSound d ≡ true) (x : PagesSound (d .parts .highest) b (ledgerGrid d .cells) (ledgerGrid d .free)) where
   -- the store put together: what the desk shows, with the cells and the free chain that the pages have
   abbrev pub whole : Store
   whole = record {
@@ -103,24 +102,24 @@ module _ (d : Desk) (b : List ℕ) (shape : Shaped d) (desk : deskSound d ≡ tr
 
   -- the directory shows the cells of the pages
   whole-slots : map slotOf (shown d .cells) ≡ map slotOf (x .cells)
-  unfolding deskOf gridOf
+  unfolding ledgerOf gridOf
   whole-slots =
       sym (take-slots (shown d .cells))
-      ∙ sym (ap (λ (y : Desk). take (deskGrid y .cells .n) (everySlot (deskGrid y .cells .words))) (desk-shown d shape desk))
+      ∙ sym (ap (λ (y : Ledger). take (ledgerGrid y .cells .n) (everySlot (ledgerGrid y .cells .words))) (desk-shown d shape desk))
       ∙ x .shown
 
   whole-count : length (shown d .cells) ≡ length (x .cells)
   whole-count = omega (arith, ap length whole-slots, length-map (shown d .cells) slotOf, length-map (x .cells) slotOf)
 
   -- the desk is its desk
-  pub whole-held : d ≡ deskOf whole
-  unfolding deskOf gridOf directoryOf
+  pub whole-held : d ≡ ledgerOf whole
+  unfolding ledgerOf gridOf directoryOf
   whole-held =
       let n = whole-count in
       let l = whole-slots in
       let f = x .front in
       desk-shown d shape desk
-      ∙ (λ i. deskHolding
+      ∙ (λ i. ledgerHolding
       (record {
         easts = cutListOf (shown d .cuts .easts);
         norths = cutListOf (shown d .cuts .norths);
@@ -130,7 +129,7 @@ module _ (d : Desk) (b : List ℕ) (shape : Shaped d) (desk : deskSound d ≡ tr
       (waitingOf (shown d .waiting)) (memoOf (shown d .memo)) (onOf (shown d .on)) (shown d .tally) (shown d .highest))
 
   -- it is sound if the radios' tests pass
-  pub radios-sound : rowsTest whole ≡ true → Sound d b
+  pub radios-sound : rowsTest whole ≡ true → SoundLedger d b
   radios-sound r = record {
     store = whole;
     well = passes-well whole (tests-pass whole (desk-store d whole shape whole-held desk) (store-once x whole refl refl) (x .good) r);
@@ -139,18 +138,18 @@ module _ (d : Desk) (b : List ℕ) (shape : Shaped d) (desk : deskSound d ≡ tr
   }
 
   -- there is no other store
-  pub whole-store : (y : Sound d b) → y .store ≡ whole
+  pub whole-store : (y : SoundLedger d b) → y .store ≡ whole
   whole-store y =
       same-store (y .store) whole b (y .well .once) (store-once x whole refl refl)
       (each-map _ Paged (y .store .cells) (λ c g. g .paged) (y .well .cells)) (each-map (CellSound (d .parts .highest)) Paged (x .cells) (λ c g. g .paged) (x .good))
       (sym (y .held) ∙ whole-held) (y .laid) (store-laid x whole refl refl)
 
   -- so it is sound only if they pass
-  pub sound-radios : Sound d b → rowsTest whole ≡ true
+  pub sound-radios : SoundLedger d b → rowsTest whole ≡ true
   sound-radios y = subst (λ (s : Store). rowsTest s ≡ true) (whole-store y) (pass-rows (y .store) (well-passes (y .store) (y .well)))
 
 -- ---- the desk of a sound store passes
 
-pub sound-desk : (d : Desk) (b : List ℕ) → Sound d b → deskSound d ≡ true
+pub sound-desk : (d : Ledger) (b : List ℕ) → SoundLedger d b → deskSound d ≡ true
 sound-desk d b y =
     ap deskSound (y .held) ∙ tested-desk (y .store) (omega (arith, well-memo (y .store) (y .well))) (well-tests (y .store) (well-passes (y .store) (y .well)))

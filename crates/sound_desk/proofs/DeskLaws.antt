@@ -16,9 +16,9 @@ use Rattle.rules.specs.Grid.{Cuts, Rect}
 use Rattle.rules.specs.Store.{Store, Cell}
 use Rattle.desk.specs.declared.CutList.{CutList}
 use Rattle.desk.specs.declared.Slot.{Slot}
-use Rattle.desk.specs.Held.{Directory, Memo, On, Waiting, deskGrid, deskWaiting, deskMemo, deskOn, waitingWith}
-use Rattle.desk.specs.declared.Desk.{Desk}
-use Rattle.desk.specs.Layout.{lineSlots, slotted, cutListOf, slotOf, noSlot, slotWords, directoryOf, gridOf, deskHolding, deskOf}
+use Rattle.desk.specs.Held.{Directory, Memo, On, Waiting, ledgerGrid, ledgerWaiting, ledgerMemo, ledgerOn, waitingWith}
+use Rattle.desk.specs.Held.{Ledger}
+use Rattle.desk.specs.Layout.{lineSlots, slotted, cutListOf, slotOf, noSlot, slotWords, directoryOf, gridOf, ledgerHolding, ledgerOf}
 use Rattle.desk.specs.Views.{everyReport, cutsBy, slotsIn, directoryWith, edgesOf as rectOf}
 use Rattle.desk.proofs.UniqueLaws.{same-cuts, same-slots, same-waiting, same-memo, same-on, same-tally}
 use Rattle.sound_clauses.specs.Grid.{edgesTest, tileTest}
@@ -68,17 +68,17 @@ module _ (highest : ℕ) (easts norths : CutList) (w : Waiting) (on : On) {a : B
 
 -- ---- the desk
 
-module _ (d : Desk) {a : Bool} (grid : a ≡ gridSound (deskGrid d .easts) (deskGrid d .norths) (deskGrid d .cells)) where
+module _ (d : Ledger) {a : Bool} (grid : a ≡ gridSound (ledgerGrid d .easts) (ledgerGrid d .norths) (ledgerGrid d .cells)) where
   pub desk-grid : not a ≡ true → false ≡ deskSound d
   unfolding deskSound
   desk-grid f = stops _ grid f
 
-  module _ (passed : not a ≡ false) {b : Bool} (radios : b ≡ radiosSound (d .parts .highest) (deskGrid d .easts) (deskGrid d .norths) (deskWaiting d) (deskOn d)) where
+  module _ (passed : not a ≡ false) {b : Bool} (radios : b ≡ radiosSound (d .parts .highest) (ledgerGrid d .easts) (ledgerGrid d .norths) (ledgerWaiting d) (ledgerOn d)) where
     pub desk-radios : not b ≡ true → false ≡ deskSound d
     unfolding deskSound
     desk-radios f = goes grid passed (stops _ radios f)
 
-    module _ (passed′ : not b ≡ false) {k : Bool} (memo : k ≡ memoSound (deskMemo d)) where
+    module _ (passed′ : not b ≡ false) {k : Bool} (memo : k ≡ memoSound (ledgerMemo d)) where
       pub desk-memo : not k ≡ true → false ≡ deskSound d
       unfolding deskSound
       desk-memo f = goes grid passed (goes radios passed′ (stops _ memo f))
@@ -125,7 +125,7 @@ record Parts (easts norths : CutList) (cells : Directory) (w : Waiting) (memo : 
   lines : memoSound memo ≡ true
   tallied : tallyTest tally ≡ true
 
-desk-parts : (d : Desk) → deskSound d ≡ true → Parts (deskGrid d .easts) (deskGrid d .norths) (deskGrid d .cells) (deskWaiting d) (deskMemo d) (deskOn d) (d .parts .tally) (d .parts .highest)
+desk-parts : (d : Ledger) → deskSound d ≡ true → Parts (ledgerGrid d .easts) (ledgerGrid d .norths) (ledgerGrid d .cells) (ledgerWaiting d) (ledgerMemo d) (ledgerOn d) (d .parts .tally) (d .parts .highest)
 unfolding deskSound gridSound radiosSound
 desk-parts d t =
     let p = parts _ _ t in
@@ -139,52 +139,52 @@ desk-parts d t =
     let m = parts _ _ (q .1) in
     record { east = g .0; north = h .0; directory = k .0; edges = l .0; tile = l .1; waits = w .0; heard = x .0; few = x .1; lines = m .0; tallied = m .1 }
 
-parts-desk : (d : Desk) → Parts (deskGrid d .easts) (deskGrid d .norths) (deskGrid d .cells) (deskWaiting d) (deskMemo d) (deskOn d) (d .parts .tally) (d .parts .highest) → deskSound d ≡ true
+parts-desk : (d : Ledger) → Parts (ledgerGrid d .easts) (ledgerGrid d .norths) (ledgerGrid d .cells) (ledgerWaiting d) (ledgerMemo d) (ledgerOn d) (d .parts .tally) (d .parts .highest) → deskSound d ≡ true
 unfolding deskSound gridSound radiosSound
 parts-desk d p =
     both-intro (both-intro (p .east) (both-intro (p .north) (both-intro (p .directory) (both-intro (p .edges) (p .tile)))))
     (both-intro (both-intro (p .waits) (both-intro (p .heard) (p .few))) (both-intro (p .lines) (p .tallied)))
 
-module _ (d : Desk) (shape : Shaped d) (sound : deskSound d ≡ true) where
-  have : Parts (deskGrid d .easts) (deskGrid d .norths) (deskGrid d .cells) (deskWaiting d) (deskMemo d) (deskOn d) (d .parts .tally) (d .parts .highest)
+module _ (d : Ledger) (shape : Shaped d) (sound : deskSound d ≡ true) where
+  have : Parts (ledgerGrid d .easts) (ledgerGrid d .norths) (ledgerGrid d .cells) (ledgerWaiting d) (ledgerMemo d) (ledgerOn d) (d .parts .tally) (d .parts .highest)
   have = desk-parts d sound
 
-  cells-whole : deskGrid d .cells ≡ directoryOf (shown d .cells)
+  cells-whole : ledgerGrid d .cells ≡ directoryOf (shown d .cells)
   cells-whole =
-      directory-whole (deskGrid d .cells) (have .directory) (shape .cells) .0
-      ∙ ap directoryWith (sym (shown-slots (slotsIn (deskGrid d .cells))))
+      directory-whole (ledgerGrid d .cells) (have .directory) (shape .cells) .0
+      ∙ ap directoryWith (sym (shown-slots (slotsIn (ledgerGrid d .cells))))
       ∙ sym (cells-slots (shown d .cells))
 
   -- the desk is that of the store it shows
-  pub desk-shown : d ≡ deskOf (shown d)
-  unfolding deskOf gridOf
+  pub desk-shown : d ≡ ledgerOf (shown d)
+  unfolding ledgerOf gridOf
   desk-shown =
-      let e = cuts-whole (deskGrid d .easts) (shape .easts) (have .east) .0 in
-      let n = cuts-whole (deskGrid d .norths) (shape .norths) (have .north) .0 in
+      let e = cuts-whole (ledgerGrid d .easts) (shape .easts) (have .east) .0 in
+      let n = cuts-whole (ledgerGrid d .norths) (shape .norths) (have .north) .0 in
       let c = cells-whole in
-      let w = waiting-whole (deskWaiting d) (shape .waiting) (d .parts .highest) (have .waits) .0 in
-      let m = memo-whole (deskMemo d) (shape .memo) (have .lines) .0 in
-      let o = on-whole (deskOn d) (shape .on) (have .heard) .0 in
-      λ i. deskHolding (record { easts = e i; norths = n i; cells = c i; free = deskGrid d .free }) (w i) (m i) (o i) (d .parts .tally) (d .parts .highest)
+      let w = waiting-whole (ledgerWaiting d) (shape .waiting) (d .parts .highest) (have .waits) .0 in
+      let m = memo-whole (ledgerMemo d) (shape .memo) (have .lines) .0 in
+      let o = on-whole (ledgerOn d) (shape .on) (have .heard) .0 in
+      λ i. ledgerHolding (record { easts = e i; norths = n i; cells = c i; free = ledgerGrid d .free }) (w i) (m i) (o i) (d .parts .tally) (d .parts .highest)
 
-  few-cells : length (slotsIn (deskGrid d .cells)) ≤ maxCells
+  few-cells : length (slotsIn (ledgerGrid d .cells)) ≤ maxCells
   unfolding directoryWith
-  few-cells = omega (arith, ap (λ (x : Directory). x .n) (directory-whole (deskGrid d .cells) (have .directory) (shape .cells) .0), directory-count (deskGrid d .cells) (have .directory))
+  few-cells = omega (arith, ap (λ (x : Directory). x .n) (directory-whole (ledgerGrid d .cells) (have .directory) (shape .cells) .0), directory-count (ledgerGrid d .cells) (have .directory))
 
   -- and the mirror's tests hold of it
   pub desk-tested : DeskTests (shown d)
   unfolding edgesSound tileSound fewSound
   desk-tested =
-      let c = directory-whole (deskGrid d .cells) (have .directory) (shape .cells) in
-      let w = waiting-whole (deskWaiting d) (shape .waiting) (d .parts .highest) (have .waits) in
-      let m = memo-whole (deskMemo d) (shape .memo) (have .lines) in
-      let slots = slotsIn (deskGrid d .cells) in
-      let cuts = cutsBy (deskGrid d .easts) (deskGrid d .norths) in
+      let c = directory-whole (ledgerGrid d .cells) (have .directory) (shape .cells) in
+      let w = waiting-whole (ledgerWaiting d) (shape .waiting) (d .parts .highest) (have .waits) in
+      let m = memo-whole (ledgerMemo d) (shape .memo) (have .lines) in
+      let slots = slotsIn (ledgerGrid d .cells) in
+      let cuts = cutsBy (ledgerGrid d .easts) (ledgerGrid d .norths) in
       record {
         few = le-leb (length (numbersOf (shown d .cells))) maxCells (rw (shown-numbers slots, length-map slots (λ x. x .number)) few-cells);
-        on = on-whole (deskOn d) (shape .on) (have .heard) .1;
-        easts = cuts-whole (deskGrid d .easts) (shape .easts) (have .east) .1;
-        norths = cuts-whole (deskGrid d .norths) (shape .norths) (have .north) .1;
+        on = on-whole (ledgerOn d) (shape .on) (have .heard) .1;
+        easts = cuts-whole (ledgerGrid d .easts) (shape .easts) (have .east) .1;
+        norths = cuts-whole (ledgerGrid d .norths) (shape .norths) (have .north) .1;
         numbered = ap numbersTest (shown-numbers slots) ∙ c .1;
         edges = ap (all (edgesTest cuts)) (shown-edges slots) ∙ have .edges;
         tile = ap (tileTest cuts) (shown-edges slots) ∙ have .tile;
@@ -208,15 +208,15 @@ cuts-of : (cuts : Cuts) → cutsBy (cutListOf (cuts .easts)) (cutListOf (cuts .n
 cuts-of cuts = let e = cuts-in (cuts .easts) in let n = cuts-in (cuts .norths) in λ i. record { easts = e i; norths = n i }
 
 -- the desk of a store whose tests hold passes
-pub tested-desk : (s : Store) → length (s .memo) ≤ lineSlots → DeskTests s → deskSound (deskOf s) ≡ true
-unfolding deskOf gridOf edgesSound tileSound fewSound
+pub tested-desk : (s : Store) → length (s .memo) ≤ lineSlots → DeskTests s → deskSound (ledgerOf s) ≡ true
+unfolding ledgerOf gridOf edgesSound tileSound fewSound
 tested-desk s short t =
     let cuts = cuts-of (s .cuts) in
     let rects = rects-of (s .cells) in
     let waits = reports-waitingOf (s .waiting) in
     let names = slot-numbers (s .cells) in
     let few = leb-true (length (numbersOf (s .cells))) maxCells (t .few) in
-    parts-desk (deskOf s) (record {
+    parts-desk (ledgerOf s) (record {
       east = whole-cuts (s .cuts .easts) (t .easts);
       north = whole-cuts (s .cuts .norths) (t .norths);
       directory =
@@ -232,8 +232,8 @@ tested-desk s short t =
     })
 
 -- stores of one desk have the same tests
-pub same-tests : (s t : Store) → deskOf s ≡ deskOf t → DeskTests s → DeskTests t
-unfolding deskOf
+pub same-tests : (s t : Store) → ledgerOf s ≡ ledgerOf t → DeskTests s → DeskTests t
+unfolding ledgerOf
 same-tests s t e =
     let cu = same-cuts s t e in
     let sl = same-slots s t e in
@@ -243,11 +243,11 @@ same-tests s t e =
     let me = same-memo s t e in
     let on = same-on s t e in
     let ta = same-tally s t e in
-    let hi : s .highest ≡ t .highest = ap (λ (d : Desk). d .parts .highest) e in
+    let hi : s .highest ≡ t .highest = ap (λ (d : Ledger). d .parts .highest) e in
     transport (λ i. Tests (cu i) (nu i) (ed i) (wa i) (me i) (on i) (ta i) (hi i))
 
 -- a desk that passes: the tests hold of any store whose desk it is
-pub desk-store : (d : Desk) (s : Store) → Shaped d → d ≡ deskOf s → deskSound d ≡ true → DeskTests s
+pub desk-store : (d : Ledger) (s : Store) → Shaped d → d ≡ ledgerOf s → deskSound d ≡ true → DeskTests s
 desk-store d s shape e t = same-tests (shown d) s (sym (desk-shown d shape t) ∙ e) (desk-tested d shape t)
 
 -- those of a store that passes the whole test

@@ -13,8 +13,8 @@ use Rattle.rules.specs.Limits.{maxCells, maxCuts, fullMemory}
 use Rattle.rules.specs.Grid.{Rect, Cuts}
 use Rattle.rules.specs.Store.{Store, Report as StoreReport, Line as StoreLine}
 use Rattle.desk.specs.declared.CutList.{CutList}
-use Rattle.desk.specs.Held.{On, Waiting, deskGrid, deskWaiting, deskMemo, deskOn}
-use Rattle.desk.specs.declared.Desk.{Desk}
+use Rattle.desk.specs.Held.{On, Waiting, ledgerGrid, ledgerWaiting, ledgerMemo, ledgerOn}
+use Rattle.desk.specs.Held.{Ledger}
 use Rattle.desk.specs.Layout.{slotFields, reportFields, lineSlots, lineFields}
 use Rattle.desk.specs.Views.{cutsBy, radiosOf, slotsIn}
 use Rattle.memo.specs.Memo.{linesOf}
@@ -38,22 +38,22 @@ fewSound easts norths w = fewTest (cutsBy easts norths) (reportsOf w)
 unfoldable pub radiosSound : ℕ → CutList → CutList → Waiting → On → Bool
 radiosSound highest easts norths w on = both (waitingSound highest w) (both (onSound on) (fewSound easts norths w))
 
-unfoldable pub deskSound : Desk → Bool
+unfoldable pub deskSound : Ledger → Bool
 deskSound d =
-    both (gridSound (deskGrid d .easts) (deskGrid d .norths) (deskGrid d .cells))
-    (both (radiosSound (d .parts .highest) (deskGrid d .easts) (deskGrid d .norths) (deskWaiting d) (deskOn d)) (both (memoSound (deskMemo d)) (tallyTest (d .parts .tally))))
+    both (gridSound (ledgerGrid d .easts) (ledgerGrid d .norths) (ledgerGrid d .cells))
+    (both (radiosSound (d .parts .highest) (ledgerGrid d .easts) (ledgerGrid d .norths) (ledgerWaiting d) (ledgerOn d)) (both (memoSound (ledgerMemo d)) (tallyTest (d .parts .tally))))
 
 -- ---- what it says
 
 -- the store that a desk shows: of each chain its first page, and no entries
-abbrev pub shown : Desk → Store
+abbrev pub shown : Ledger → Store
 shown d = record {
-  cuts = cutsBy (deskGrid d .easts) (deskGrid d .norths);
-  cells = map cellOf (slotsIn (deskGrid d .cells));
-  free = deskGrid d .free ∷ [];
-  waiting = reportsOf (deskWaiting d);
-  memo = linesOf (deskMemo d);
-  on = radiosOf (deskOn d);
+  cuts = cutsBy (ledgerGrid d .easts) (ledgerGrid d .norths);
+  cells = map cellOf (slotsIn (ledgerGrid d .cells));
+  free = ledgerGrid d .free ∷ [];
+  waiting = reportsOf (ledgerWaiting d);
+  memo = linesOf (ledgerMemo d);
+  on = radiosOf (ledgerOn d);
   tally = d .parts .tally;
   highest = d .parts .highest;
 }
@@ -82,9 +82,9 @@ abbrev pub DeskTests : Store → Type 0
 DeskTests s = Tests (s .cuts) (numbersOf (s .cells)) (edgesOf (s .cells)) (s .waiting) (s .memo) (s .on) (s .tally) (s .highest)
 
 -- each array has its slots: a value of the type always does
-pub record Shaped (d : Desk) : Type 0 where
-  pub easts : length (deskGrid d .easts .at) ≡ maxCuts
-  pub norths : length (deskGrid d .norths .at) ≡ maxCuts
+pub record Shaped (d : Ledger) : Type 0 where
+  pub easts : length (ledgerGrid d .easts .at) ≡ maxCuts
+  pub norths : length (ledgerGrid d .norths .at) ≡ maxCuts
   pub cells : length (d .cells) ≡ slotFields * maxCells
   pub waiting : length (d .waiting) ≡ reportFields * fullMemory
   pub memo : length (d .memo) ≡ lineFields * lineSlots

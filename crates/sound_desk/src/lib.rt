@@ -6,7 +6,7 @@ ghost use lib.ListN.{length};
 ghost use Rattle.rules.specs.Limits.{maxCells, maxCuts, fullMemory};
 ghost use Rattle.terms.specs.Terms.{maxOn};
 ghost use Rattle.desk.specs.Layout.{slotFields, reportFields, lineSlots, lineFields};
-ghost use Rattle.desk.specs.Held.{waitingWith, onWith, deskWith};
+ghost use Rattle.desk.specs.Held.{waitingWith, onWith, ledgerWith};
 ghost use Rattle.sound_desk.specs.Sound.{fewSound, radiosSound, deskSound};
 use boxes::BOXES;
 use desk::CutList;
@@ -77,7 +77,7 @@ pub fn desk_sound<'a>(
 ) -> bool
     requires { ⌜ (length (now cells) ≡ slotFields * maxCells) × (length (now waiting) ≡ reportFields * fullMemory)
         × (length (now memo) ≡ lineFields * lineSlots) × (length (now on) ≡ maxOn) ⌝ }
-    ensures { λ r. ⌜ r ≡ deskSound (deskWith parts (now (cells .entry)) (now (waiting .entry)) (now (memo .entry)) (now (on .entry))) ⌝ }
+    ensures { λ r. ⌜ r ≡ deskSound (ledgerWith parts (now (cells .entry)) (now (waiting .entry)) (now (memo .entry)) (now (on .entry))) ⌝ }
 {
     let n = parts.frame.cells as usize;
     if !grid_sound(parts.frame.easts, parts.frame.norths, cells, n) {

@@ -9,10 +9,10 @@ use Rattle.lists.specs.Tests.{Each}
 use Rattle.lists.proofs.TestsLaws.{each-zip, each-append, each-split}
 use Rattle.rules.specs.Store.{Cell, Store}
 use Rattle.rules.specs.WellFormed.{chains, GoodCell, WellFormed, PagesOnce}
-use Rattle.desk.specs.Held.{Directory, deskGrid}
-use Rattle.desk.specs.declared.Desk.{Desk}
-use Rattle.desk.specs.Layout.{directoryOf, gridOf, deskOf, At, cellsLeaves, freeLeaves, storeLeaves, Laid}
-use Rattle.desk.specs.Sound.{Sound}
+use Rattle.desk.specs.Held.{Directory, ledgerGrid}
+use Rattle.desk.specs.Held.{Ledger}
+use Rattle.desk.specs.Layout.{directoryOf, gridOf, ledgerOf, At, cellsLeaves, freeLeaves, storeLeaves, Laid}
+use Rattle.desk.specs.Sound.{SoundLedger}
 use Rattle.desk.proofs.UniqueLaws.{take-slots}
 use Rattle.sound_pages.specs.PagesSound.{CellSound, PagesSound}
 
@@ -37,9 +37,9 @@ store-pages s b w l =
     }
 
 -- the pages of a sound desk are sound
-pub desk-pages : (d : Desk) (b : List ℕ) → Sound d b → PagesSound (d .parts .highest) b (deskGrid d .cells) (deskGrid d .free)
-unfolding deskOf gridOf
-desk-pages d b s = subst (λ (x : Desk). PagesSound (x .parts .highest) b (deskGrid x .cells) (deskGrid x .free)) (sym (s .held)) (store-pages (s .store) b (s .well) (s .laid))
+pub desk-pages : (d : Ledger) (b : List ℕ) → SoundLedger d b → PagesSound (d .parts .highest) b (ledgerGrid d .cells) (ledgerGrid d .free)
+unfolding ledgerOf gridOf
+desk-pages d b s = subst (λ (x : Ledger). PagesSound (x .parts .highest) b (ledgerGrid x .cells) (ledgerGrid x .free)) (sym (s .held)) (store-pages (s .store) b (s .well) (s .laid))
 
 -- ---- to a store
 

@@ -13,9 +13,8 @@ use Rattle.lists.specs.Sums.{concat}
 use Rattle.lists.specs.Tests.{Each}
 use Rattle.lists.proofs.TestsLaws.{all-each}
 use Rattle.rules.specs.Limits.{maxCells, fullMemory}
-use Rattle.desk.specs.declared.Desk.{Desk}
-use Rattle.desk.specs.Held.{deskGrid, deskWaiting, deskMemo, deskOn}
-use Rattle.desk.specs.Layout.{lineSlots, directoryOf, gridOf, waitingOf, memoOf, onOf, deskOf}
+use Rattle.desk.specs.Held.{Ledger, ledgerGrid, ledgerWaiting, ledgerMemo, ledgerOn}
+use Rattle.desk.specs.Layout.{lineSlots, directoryOf, gridOf, waitingOf, memoOf, onOf, ledgerOf}
 use Rattle.desk.specs.Views.{everyReport, everySlot, linesIn, radiosOf, slotsIn}
 use Rattle.desk.proofs.SlotsLaws.{length-slots}
 use Rattle.desk.proofs.LinesLaws.{length-lines-in}
@@ -33,55 +32,55 @@ use Rattle.sound_entries.specs.Entries.{rowsRead}
 use Rattle.sound_radios.specs.Entries.{keyed}
 use Rattle.sound_radios.proofs.ReadLaws.{one-row, radios-read, once-read}
 
-pub record Known (b : List ℕ) (d : Desk) : Type 0 where
-  pub few-cells : deskGrid d .cells .n ≤ maxCells
-  pub few-lines : deskMemo d .n ≤ lineSlots
-  pub few-on : deskOn d .n ≤ maxOn
-  pub few-waiting : deskWaiting d .n ≤ fullMemory
-  pub waits : length (reportsOf (deskWaiting d)) ≡ deskWaiting d .n
-  pub rise : Rising 0 (linesOf (deskMemo d))
-  pub lines : UpTo maxRadio (linesOf (deskMemo d))
-  pub missed : Each (λ l. 0 < l .val .missed) (linesOf (deskMemo d))
-  pub reports-rise : Rising 0 (reportsOf (deskWaiting d))
-  pub reports : UpTo maxRadio (reportsOf (deskWaiting d))
-  pub radios : UpTo maxRadio (radiosOf (deskOn d))
-  pub radios-rise : Rising 0 (radiosOf (deskOn d))
-  pub on-once : (q : ℕ) → keyed q (radiosOf (deskOn d)) ≤ 1
-  pub entries : UpTo maxRadio (concat (rowsRead b (deskGrid d .cells)))
-  pub once : (q : ℕ) → keyed q (concat (rowsRead b (deskGrid d .cells))) ≤ maxCells
+pub record Known (b : List ℕ) (d : Ledger) : Type 0 where
+  pub few-cells : ledgerGrid d .cells .n ≤ maxCells
+  pub few-lines : ledgerMemo d .n ≤ lineSlots
+  pub few-on : ledgerOn d .n ≤ maxOn
+  pub few-waiting : ledgerWaiting d .n ≤ fullMemory
+  pub waits : length (reportsOf (ledgerWaiting d)) ≡ ledgerWaiting d .n
+  pub rise : Rising 0 (linesOf (ledgerMemo d))
+  pub lines : UpTo maxRadio (linesOf (ledgerMemo d))
+  pub missed : Each (λ l. 0 < l .val .missed) (linesOf (ledgerMemo d))
+  pub reports-rise : Rising 0 (reportsOf (ledgerWaiting d))
+  pub reports : UpTo maxRadio (reportsOf (ledgerWaiting d))
+  pub radios : UpTo maxRadio (radiosOf (ledgerOn d))
+  pub radios-rise : Rising 0 (radiosOf (ledgerOn d))
+  pub on-once : (q : ℕ) → keyed q (radiosOf (ledgerOn d)) ≤ 1
+  pub entries : UpTo maxRadio (concat (rowsRead b (ledgerGrid d .cells)))
+  pub once : (q : ℕ) → keyed q (concat (rowsRead b (ledgerGrid d .cells))) ≤ maxCells
 
 -- a count that is the length of what it counts lies within the slots
 within : {A B : Type 0} (f : A → B) (n size : ℕ) (xs : List A) → length xs ≡ size → n ≡ length (map f (take n xs)) → n ≤ size
 within f n size xs l e = omega (arith, length-map (take n xs) f, length-take n xs)
 
-module _ (b : List ℕ) (d : Desk) (shape : Shaped d) (sound : deskSound d ≡ true) (sheets : PagesSound (d .parts .highest) b (deskGrid d .cells) (deskGrid d .free)) where
-  counts : (deskGrid d .cells .n ≡ length (map cellOf (slotsIn (deskGrid d .cells)))) × (deskMemo d .n ≡ length (linesOf (deskMemo d))) × (deskOn d .n ≡ length (radiosOf (deskOn d))) × (deskWaiting d .n ≡ length (reportsOf (deskWaiting d)))
-  unfolding deskOf gridOf directoryOf memoOf onOf waitingOf
+module _ (b : List ℕ) (d : Ledger) (shape : Shaped d) (sound : deskSound d ≡ true) (sheets : PagesSound (d .parts .highest) b (ledgerGrid d .cells) (ledgerGrid d .free)) where
+  counts : (ledgerGrid d .cells .n ≡ length (map cellOf (slotsIn (ledgerGrid d .cells)))) × (ledgerMemo d .n ≡ length (linesOf (ledgerMemo d))) × (ledgerOn d .n ≡ length (radiosOf (ledgerOn d))) × (ledgerWaiting d .n ≡ length (reportsOf (ledgerWaiting d)))
+  unfolding ledgerOf gridOf directoryOf memoOf onOf waitingOf
   counts =
       let e = desk-shown d shape sound in
-      (ap (λ (x : Desk). deskGrid x .cells .n) e, ap (λ (x : Desk). deskMemo x .n) e, ap (λ (x : Desk). deskOn x .n) e, ap (λ (x : Desk). deskWaiting x .n) e)
+      (ap (λ (x : Ledger). ledgerGrid x .cells .n) e, ap (λ (x : Ledger). ledgerMemo x .n) e, ap (λ (x : Ledger). ledgerOn x .n) e, ap (λ (x : Ledger). ledgerWaiting x .n) e)
 
   pub known : Known b d
   unfolding slotsIn linesOf radiosOf reportsOf missedTest
   known =
       let t = desk-tested d shape sound in
-      let m = memo-true (linesOf (deskMemo d)) (t .memo) in
-      let o = on-true (radiosOf (deskOn d)) (t .on) in
-      let w = waiting-true (reportsOf (deskWaiting d)) (t .waiting) in
+      let m = memo-true (linesOf (ledgerMemo d)) (t .memo) in
+      let o = on-true (radiosOf (ledgerOn d)) (t .on) in
+      let w = waiting-true (reportsOf (ledgerWaiting d)) (t .waiting) in
       record {
-        few-cells = within cellOf (deskGrid d .cells .n) maxCells (everySlot (d .cells)) (length-slots (d .cells) (shape .cells)) (counts .0);
-        few-lines = within _ (deskMemo d .n) lineSlots (linesIn (d .memo)) (length-lines-in lineSlots (d .memo) (shape .memo)) (counts .1);
-        few-on = within _ (deskOn d .n) maxOn (d .on) (shape .on) (counts .2);
-        few-waiting = within _ (deskWaiting d .n) fullMemory (everyReport (d .waiting)) (every-size (d .waiting) (shape .waiting)) (counts .3);
+        few-cells = within cellOf (ledgerGrid d .cells .n) maxCells (everySlot (d .cells)) (length-slots (d .cells) (shape .cells)) (counts .0);
+        few-lines = within _ (ledgerMemo d .n) lineSlots (linesIn (d .memo)) (length-lines-in lineSlots (d .memo) (shape .memo)) (counts .1);
+        few-on = within _ (ledgerOn d .n) maxOn (d .on) (shape .on) (counts .2);
+        few-waiting = within _ (ledgerWaiting d .n) fullMemory (everyReport (d .waiting)) (every-size (d .waiting) (shape .waiting)) (counts .3);
         waits = sym (counts .3);
         rise = m .0;
         lines = m .1;
-        missed = all-each (λ l. ltb 0 (l .val .missed)) (λ l. 0 < l .val .missed) (linesOf (deskMemo d)) (λ l e. ltb-true 0 (l .val .missed) e) (t .missed);
+        missed = all-each (λ l. ltb 0 (l .val .missed)) (λ l. 0 < l .val .missed) (linesOf (ledgerMemo d)) (λ l e. ltb-true 0 (l .val .missed) e) (t .missed);
         reports-rise = w .1;
         reports = w .2;
         radios = o .2;
         radios-rise = o .1;
-        on-once = λ q. one-row q (radiosOf (deskOn d)) (o .1);
+        on-once = λ q. one-row q (radiosOf (ledgerOn d)) (o .1);
         entries = radios-read sheets;
-        once = once-read sheets (within cellOf (deskGrid d .cells .n) maxCells (everySlot (d .cells)) (length-slots (d .cells) (shape .cells)) (counts .0));
+        once = once-read sheets (within cellOf (ledgerGrid d .cells .n) maxCells (everySlot (d .cells)) (length-slots (d .cells) (shape .cells)) (counts .0));
       }

@@ -13,8 +13,7 @@ use Rattle.lists.proofs.TestsLaws.{not-true, not-false}
 use Rattle.rules.specs.Limits.{maxCells, fullMemory}
 use Rattle.rules.specs.Store.{Report as StoreReport, Line as StoreLine}
 use Rattle.rules.specs.Sweep.{stale}
-use Rattle.desk.specs.declared.Desk.{Desk}
-use Rattle.desk.specs.Held.{deskGrid, deskWaiting, deskMemo, deskOn}
+use Rattle.desk.specs.Held.{Ledger, ledgerGrid, ledgerWaiting, ledgerMemo, ledgerOn}
 use Rattle.desk.specs.Layout.{slotFields, reportFields, lineSlots}
 use Rattle.desk.specs.Views.{radiosOf}
 use Rattle.memo.specs.Memo.{linesOf}
@@ -40,41 +39,41 @@ goes-two true b c e = sym (ap (λ (x : Bool). both x c) e)
 goes-two false true c e = cc
 goes-two false false c e = cc
 
-module _ {b : List ℕ} {d : Desk} (k : Known b d) where
+module _ {b : List ℕ} {d : Ledger} (k : Known b d) where
   -- ---- what the calls ask
 
-  pub on-asks : (deskOn d .n ≤ maxOn) × UpTo maxRadio (radiosOf (deskOn d))
+  pub on-asks : (ledgerOn d .n ≤ maxOn) × UpTo maxRadio (radiosOf (ledgerOn d))
   on-asks = (k .few-on, k .radios)
 
-  pub lines-asks : {z : List ℕ} → Blank z → (deskMemo d .n ≤ lineSlots) × Rising 0 (linesOf (deskMemo d)) × UpTo maxRadio (linesOf (deskMemo d)) × Blank z
+  pub lines-asks : {z : List ℕ} → Blank z → (ledgerMemo d .n ≤ lineSlots) × Rising 0 (linesOf (ledgerMemo d)) × UpTo maxRadio (linesOf (ledgerMemo d)) × Blank z
   lines-asks z = (k .few-lines, k .rise, k .lines, z)
 
-  pub new-asks : length (d .waiting) ≡ reportFields * fullMemory → (deskWaiting d .n ≤ fullMemory) × (length (d .waiting) ≡ reportFields * fullMemory) × Rising 0 (reportsOf (deskWaiting d)) × UpTo maxRadio (reportsOf (deskWaiting d))
+  pub new-asks : length (d .waiting) ≡ reportFields * fullMemory → (ledgerWaiting d .n ≤ fullMemory) × (length (d .waiting) ≡ reportFields * fullMemory) × Rising 0 (reportsOf (ledgerWaiting d)) × UpTo maxRadio (reportsOf (ledgerWaiting d))
   new-asks size = (k .few-waiting, size, k .reports-rise, k .reports)
 
   pub cells-asks : {words lines : List ℕ} → length (d .cells) ≡ slotFields * maxCells → Named words lines
-      → (deskGrid d .cells .n ≤ maxCells) × (length (d .cells) ≡ slotFields * maxCells) × Named words lines × UpTo maxRadio (concat (rowsRead b (deskGrid d .cells)))
+      → (ledgerGrid d .cells .n ≤ maxCells) × (length (d .cells) ≡ slotFields * maxCells) × Named words lines × UpTo maxRadio (concat (rowsRead b (ledgerGrid d .cells)))
   cells-asks size n = (k .few-cells, size, n, k .entries)
 
-  pub bound-asks : (deskGrid d .cells .n ≤ maxCells) × (deskWaiting d .n ≤ fullMemory)
+  pub bound-asks : (ledgerGrid d .cells .n ≤ maxCells) × (ledgerWaiting d .n ≤ fullMemory)
   bound-asks = (k .few-cells, k .few-waiting)
 
   -- ---- the verdict
 
   abbrev lines : Rows StoreLine
-  lines = linesOf (deskMemo d)
+  lines = linesOf (ledgerMemo d)
 
   abbrev waits : Rows StoreReport
-  waits = reportsOf (deskWaiting d)
+  waits = reportsOf (ledgerWaiting d)
 
   abbrev heard : Rows (Unit {0})
-  heard = radiosOf (deskOn d)
+  heard = radiosOf (ledgerOn d)
 
   abbrev rows : List (Rows Fix)
-  rows = rowsRead b (deskGrid d .cells)
+  rows = rowsRead b (ledgerGrid d .cells)
 
-  module _ {z t₁ t₂ : List ℕ} {so : Bool} (blank : Blank z) (all-on : t₁ ≡ written oneOff z (radiosOf (deskOn d)))
-      (all-missed : t₂ ≡ added missedOff t₁ (linesOf (deskMemo d))) (belong : so ≡ all (belongsBy t₂) (reportsOf (deskWaiting d))) where
+  module _ {z t₁ t₂ : List ℕ} {so : Bool} (blank : Blank z) (all-on : t₁ ≡ written oneOff z (radiosOf (ledgerOn d)))
+      (all-missed : t₂ ≡ added missedOff t₁ (linesOf (ledgerMemo d))) (belong : so ≡ all (belongsBy t₂) (reportsOf (ledgerWaiting d))) where
     due : t₂ ≡ added missedOff (written oneOff z heard) lines
     due = all-missed ∙ ap (λ (t : List ℕ). added missedOff t lines) all-on
 
@@ -82,13 +81,13 @@ module _ {b : List ℕ} {d : Desk} (k : Known b d) where
     unfolding onAt
     unmarked = belong ∙ ap (λ (t : List ℕ). all (belongsBy t) waits) due ∙ belong-unmarked lines (k .rise) (k .lines) blank heard (k .radios-rise) (k .radios) (k .on-once) waits
 
-    pub radios-off : not so ≡ true → false ≡ entriesTest (linesOf (deskMemo d)) (reportsOf (deskWaiting d)) (radiosOf (deskOn d)) (d .parts .tally) (rowsRead b (deskGrid d .cells))
+    pub radios-off : not so ≡ true → false ≡ entriesTest (linesOf (ledgerMemo d)) (reportsOf (ledgerWaiting d)) (radiosOf (ledgerOn d)) (d .parts .tally) (rowsRead b (ledgerGrid d .cells))
     unfolding entriesTest
     radios-off f = stops _ unmarked f
 
-    module _ (passed : not so ≡ false) {t₃ t₄ : List ℕ} {old : Row Fix → Bool} (counts : List ℕ) {settled : Bool} (as-memo : old ≡ stale (linesOf (deskMemo d)))
-        (all-new : t₃ ≡ added markNew t₂ (reportsOf (deskWaiting d))) (all-found : t₄ ≡ added (weigh old) t₃ (concat (rowsRead b (deskGrid d .cells))))
-        (all-stale : take (deskGrid d .cells .n) counts ≡ map (staleSum old) (rowsRead b (deskGrid d .cells)))
+    module _ (passed : not so ≡ false) {t₃ t₄ : List ℕ} {old : Row Fix → Bool} (counts : List ℕ) {settled : Bool} (as-memo : old ≡ stale (linesOf (ledgerMemo d)))
+        (all-new : t₃ ≡ added markNew t₂ (reportsOf (ledgerWaiting d))) (all-found : t₄ ≡ added (weigh old) t₃ (concat (rowsRead b (ledgerGrid d .cells))))
+        (all-stale : take (ledgerGrid d .cells .n) counts ≡ map (staleSum old) (rowsRead b (ledgerGrid d .cells)))
         (said : settled ≡ allSettled t₄) where
       balance : t₄ ≡ added (weigh (stale lines)) (added markNew (added missedOff (written oneOff z heard) lines) waits) (concat rows)
       balance =
@@ -102,18 +101,18 @@ module _ {b : List ℕ} {d : Desk} (k : Known b d) where
           (balance-counts lines (k .rise) (k .lines) blank heard (k .radios-rise) (k .radios) (k .on-once) (concat rows) waits (k .entries) (k .reports) balance)
           (k .rise) (k .lines) (k .missed)
 
-      counted : take (deskGrid d .cells .n) counts ≡ staleCounts lines rows
+      counted : take (ledgerGrid d .cells .n) counts ≡ staleCounts lines rows
       unfolding staleSum staleCount
       counted = all-stale ∙ ap (λ (old : Row Fix → Bool). map (staleSum old) rows) as-memo
 
-      pub radios-fail : not settled ≡ true → false ≡ entriesTest (linesOf (deskMemo d)) (reportsOf (deskWaiting d)) (radiosOf (deskOn d)) (d .parts .tally) (rowsRead b (deskGrid d .cells))
+      pub radios-fail : not settled ≡ true → false ≡ entriesTest (linesOf (ledgerMemo d)) (reportsOf (ledgerWaiting d)) (radiosOf (ledgerOn d)) (d .parts .tally) (rowsRead b (ledgerGrid d .cells))
       unfolding entriesTest
       radios-fail t =
           goes unmarked passed
           (stops-two (presentTest lines (concat rows) waits heard) (linesTest lines (concat rows)) (boundTest (staleCounts lines rows) (length waits) (d .parts .tally)) (sym tests ∙ sym said ∙ not-true settled t))
 
-      pub radios-bound : not settled ≡ false → {r : Bool} → r ≡ boundTest (take (deskGrid d .cells .n) counts) (deskWaiting d .n) (d .parts .tally)
-          → r ≡ entriesTest (linesOf (deskMemo d)) (reportsOf (deskWaiting d)) (radiosOf (deskOn d)) (d .parts .tally) (rowsRead b (deskGrid d .cells))
+      pub radios-bound : not settled ≡ false → {r : Bool} → r ≡ boundTest (take (ledgerGrid d .cells .n) counts) (ledgerWaiting d .n) (d .parts .tally)
+          → r ≡ entriesTest (linesOf (ledgerMemo d)) (reportsOf (ledgerWaiting d)) (radiosOf (ledgerOn d)) (d .parts .tally) (rowsRead b (ledgerGrid d .cells))
       unfolding entriesTest
       radios-bound t {r} e =
           goes unmarked passed

@@ -8,7 +8,7 @@ ghost use Rattle.terms.specs.Terms.{maxOn};
 ghost use Rattle.rules.specs.Limits.{maxCells, fullMemory, sweepEvery};
 ghost use Rattle.desk.specs.Layout.{slotFields, reportFields, lineSlots, lineFields};
 ghost use Rattle.desk.specs.Views.{radiosOf};
-ghost use Rattle.desk.specs.Held.{directoryIn, waitingWith, memoIn, onWith, deskWith};
+ghost use Rattle.desk.specs.Held.{directoryIn, waitingWith, memoIn, onWith, ledgerWith};
 ghost use Rattle.memo.specs.Memo.{linesOf};
 ghost use Rattle.sound_clauses.specs.Round.{boundTest};
 ghost use Rattle.sound_pages.specs.PagesSound.{PagesSound};
@@ -66,7 +66,7 @@ pub fn radios_sound<'a>(
 ) -> bool
     requires { ⌜ (length (now cells) ≡ slotFields * maxCells) × (length (now waiting) ≡ reportFields * fullMemory)
         × (length (now memo) ≡ lineFields * lineSlots) × (length (now on) ≡ maxOn)
-        × (deskSound (deskWith parts (now cells) (now waiting) (now memo) (now on)) ≡ true)
+        × (deskSound (ledgerWith parts (now cells) (now waiting) (now memo) (now on)) ≡ true)
         × PagesSound (parts .highest) (now pages) (directoryIn (parts .frame .cells) (now cells)) (parts .frame .free) ⌝ }
     ensures { λ r. ⌜ r
         ≡ entriesTest (linesOf (memoIn (parts .lines) (now (memo .entry)))) (reportsOf (waitingWith (parts .waiting) (now (waiting .entry))))

@@ -4,7 +4,8 @@
 //! 512th call. Prints nanoseconds a call: the mean of reports and of ranges, and of the times of single ones the 99.9th
 //! percentile and the greatest (`p999`, `most`); the best of the soundness test alone, on the store that the walk leaves
 //! (`test`) and on a made one with more to look at (`test-made`); the greatest time of a report on stores made to be
-//! slow (`worst-..`). `--smoke` makes a short run; `--worst` also prints all stores that were tried for the worst;
+//! slow (`worst-..`). The same with sixteen watches set (`..-watched`), what setting and clearing one takes, and a report
+//! with sixteen ranges after it in place of them (`report-and-ranges`). `--smoke` makes a short run; `--worst` also prints all stores that were tried for the worst;
 //! `--calls FILE` also writes the calls, records one after the other.
 #![forbid(unsafe_code)]
 mod found;
@@ -12,9 +13,10 @@ mod made;
 mod plan;
 mod tails;
 mod walk;
+mod watched;
 mod worst;
 
-use boragefile::{Store, LIST_BYTES, PAGE_BYTES};
+use boragefile::{Rectangle, Store, LIST_BYTES, PAGE_BYTES};
 use conformance::Plain;
 use made::made_store;
 use std::hint::black_box;
@@ -63,6 +65,7 @@ fn main() -> ExitCode {
         std::fs::write(file, walk.journal()).expect("the calls are written");
     }
     print_walk(&walk, &extent);
+    print_watched(&walk, &extent);
     let mut worst = Worst::new();
     worst.time(extent.worst, empty_timing());
     worst.print();
@@ -73,7 +76,7 @@ fn main() -> ExitCode {
 }
 
 fn print_walk(walk: &Walk, extent: &Extent) {
-    let (desk, store) = time_desk(walk);
+    let (desk, store) = time_desk(walk, &[]);
     let plain = time_plain(walk);
     assert_eq!(desk.found, plain.found, "desk and plain list find the same radios");
     println!("report {}", desk.report);
@@ -84,6 +87,25 @@ fn print_walk(walk: &Walk, extent: &Extent) {
     println!("pages-changed-per-report {:.3}", pages_changed(walk));
     println!("plain-report {}", plain.report);
     println!("plain-range {}", plain.range);
+}
+
+/// The walk and the test once more, with watches.
+fn print_watched(walk: &Walk, extent: &Extent) {
+    let (desk, store) = time_desk(walk, &watched::areas());
+    println!("report-watched {}", desk.report);
+    println!("range-watched {}", desk.range);
+    let tests = extent.calls / 8;
+    println!("test-watched {}", time_test(&store, tests));
+    let mut made = made_store();
+    watched::set_all(&mut made, &watched::areas());
+    println!("test-made-watched {}", time_test(&made, tests));
+    let (setting, clearing) = watched::time_calls(&store, tests);
+    println!("watch-set {}", setting.as_nanos());
+    println!("watch-clear {}", clearing.as_nanos());
+    println!(
+        "report-and-ranges {}",
+        watched::time_ranges_instead(walk, walk.groups.len() / 10)
+    );
 }
 
 /// Nanoseconds a report and a range, and how many radios the ranges found.
@@ -116,8 +138,10 @@ fn time_groups(walk: &Walk, mut call: impl FnMut(&[u8]) -> usize) -> Times {
     }
 }
 
-fn time_desk(walk: &Walk) -> (Times, Store) {
+/// On a store with these rectangles watched from the start.
+fn time_desk(walk: &Walk, areas: &[Rectangle]) -> (Times, Store) {
     let mut store = Store::fresh();
+    watched::set_all(&mut store, areas);
     let mut buffer = vec![0; LIST_BYTES];
     let times = time_groups(walk, |bytes| {
         let answer = store.call(bytes, &mut buffer);

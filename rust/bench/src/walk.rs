@@ -6,7 +6,7 @@ use std::f64::consts::TAU;
 const RADIOS: u16 = 512;
 const STEP: f64 = 200.0;
 /// A tenth of the square's side, so that a range has a hundredth of its area.
-const SIDE: u16 = 6553;
+pub const SIDE: u16 = 6553;
 /// The reports of a group; its last call is a range.
 pub const REPORTS: usize = 7;
 /// Calls of one minute: about one of each radio. The walk is over long before a place is too old.
@@ -35,7 +35,7 @@ impl Walk {
         });
         let sign_ons = sign_ons.collect();
         let groups = (0..calls / (REPORTS + 1)).map(|group| {
-            let minute = (group * (REPORTS + 1) / CALLS_A_MINUTE) as u32;
+            let minute = minute_of(group);
             let reports = (0..REPORTS).map(|_| step(&mut random, &mut places, minute)).collect();
             let (west, south) = (random.within(0, 65535 - SIDE), random.within(0, 65535 - SIDE));
             let range = Record::Range {
@@ -51,6 +51,11 @@ impl Walk {
         Walk { sign_ons, groups }
     }
 
+    /// The highest minute of its reports.
+    pub fn last_minute(&self) -> u32 {
+        minute_of(self.groups.len())
+    }
+
     /// The calls after the sign-ons, in their order.
     pub fn calls(&self) -> impl Iterator<Item = &Vec<u8>> {
         self.groups
@@ -62,6 +67,11 @@ impl Walk {
     pub fn journal(&self) -> Vec<u8> {
         self.sign_ons.iter().chain(self.calls()).flatten().copied().collect()
     }
+}
+
+/// The minute of a group's calls.
+fn minute_of(group: usize) -> u32 {
+    (group * (REPORTS + 1) / CALLS_A_MINUTE) as u32
 }
 
 /// Some radio goes a step in some direction and reports.

@@ -1,6 +1,8 @@
 //! What a call answers.
 use crate::list::List;
+use crate::watch::Watches;
 use std::fmt;
+use std::mem::size_of;
 
 /// The answer to one call. It borrows the answer buffer, so that its list is read before the buffer is lent again.
 ///
@@ -17,9 +19,14 @@ use std::fmt;
 #[must_use = "the call may be turned down"]
 #[derive(Clone, Copy, PartialEq, Eq, Debug)]
 pub enum Answer<'b> {
-    /// A sign-on, report or sign-off was carried out, or a fresh store was made.
+    /// A sign-on, report or sign-off was carried out, a watch was set or cleared, or a fresh store was made.
     #[non_exhaustive]
-    Accepted {},
+    Accepted {
+        /// The watches that gained the radio of a sign-on, report or sign-off; else none.
+        gained: Watches,
+        /// The watches that lost it; else none.
+        lost: Watches,
+    },
     /// A range was carried out and found these radios.
     Found(List<'b>),
     /// The call was turned down and kept every byte: there is no list.
@@ -32,7 +39,7 @@ pub enum Answer<'b> {
     },
 }
 
-/// Why a call was turned down: one of thirteen checks. A later request's number is greater, wherever its check stands: [`Refusal::ALL`] has
+/// Why a call was turned down: one of fourteen checks. A later request's number is greater, wherever its check stands: [`Refusal::ALL`] has
 /// the checking order.
 #[derive(Clone, Copy, PartialEq, Eq, PartialOrd, Ord, Debug)]
 #[repr(u16)]
@@ -49,7 +56,7 @@ pub enum Refusal {
     LengthOfKind,
     /// Number 6: a radio is 0 or above 4,095.
     Radio,
-    /// Number 7: a range has west above east or south above north.
+    /// Number 7: a range, or a watch that is set, has west above east or south above north.
     Rectangle,
     /// Number 8: a sign-on names a radio that is on.
     AlreadyOn,
@@ -63,13 +70,16 @@ pub enum Refusal {
     NoFix,
     /// Number 13: a record of any kind has a minute below the store's highest. It is checked after 12 and before 7.
     TooEarly,
+    /// Number 14: the number of a watch is above 15, or a watch that isn't set is cleared. It is checked after 2; of a watch that is set, 7 follows.
+    NoWatch,
 }
 
 impl Refusal {
     /// All of them, in checking order.
-    pub const ALL: [Refusal; 13] = [
+    pub const ALL: [Refusal; 14] = [
         Refusal::PageBuffer,
         Refusal::Unsound,
+        Refusal::NoWatch,
         Refusal::Length,
         Refusal::Kind,
         Refusal::LengthOfKind,
@@ -88,7 +98,7 @@ impl Refusal {
         Refusal::ALL.into_iter().find(|refusal| refusal.number() == number)
     }
 
-    /// Its number, 1 to 13.
+    /// Its number, 1 to 14.
     pub fn number(self) -> u16 {
         self as u16
     }
@@ -102,13 +112,14 @@ impl Refusal {
             Refusal::Kind => "the kind isn't 1 to 4",
             Refusal::LengthOfKind => "the length isn't the one for its kind",
             Refusal::Radio => "a radio is 0 or above 4,095",
-            Refusal::Rectangle => "a range has west above east or south above north",
+            Refusal::Rectangle => "a range or watch has west above east or south above north",
             Refusal::AlreadyOn => "a sign-on names a radio that is on",
             Refusal::NotOn => "a report or sign-off names a radio that isn't on",
             Refusal::Full => "a sign-on comes while 512 are on",
             Refusal::AnswerBuffer => "the answer buffer is too small for the radios found",
             Refusal::NoFix => "a sign-on or report has the place (0,0): the radio has no fix",
             Refusal::TooEarly => "the minute is below the store's highest",
+            Refusal::NoWatch => "a watch number is above 15, or the watch to be cleared isn't set",
         }
     }
 }
@@ -121,13 +132,18 @@ impl fmt::Display for Refusal {
 
 impl std::error::Error for Refusal {}
 
-/// What the archive answers: the number of the check that turned the call down, or 0, and a count.
+/// What the archive answers: the number of the check that turned the call down, or 0; a count; and the watches that gained, and lost,
+/// the record's radio.
 #[repr(C)]
 #[derive(Clone, Copy)]
 pub(crate) struct Numbers {
     pub number: u16,
     pub count: u16,
+    pub gained: u16,
+    pub lost: u16,
 }
+
+const _: () = assert!(size_of::<Numbers>() == 2 * 4);
 
 impl<'b> Answer<'b> {
     /// The number of the check that turned the call down, or 0.
@@ -138,7 +154,7 @@ impl<'b> Answer<'b> {
     /// The count that the answer carries: the radios found, also where their list did not fit, else 0.
     pub fn count(&self) -> usize {
         match self {
-            Answer::Accepted {} => 0,
+            Answer::Accepted { .. } => 0,
             Answer::Found(list) => list.len(),
             Answer::Refused { count, .. } => *count,
         }
@@ -148,33 +164,55 @@ impl<'b> Answer<'b> {
     pub fn refusal(&self) -> Option<Refusal> {
         match self {
             Answer::Refused { refusal, .. } => Some(*refusal),
-            Answer::Accepted {} | Answer::Found(_) => None,
+            Answer::Accepted { .. } | Answer::Found(_) => None,
         }
     }
 
-    /// Whether a sign-on, report or sign-off was carried out, or a fresh store made.
+    /// Whether a sign-on, report or sign-off was carried out, a watch set or cleared, or a fresh store made.
     pub fn is_accepted(&self) -> bool {
-        matches!(self, Answer::Accepted {})
+        matches!(self, Answer::Accepted { .. })
+    }
+
+    /// The watches that gained the radio of an accepted sign-on, report or sign-off; none for any other answer.
+    pub fn gained(&self) -> Watches {
+        match self {
+            Answer::Accepted { gained, .. } => *gained,
+            Answer::Found(_) | Answer::Refused { .. } => Watches::NONE,
+        }
+    }
+
+    /// The watches that lost it; none for any other answer.
+    pub fn lost(&self) -> Watches {
+        match self {
+            Answer::Accepted { lost, .. } => *lost,
+            Answer::Found(_) | Answer::Refused { .. } => Watches::NONE,
+        }
     }
 
     /// The radios found, if this is an accepted range.
     pub fn list(&self) -> Option<List<'b>> {
         match self {
             Answer::Found(list) => Some(*list),
-            Answer::Accepted {} | Answer::Refused { .. } => None,
+            Answer::Accepted { .. } | Answer::Refused { .. } => None,
         }
     }
 
     /// The answer with these numbers to a call that lists nothing.
     pub(crate) fn without_list(numbers: Numbers) -> Answer<'b> {
         match Refusal::from_number(numbers.number) {
-            Some(refusal) => Answer::Refused {
-                refusal,
-                count: numbers.count.into(),
-            },
+            Some(refusal) => {
+                numbers.expect_no_watch();
+                Answer::Refused {
+                    refusal,
+                    count: numbers.count.into(),
+                }
+            }
             None => {
-                assert_eq!(numbers.number, 0, "an answer's number is 0 to 13");
-                Answer::Accepted {}
+                assert_eq!(numbers.number, 0, "an answer's number is 0 to 14");
+                Answer::Accepted {
+                    gained: Watches::from_bits(numbers.gained),
+                    lost: Watches::from_bits(numbers.lost),
+                }
             }
         }
     }
@@ -182,9 +220,19 @@ impl<'b> Answer<'b> {
     /// The answer with these numbers to a range. Only an accepted one has written its list to the buffer.
     pub(crate) fn to_range(numbers: Numbers, buffer: &'b [u8]) -> Answer<'b> {
         match Answer::without_list(numbers) {
-            Answer::Accepted {} => Answer::Found(List::at_start(buffer, numbers.count.into())),
+            Answer::Accepted { .. } => {
+                numbers.expect_no_watch();
+                Answer::Found(List::at_start(buffer, numbers.count.into()))
+            }
             refused => refused,
         }
+    }
+}
+
+impl Numbers {
+    /// A range and a refusal move no radio.
+    fn expect_no_watch(self) {
+        assert_eq!((self.gained, self.lost), (0, 0), "no watch gains or loses a radio");
     }
 }
 
@@ -192,27 +240,48 @@ impl<'b> Answer<'b> {
 mod tests {
     use super::*;
 
+    fn numbers(number: u16, count: u16) -> Numbers {
+        Numbers {
+            number,
+            count,
+            gained: 0,
+            lost: 0,
+        }
+    }
+
     #[test]
     fn each_number_has_its_refusal_and_words() {
-        for number in 1..=13 {
+        for number in 1..=14 {
             let refusal = Refusal::from_number(number).unwrap();
             assert_eq!(refusal.number(), number);
             assert!(!refusal.to_string().is_empty());
         }
         assert_eq!(Refusal::from_number(0), None);
-        assert_eq!(Refusal::from_number(14), None);
+        assert_eq!(Refusal::from_number(15), None);
     }
 
     #[test]
     fn a_refused_range_has_no_list() {
         let buffer = [7, 0, 100, 0, 200, 0];
         for refusal in Refusal::ALL {
-            let number = refusal.number();
-            let answer = Answer::to_range(Numbers { number, count: 1 }, &buffer);
+            let answer = Answer::to_range(numbers(refusal.number(), 1), &buffer);
             assert_eq!((answer.refusal(), answer.count()), (Some(refusal), 1));
             assert_eq!(answer.list(), None);
+            assert!(answer.gained().is_empty() && answer.lost().is_empty());
         }
-        let found = Answer::to_range(Numbers { number: 0, count: 1 }, &buffer);
+        let found = Answer::to_range(numbers(0, 1), &buffer);
         assert_eq!(found.list().map(|list| list.len()), Some(1));
+        assert!(found.gained().is_empty() && found.lost().is_empty());
+    }
+
+    #[test]
+    fn an_accepted_record_says_which_watches_gained_and_lost() {
+        let answer = Answer::without_list(Numbers {
+            gained: 0x8001,
+            lost: 0x0002,
+            ..numbers(0, 0)
+        });
+        assert!(answer.is_accepted() && answer.count() == 0);
+        assert!(answer.gained().iter().eq([0, 15]) && answer.lost().iter().eq([1]));
     }
 }

@@ -1,10 +1,12 @@
-//! The desk, field by field as the proved code has it: first its parts, with every count, then four arrays. Every field is a
-//! 16-bit number but the highest minute, which has 32 bits, with nothing between the fields. Slots past a count are zero.
+//! The desk, field by field as the proved code has it: first its parts, with every count, then five arrays. Every field is a
+//! 16-bit number but the highest minute, which has 32 bits, with nothing between the fields. Slots past a count, and watches that aren't set, are
+//! zero.
+use crate::watch::{Watch, WATCHES};
 use std::mem::{align_of, offset_of, size_of};
 use std::slice;
 
 /// The bytes of a desk.
-pub const DESK_BYTES: usize = 14928;
+pub const DESK_BYTES: usize = 23280;
 
 /// The cuts of one direction, rising.
 #[allow(missing_docs)]
@@ -110,9 +112,11 @@ pub struct Desk {
     pub memo: [Line; 1152],
     /// The radios on, rising: [`Desk::radios_on`].
     pub on: [u16; 512],
+    /// The watches, each under its number: [`Desk::watch`].
+    pub watches: [Watch; WATCHES],
 }
 
-// The archive's sizes, in numbers of 16 bits; the highest minute is two of them. A desk of so many bytes has room for its 7,464
+// The archive's sizes, in numbers of 16 bits; the highest minute is two of them. A desk of so many bytes has room for its 11,640
 // numbers, and for nothing between them.
 const _: () = assert!(size_of::<CutList>() == 2 * (1 + 15));
 const _: () = assert!(size_of::<Frame>() == 2 * (2 * 16 + 2));
@@ -120,12 +124,14 @@ const _: () = assert!(size_of::<Parts>() == 2 * (34 + 4 + 2));
 const _: () = assert!(size_of::<Slot>() == 2 * 6);
 const _: () = assert!(size_of::<Waiting>() == 2 * 6 * 128);
 const _: () = assert!(size_of::<Line>() == 2 * 5);
-const _: () = assert!(size_of::<Desk>() == 2 * (40 + 64 * 6 + 6 * 128 + 1152 * 5 + 512));
+const _: () = assert!(size_of::<Watch>() == 2 * (5 + 256));
+const _: () = assert!(size_of::<Desk>() == 2 * (40 + 64 * 6 + 6 * 128 + 1152 * 5 + 512 + 16 * 261));
 const _: () = assert!(size_of::<Desk>() == DESK_BYTES && align_of::<Desk>() == 4);
 const _: () = assert!(offset_of!(Desk, cells) == 2 * 40);
 const _: () = assert!(offset_of!(Desk, waiting) == 2 * (40 + 384));
 const _: () = assert!(offset_of!(Desk, memo) == 2 * (40 + 384 + 768));
 const _: () = assert!(offset_of!(Desk, on) == 2 * (40 + 384 + 768 + 5760));
+const _: () = assert!(offset_of!(Desk, watches) == 2 * (40 + 384 + 768 + 5760 + 512));
 
 /// As many of these as the count says, or all where it is beyond them.
 fn counted<T>(slots: &[T], count: u16) -> &[T] {
@@ -199,6 +205,7 @@ impl Desk {
             },
             memo: [Line::default(); 1152],
             on: [0; 512],
+            watches: [Watch::UNSET; WATCHES],
         }
     }
 
@@ -221,6 +228,16 @@ impl Desk {
     /// The radios on, rising: as many as the count says, or all slots where it is beyond them.
     pub fn radios_on(&self) -> &[u16] {
         counted(&self.on, self.parts.on)
+    }
+
+    /// The watch under this number, if it is set.
+    pub fn watch(&self, watch: u16) -> Option<&Watch> {
+        self.watches.get(usize::from(watch)).filter(|watch| watch.is_set())
+    }
+
+    /// The watches that are set, by rising number, each with its number.
+    pub fn watches_set(&self) -> impl Iterator<Item = (u16, &Watch)> + Clone {
+        (0..).zip(&self.watches).filter(|(_, watch)| watch.is_set())
     }
 
     /// Its bytes, in the machine's order, as it may be saved. Desks with equal fields have equal bytes.
@@ -250,7 +267,7 @@ mod tests {
 
     /// A desk whose number i of 16 bits is i.
     fn numbered() -> Desk {
-        let bytes: Vec<u8> = (0..7464u16).flat_map(u16::to_ne_bytes).collect();
+        let bytes: Vec<u8> = (0..11640u16).flat_map(u16::to_ne_bytes).collect();
         Desk::from_bytes(&bytes).expect("a desk's bytes")
     }
 
@@ -321,6 +338,20 @@ mod tests {
     }
 
     #[test]
+    fn a_watch_is_found_under_its_number_if_it_is_set() {
+        let mut desk = Desk::blank();
+        assert!((0..=u16::MAX).all(|w| desk.watch(w).is_none()) && desk.watches_set().next().is_none());
+        for w in [0, 7, 15] {
+            desk.watches[w].set = 1;
+            desk.watches[w].west = w as u16 + 1;
+        }
+        let found = (0..=u16::MAX).filter_map(|w| Some((w, desk.watch(w)?.west)));
+        assert!(found.eq([(0, 1), (7, 8), (15, 16)]));
+        let set = desk.watches_set().map(|(w, watch)| (w, watch.rectangle().west));
+        assert!(set.eq([(0, 1), (7, 8), (15, 16)]));
+    }
+
+    #[test]
     fn a_report_is_read_where_it_is_put() {
         let desk = numbered();
         let report = Report {
@@ -351,7 +382,8 @@ mod tests {
         assert_eq!(desk.parts.frame.easts.n, number(0));
         assert_eq!(desk.parts.tally, number(74));
         assert_eq!(desk.parts.highest.to_ne_bytes(), bytes[76..80]);
-        assert_eq!(desk.on[511], number(DESK_BYTES - 2));
+        assert_eq!(desk.on[511], number(14926));
+        assert_eq!(desk.watches[15].members[255], number(DESK_BYTES - 2));
         assert!(Desk::from_bytes(&bytes[1..]).is_none());
     }
 
@@ -380,5 +412,10 @@ mod tests {
         assert_eq!((desk.waiting.highs[0], desk.waiting.highs[127]), (1064, 1191));
         assert_eq!((desk.memo[0].radio, desk.memo[1151].north), (1192, 6951));
         assert_eq!((desk.on[0], desk.on[511]), (6952, 7463));
+        let watch = &desk.watches[1];
+        assert_eq!([watch.set, watch.west, watch.east], [7725, 7726, 7727]);
+        assert_eq!([watch.south, watch.north], [7728, 7729]);
+        assert_eq!((watch.members[0], watch.members[255]), (7730, 7985));
+        assert_eq!((desk.watches[0].set, desk.watches[15].members[255]), (7464, 11639));
     }
 }

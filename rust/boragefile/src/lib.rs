@@ -1,6 +1,7 @@
 //! The position desk, for Rust.
 //!
-//! A [`Store`] is one desk and its pages. It begins fresh, and every record goes to it through [`Store::call`].
+//! A [`Store`] is one desk and its pages. It begins fresh, and every record goes to it through [`Store::call`]. Rectangles that a
+//! controller leaves open are watched: [`Store::watch_set`].
 //! The code behind is proved; this crate only lends it memory. It is the one crate here with `unsafe` in it.
 //!
 //! ```
@@ -31,12 +32,14 @@ mod answer;
 mod desk;
 mod list;
 mod record;
+mod watch;
 
 use answer::Numbers;
 pub use answer::{Answer, Refusal};
 pub use desk::{CutList, Desk, Frame, Line, Parts, Report, Slot, Waiting, DESK_BYTES};
 pub use list::{List, ListIter, Located};
 pub use record::{Record, KIND_RANGE, KIND_REPORT, KIND_SIGN_OFF, KIND_SIGN_ON};
+pub use watch::{Rectangle, Watch, Watches, WatchesIter, WATCHES};
 
 /// The version of desk and wrapper. The layout of the desk is part of it: a desk that another version saved is not for this one.
 pub const VERSION: &str = env!("CARGO_PKG_VERSION");
@@ -68,6 +71,17 @@ extern "C" {
         buffer: *mut u8,
         buffer_length: usize,
     ) -> Numbers;
+    fn boragefile_watch_set(
+        desk: *mut Desk,
+        pages: *const u8,
+        pages_length: usize,
+        watch: u16,
+        west: u16,
+        east: u16,
+        south: u16,
+        north: u16,
+    ) -> Numbers;
+    fn boragefile_watch_clear(desk: *mut Desk, pages: *const u8, pages_length: usize, watch: u16) -> Numbers;
     fn boragefile_sound(desk: *const Desk, pages: *const u8, pages_length: usize) -> bool;
 }
 
@@ -97,6 +111,27 @@ pub fn call<'b>(desk: &mut Desk, pages: &mut [u8], bytes: &[u8], buffer: &'b mut
         Some(KIND_RANGE) => Answer::to_range(numbers, buffer),
         _ => Answer::without_list(numbers),
     }
+}
+
+/// Watches a rectangle under this number, from 0 to 15; one that is watched under it already is replaced. Numbers 1, 2, 14 and 7 can
+/// turn it down.
+pub fn watch_set(desk: &mut Desk, pages: &[u8], watch: u16, rectangle: Rectangle) -> Answer<'static> {
+    let Rectangle {
+        west,
+        east,
+        south,
+        north,
+    } = rectangle;
+    // SAFETY: as in `begin`. The pages are only read.
+    let numbers = unsafe { boragefile_watch_set(desk, pages.as_ptr(), pages.len(), watch, west, east, south, north) };
+    Answer::without_list(numbers)
+}
+
+/// Watches the rectangle under this number no longer. Numbers 1, 2 and 14 can turn it down.
+pub fn watch_clear(desk: &mut Desk, pages: &[u8], watch: u16) -> Answer<'static> {
+    // SAFETY: as in `watch_set`.
+    let numbers = unsafe { boragefile_watch_clear(desk, pages.as_ptr(), pages.len(), watch) };
+    Answer::without_list(numbers)
 }
 
 /// Whether desk and pages, in whatever condition these are, are those of a sound store: the test that each call makes
@@ -149,6 +184,52 @@ impl Store {
     /// Hands in one record. The radios of an accepted range are listed in the buffer, and read from the answer.
     pub fn call<'b>(&mut self, bytes: &[u8], buffer: &'b mut [u8]) -> Answer<'b> {
         call(&mut self.desk, &mut self.pages, bytes, buffer)
+    }
+
+    /// Watches a rectangle under this number, from 0 to 15; one that is watched under it already is replaced. From here on the desk
+    /// keeps its members, the radios on whose latest place lies in it, whatever their age, and every accepted sign-on, report or
+    /// sign-off says which watches gained its radio, and which lost it.
+    ///
+    /// ```
+    /// use boragefile::{Record, Rectangle, Refusal, Store};
+    ///
+    /// let mut store = Store::fresh();
+    /// let valley = Rectangle { west: 0, east: 300, south: 0, north: 300 };
+    /// assert!(store.watch_set(3, valley).is_accepted());
+    ///
+    /// let on = Record::SignOn { radio: 7, east: 100, north: 200, minute: 0 };
+    /// let answer = store.call(&on.to_bytes(), &mut []);
+    /// assert!(answer.gained().iter().eq([3]) && answer.lost().is_empty());
+    /// let watch = store.desk().watch(3).expect("it is set");
+    /// assert!(watch.members().eq([7]));
+    ///
+    /// // an east edge is outside
+    /// let report = Record::Report { radio: 7, east: 300, north: 200, minute: 0 };
+    /// let answer = store.call(&report.to_bytes(), &mut []);
+    /// assert!(answer.gained().is_empty() && answer.lost().contains(3));
+    ///
+    /// assert_eq!(store.watch_set(16, valley).refusal(), Some(Refusal::NoWatch));
+    /// let reversed = Rectangle { west: 300, east: 0, ..valley };
+    /// assert_eq!(store.watch_set(3, reversed).refusal(), Some(Refusal::Rectangle));
+    /// ```
+    pub fn watch_set(&mut self, watch: u16, rectangle: Rectangle) -> Answer<'static> {
+        watch_set(&mut self.desk, &self.pages, watch, rectangle)
+    }
+
+    /// Watches the rectangle under this number no longer.
+    ///
+    /// ```
+    /// use boragefile::{Rectangle, Refusal, Store};
+    ///
+    /// let mut store = Store::fresh();
+    /// let map = Rectangle { west: 0, east: 65535, south: 0, north: 65535 };
+    /// assert!(store.watch_set(0, map).is_accepted());
+    /// assert!(store.watch_clear(0).is_accepted());
+    /// assert_eq!(store.desk().watch(0), None);
+    /// assert_eq!(store.watch_clear(0).refusal(), Some(Refusal::NoWatch));
+    /// ```
+    pub fn watch_clear(&mut self, watch: u16) -> Answer<'static> {
+        watch_clear(&mut self.desk, &self.pages, watch)
     }
 
     /// Whether this is a sound store. After any run of calls on a fresh one it is; after a change through

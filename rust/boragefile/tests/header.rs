@@ -1,8 +1,8 @@
 //! The C header says the same as this crate.
 #![forbid(unsafe_code)]
 use boragefile::{
-    CutList, Desk, Frame, Line, Parts, Refusal, Slot, Waiting, DESK_BYTES, ENTRY_BYTES, KEPT_MINUTES, LIST_BYTES,
-    PAGES_BYTES, VERSION,
+    CutList, Desk, Frame, Line, Parts, Refusal, Slot, Waiting, Watch, DESK_BYTES, ENTRY_BYTES, KEPT_MINUTES,
+    LIST_BYTES, PAGES_BYTES, VERSION, WATCHES,
 };
 use std::mem::{offset_of, size_of};
 
@@ -37,6 +37,7 @@ fn the_sizes_are_the_same() {
         assert_eq!(defined(&format!("BORAGEFILE_{name}_BYTES")), size.to_string());
     }
     assert_eq!(defined("BORAGEFILE_KEPT_MINUTES"), KEPT_MINUTES.to_string());
+    assert_eq!(defined("BORAGEFILE_WATCHES"), WATCHES.to_string());
 }
 
 /// What the header asserts of the desk's layout, each fact as it stands there.
@@ -56,6 +57,7 @@ fn the_layout_is_the_same() {
         ("slot", size_of::<Slot>()),
         ("waiting", size_of::<Waiting>()),
         ("line", size_of::<Line>()),
+        ("watch", size_of::<Watch>()),
     ];
     for (name, size) in sizes {
         let fact = format!("sizeof(boragefile_{name}) == {size}");
@@ -79,6 +81,12 @@ fn the_layout_is_the_same() {
         ("desk, waiting", offset_of!(Desk, waiting)),
         ("desk, memo", offset_of!(Desk, memo)),
         ("desk, on", offset_of!(Desk, on)),
+        ("desk, watches", offset_of!(Desk, watches)),
+        ("watch, west", offset_of!(Watch, west)),
+        ("watch, east", offset_of!(Watch, east)),
+        ("watch, south", offset_of!(Watch, south)),
+        ("watch, north", offset_of!(Watch, north)),
+        ("watch, members", offset_of!(Watch, members)),
     ];
     for (field, offset) in offsets {
         let fact = format!("offsetof(boragefile_{field}) == {offset}");

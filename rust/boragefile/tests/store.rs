@@ -1,6 +1,6 @@
 //! A store through the wrapper: what a desk is as bytes, a list only where one was found, and a store that was saved.
 #![forbid(unsafe_code)]
-use boragefile::{begin, Desk, Located, Record, Refusal, Store, DESK_BYTES, ENTRY_BYTES, PAGES_BYTES};
+use boragefile::{begin, Desk, Located, Record, Rectangle, Refusal, Store, DESK_BYTES, ENTRY_BYTES, PAGES_BYTES};
 use std::mem::offset_of;
 
 const ALL: Record = Record::Range {
@@ -95,20 +95,22 @@ fn what_is_no_sound_store_does_not_come_back() {
     }
 }
 
-/// A fresh desk as version 0.4.0 had it, in 14,402 bytes: no highest minute among the parts, and no minutes of the waiting.
-/// Neither as it was nor with zeros behind it is it one of ours.
+/// A fresh desk as earlier versions had it: 0.4.0 in 14,402 bytes, with no highest minute among the parts and no minutes of the
+/// waiting; 0.5.0 in 14,928, with no watches. As it was it is none of ours.
 #[test]
-fn a_fresh_desk_of_the_layout_before_does_not_come_back() {
+fn a_desk_of_the_layouts_before_does_not_come_back() {
+    let fresh = Store::fresh();
+    let why = |desk: &[u8]| Store::restored(desk, fresh.pages()).err();
+    assert_eq!(
+        why(&fresh.desk().as_bytes()[..offset_of!(Desk, watches)]),
+        Some(Refusal::Unsound)
+    );
     let mut numbers = [0u16; DESK_BYTES / 2];
     numbers[32..34].copy_from_slice(&[1, 1]);
     numbers[38..44].copy_from_slice(&[0, 0, 65535, 0, 65535, 0]);
     let desk: Vec<u8> = numbers.into_iter().flat_map(u16::to_ne_bytes).collect();
-    let fresh = Store::fresh();
     for bytes in [14402, DESK_BYTES] {
-        assert_eq!(
-            Store::restored(&desk[..bytes], fresh.pages()).err(),
-            Some(Refusal::Unsound)
-        );
+        assert_eq!(why(&desk[..bytes]), Some(Refusal::Unsound));
     }
 }
 
@@ -136,4 +138,24 @@ fn minutes_come_back() {
     };
     let answer = again.call(&early.to_bytes(), &mut []);
     assert_eq!(answer.refusal(), Some(Refusal::TooEarly));
+}
+
+/// Watches and their members are saved with the rest.
+#[test]
+fn watches_come_back() {
+    let mut store = with_radios(&[7, 8, 9]);
+    let about_eight = Rectangle {
+        west: 80,
+        east: 90,
+        south: 0,
+        north: 65535,
+    };
+    assert!(store.watch_set(15, about_eight).is_accepted());
+    let mut again = Store::restored(store.desk().as_bytes(), store.pages()).expect("what was saved is sound");
+    let watch = again.desk().watch(15).expect("it is set");
+    assert_eq!(watch.rectangle(), about_eight);
+    assert!(watch.members().eq([8]));
+    let off = Record::SignOff { radio: 8, minute: 0 };
+    let answer = again.call(&off.to_bytes(), &mut []);
+    assert!(answer.lost().iter().eq([15]) && answer.gained().is_empty());
 }

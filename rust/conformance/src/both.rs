@@ -1,12 +1,13 @@
 //! Desk and plain list side by side.
 use crate::rule::Rule;
 use crate::{Fix, Plain, Told};
-use boragefile::{Located, Record, Store, LIST_BYTES};
+use boragefile::{Answer, Located, Record, Rectangle, Store, Watch, LIST_BYTES, WATCHES};
+use std::fmt;
 
 /// What stands in every byte of the answer buffer before a call.
 const UNTOUCHED: u8 = 0xa5;
-/// All pages are compared with the plain rule once in so many calls.
-const PAGES_COMPARED_EVERY: usize = 64;
+/// All pages are compared with the plain rule, and all members with the plain list, once in so many calls.
+const WHOLE_COMPARED_EVERY: usize = 64;
 /// The clock's minute has so many calls.
 const CALLS_A_MINUTE: usize = 64;
 
@@ -63,10 +64,11 @@ impl Both {
     }
 
     /// Hands any bytes to both, with an answer buffer of `room` bytes, and compares all that can be seen: number, count
-    /// and list; that nothing else is written to the buffer; that a range or a turned-down call keeps desk and pages;
-    /// that the same radios are on and wait, at their latest places, since the same minutes, and the highest minute is the
-    /// same. Now and then it asks whether the store is sound, and compares all pages with the plain rule: chains, stale
-    /// entries, missed counts and minutes. Answers what both answered.
+    /// and list, and the watches that gained or lost the radio; that nothing else is written to the buffer; that a range or a
+    /// turned-down call keeps desk and pages; that the same radios are on and wait, at their latest places, since the same
+    /// minutes, and the highest minute is the same; that just these watches changed, by this radio. Now and then it asks
+    /// whether the store is sound, and compares all members with the plain list, and all pages with the plain rule: chains,
+    /// stale entries, missed counts and minutes. Answers what both answered.
     pub fn call(&mut self, bytes: &[u8], room: usize) -> Told {
         self.calls += 1;
         self.before.clone_from(&self.store);
@@ -75,11 +77,7 @@ impl Both {
         let told = self.plain.call(bytes, room);
         let call = self.calls;
         let answer = self.store.call(bytes, &mut self.buffer);
-        assert_eq!(
-            (answer.number(), answer.count()),
-            told.numbers(),
-            "call {call}: {bytes:?}, {room} bytes"
-        );
+        compare_numbers(&answer, &told, format_args!("call {call}: {bytes:?}, {room} bytes"));
         let changes = answer.is_accepted();
         if let Some(list) = answer.list() {
             assert_eq!(list.len(), told.count, "call {call}: the list of {bytes:?}");
@@ -99,10 +97,88 @@ impl Both {
         );
         if changes {
             self.compare_radios(bytes);
+            self.compare_moved(bytes, &told);
         } else {
             assert!(self.store == self.before, "call {call}: {bytes:?} changes the store");
         }
         told
+    }
+
+    /// Sets a watch on both, and compares all that can be seen: numbers; that a turned-down call keeps desk and pages; that the
+    /// watch then has the plain list's members, and all else is as it was. Answers what both answered.
+    pub fn watch_set(&mut self, watch: u16, area: Rectangle) -> Told {
+        let told = self.plain.watch_set(watch, area);
+        self.watch_call(watch, told, |store| store.watch_set(watch, area))
+    }
+
+    /// Clears a watch on both, and compares likewise.
+    pub fn watch_clear(&mut self, watch: u16) -> Told {
+        let told = self.plain.watch_clear(watch);
+        self.watch_call(watch, told, |store| store.watch_clear(watch))
+    }
+
+    fn watch_call(&mut self, watch: u16, told: Told, call: impl FnOnce(&mut Store) -> Answer<'static>) -> Told {
+        self.calls += 1;
+        self.before.clone_from(&self.store);
+        compare_numbers(
+            &call(&mut self.store),
+            &told,
+            format_args!("call {}: watch {watch}", self.calls),
+        );
+        if told.number == 0 {
+            let changed = self.plain_watch(watch);
+            self.before.parts_mut().0.watches[usize::from(watch)] = changed;
+        }
+        assert!(
+            self.store == self.before,
+            "call {}: watch {watch} alone is changed",
+            self.calls
+        );
+        told
+    }
+
+    /// The watch as the plain list has it, field by field.
+    fn plain_watch(&self, watch: u16) -> Watch {
+        let Some(area) = self.plain.watched(watch) else {
+            return Watch::UNSET;
+        };
+        let mut watch = Watch {
+            set: 1,
+            west: area.west,
+            east: area.east,
+            south: area.south,
+            north: area.north,
+            ..Watch::UNSET
+        };
+        for radio in self.plain.inside(area) {
+            watch.members[usize::from(radio / 16)] |= 1 << (radio % 16);
+        }
+        watch
+    }
+
+    /// After an accepted sign-on, report or sign-off: the radio's bit is turned in the watches that gained or lost it, and these and
+    /// all others have no byte changed but that.
+    fn compare_moved(&self, bytes: &[u8], told: &Told) {
+        let radio = u16::from_le_bytes([bytes[4], bytes[5]]);
+        let watches = self.store.desk().watches.iter().zip(&self.before.desk().watches);
+        for (w, (after, before)) in watches.enumerate() {
+            let mut expected = *before;
+            if (told.gained | told.lost) >> w & 1 == 1 {
+                expected.members[usize::from(radio / 16)] ^= 1 << (radio % 16);
+            }
+            assert!(*after == expected, "call {}: watch {w} after {bytes:?}", self.calls);
+        }
+    }
+
+    /// All watches are those of the plain list, to the byte.
+    pub fn compare_watches(&self) {
+        for w in 0..WATCHES {
+            assert!(
+                self.store.desk().watches[w] == self.plain_watch(w as u16),
+                "call {}: watch {w}",
+                self.calls
+            );
+        }
     }
 
     /// After an accepted sign-on, report or sign-off.
@@ -133,11 +209,22 @@ impl Both {
                 report.radio
             );
         }
-        if self.calls.is_multiple_of(PAGES_COMPARED_EVERY) {
+        if self.calls.is_multiple_of(WHOLE_COMPARED_EVERY) {
             assert!(self.store.is_sound(), "call {}: the store is sound", self.calls);
             self.rule.compare_pages(&self.store);
+            self.compare_watches();
         }
     }
+}
+
+/// Every number of an answer.
+fn compare_numbers(answer: &Answer, told: &Told, call: fmt::Arguments) {
+    assert_eq!((answer.number(), answer.count()), told.numbers(), "{call}");
+    assert_eq!(
+        (answer.gained().bits(), answer.lost().bits()),
+        (told.gained, told.lost),
+        "{call}: the watches that gained, and that lost"
+    );
 }
 
 /// A listed radio as the answer buffer has it.

@@ -1,7 +1,8 @@
-//! What the desk is held against: a small program that keeps a plain list of latest places, each with its minute.
+//! What the desk is held against: a small program that keeps a plain list of latest places, each with its minute, and the
+//! rectangles that are watched.
 //!
-//! [`Plain`] answers records from the list alone. [`Both`] hands every record to desk and list and compares, with the plain
-//! rule for what waits and what is stale.
+//! [`Plain`] answers calls from these alone. [`Both`] hands every call to desk and list and compares, with the plain rule for
+//! what waits and what is stale.
 //! [`Xorshift`] makes the same run every time.
 #![forbid(unsafe_code)]
 

@@ -1,8 +1,12 @@
-//! The plain list: who is on, where each was last, and at which minute. No grid, no pages, nothing waits.
+//! The plain list: who is on, where each was last, and at which minute. No grid, no pages, nothing waits. A watch is its rectangle
+//! alone: who is a member follows from the latest places.
+use boragefile::Rectangle;
 use std::collections::BTreeMap;
 
 /// A range leaves out a radio whose minute is more than this before its own.
 const KEPT_MINUTES: u64 = 720;
+/// Up to so many rectangles are watched.
+const WATCHES: usize = 16;
 
 /// What a report tells: a place, and the minute of the report.
 #[derive(Clone, Copy, PartialEq, Eq, Debug)]
@@ -11,18 +15,22 @@ pub struct Fix {
     pub minute: u32,
 }
 
-/// The list, and the highest minute of an accepted sign-on, report or sign-off.
+/// The list, the highest minute of an accepted sign-on, report or sign-off, and the rectangles that are watched.
 #[derive(Default)]
 pub struct Plain {
     latest: BTreeMap<u16, Fix>,
     highest: u32,
+    watches: [Option<Rectangle>; WATCHES],
 }
 
-/// What the list answers: number, count, and the bytes that an accepted range lists.
-#[derive(PartialEq, Eq, Debug)]
+/// What the list answers: number, count, the watches that gained and that lost the record's radio, a bit each, and the bytes that
+/// an accepted range lists.
+#[derive(PartialEq, Eq, Debug, Default)]
 pub struct Told {
     pub number: u16,
     pub count: usize,
+    pub gained: u16,
+    pub lost: u16,
     pub list: Vec<u8>,
 }
 
@@ -94,16 +102,66 @@ impl Plain {
             place: (field(3), field(4)),
             minute,
         };
-        let told = match kind {
-            1 => self.sign_on(field(2), fix),
-            2 => self.report(field(2), fix),
-            3 => self.sign_off(field(2)),
-            _ => return self.range([field(2), field(3)], [field(4), field(5)], minute, room),
+        let radio = field(2);
+        let before = self.place(radio);
+        let mut told = match kind {
+            1 => self.sign_on(radio, fix),
+            2 => self.report(radio, fix),
+            3 => self.sign_off(radio),
+            _ => {
+                let area = Rectangle {
+                    west: field(2),
+                    east: field(3),
+                    south: field(4),
+                    north: field(5),
+                };
+                return self.range(area, minute, room);
+            }
         };
         if told.number == 0 {
             self.highest = minute;
+            let after = self.place(radio);
+            told.gained = self.watches_with(|area| !is_at(area, before) && is_at(area, after));
+            told.lost = self.watches_with(|area| is_at(area, before) && !is_at(area, after));
         }
         told
+    }
+
+    /// Checks 14 and 7, then watches the rectangle.
+    pub fn watch_set(&mut self, watch: u16, area: Rectangle) -> Told {
+        let Some(watched) = self.watches.get_mut(usize::from(watch)) else {
+            return refused(14, 0);
+        };
+        if is_reversed(area) {
+            return refused(7, 0);
+        }
+        *watched = Some(area);
+        accepted()
+    }
+
+    /// Check 14, then watches the rectangle no longer.
+    pub fn watch_clear(&mut self, watch: u16) -> Told {
+        match self.watches.get_mut(usize::from(watch)).and_then(Option::take) {
+            Some(_) => accepted(),
+            None => refused(14, 0),
+        }
+    }
+
+    /// The rectangle that is watched under this number.
+    pub fn watched(&self, watch: u16) -> Option<Rectangle> {
+        self.watches.get(usize::from(watch)).copied().flatten()
+    }
+
+    /// The radios on whose latest place lies in the rectangle, rising, whatever their age.
+    pub fn inside(&self, area: Rectangle) -> impl Iterator<Item = u16> + '_ {
+        let inside = self.latest().filter(move |(_, fix)| lies_in(area, fix.place));
+        inside.map(|(radio, _)| radio)
+    }
+
+    /// A number with bit w set where watch w is set and passes the test.
+    fn watches_with(&self, test: impl Fn(Rectangle) -> bool) -> u16 {
+        let bit = |(w, area): (usize, &Option<Rectangle>)| u16::from(area.is_some_and(&test)) << w;
+        self.watches.iter().enumerate().map(bit).sum()
     }
 
     fn sign_on(&mut self, radio: u16, fix: Fix) -> Told {
@@ -132,15 +190,15 @@ impl Plain {
         accepted()
     }
 
-    fn range(&self, [west, east]: [u16; 2], [south, north]: [u16; 2], minute: u32, room: usize) -> Told {
-        if west > east || south > north {
+    fn range(&self, area: Rectangle, minute: u32, room: usize) -> Told {
+        if is_reversed(area) {
             return refused(7, 0);
         }
         let mut count = 0;
         let mut list = Vec::new();
         for (radio, fix) in &self.latest {
             let (e, n) = fix.place;
-            if takes_in(west, east, e) && takes_in(south, north, n) && !too_old(fix.minute, minute) {
+            if lies_in(area, fix.place) && !too_old(fix.minute, minute) {
                 count += 1;
                 for field in [*radio, e, n] {
                     list.extend_from_slice(&field.to_le_bytes());
@@ -150,8 +208,25 @@ impl Plain {
         if room < list.len() {
             return refused(11, count);
         }
-        Told { number: 0, count, list }
+        Told {
+            count,
+            list,
+            ..accepted()
+        }
     }
+}
+
+fn is_reversed(area: Rectangle) -> bool {
+    area.west > area.east || area.south > area.north
+}
+
+/// Whether a radio with this place, or none, is inside.
+fn is_at(area: Rectangle, place: Option<(u16, u16)>) -> bool {
+    place.is_some_and(|place| lies_in(area, place))
+}
+
+fn lies_in(area: Rectangle, (e, n): (u16, u16)) -> bool {
+    takes_in(area.west, area.east, e) && takes_in(area.south, area.north, n)
 }
 
 /// The low edge is inside and the high edge outside, but a high edge at the last metre takes in that line.
@@ -168,18 +243,15 @@ fn is_radio(radio: u16) -> bool {
     (1..=4095).contains(&radio)
 }
 
+/// Number 0, and 0 for all else.
 fn accepted() -> Told {
-    Told {
-        number: 0,
-        count: 0,
-        list: Vec::new(),
-    }
+    Told::default()
 }
 
 fn refused(number: u16, count: usize) -> Told {
     Told {
         number,
         count,
-        list: Vec::new(),
+        ..Told::default()
     }
 }

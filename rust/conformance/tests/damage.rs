@@ -2,11 +2,12 @@
 //! number 2 and keeps every byte, and the test alone finds the store unsound.
 #![forbid(unsafe_code)]
 use boragefile::{
-    Desk, Line, Record, Refusal, Report, Slot, Store, Waiting, NONE, PAGES, PAGE_BYTES, PAGE_ENTRY_BYTES,
+    Answer, Desk, Line, Record, Rectangle, Refusal, Report, Slot, Store, Waiting, Watch, NONE, PAGES, PAGE_BYTES,
+    PAGE_ENTRY_BYTES, WATCHES,
 };
 use conformance::{Both, Xorshift};
 use std::collections::BTreeSet;
-use std::mem::offset_of;
+use std::mem::{offset_of, size_of};
 
 const USED: usize = 0;
 const KIND: usize = 1;
@@ -216,8 +217,79 @@ fn is_rich(store: &Store) -> bool {
             .any(|slot| field(pages, slot.first, NEXT) != NONE)
 }
 
-/// Records of each kind, at the last minute, one that is too early, and what is no record.
-fn requests() -> Vec<Vec<u8>> {
+/// The watches of `watched` that are set: the whole map, its western half, one that takes in nobody, and a few metres.
+const ALL: usize = 2;
+const WEST: usize = 5;
+const NOBODY: usize = 9;
+const CAR_PARK: usize = 15;
+/// One that is not.
+const UNSET: usize = 6;
+
+/// `rich` with watches, so that the test of soundness has members to look at. The other clauses are broken in a store without any,
+/// where nothing else could notice.
+fn watched() -> Store {
+    let mut store = rich();
+    let areas = [
+        (ALL, [0, 65535, 0, 65535]),
+        (WEST, [0, 32768, 0, 65535]),
+        (NOBODY, [5, 5, 5, 5]),
+        (CAR_PARK, [12345, 12346, 54321, 54322]),
+    ];
+    for (watch, [west, east, south, north]) in areas {
+        let area = Rectangle {
+            west,
+            east,
+            south,
+            north,
+        };
+        assert!(store.watch_set(watch as u16, area).is_accepted());
+    }
+    let members = areas.map(|(watch, _)| store.desk().watches[watch].members().count());
+    assert_eq!(members[0], store.desk().radios_on().len());
+    assert!(members[1] > 50 && members[1] + 50 < members[0] && members[2] == 0 && members[3] > 10);
+    store
+}
+
+/// A call: a record's bytes, or a watch set or cleared.
+#[derive(Debug)]
+enum Request {
+    Record(Vec<u8>),
+    Set(u16, Rectangle),
+    Clear(u16),
+}
+
+impl Request {
+    fn hand_to<'b>(&self, store: &mut Store, buffer: &'b mut [u8]) -> Answer<'b> {
+        match self {
+            Request::Record(bytes) => store.call(bytes, buffer),
+            Request::Set(watch, area) => store.watch_set(*watch, *area),
+            Request::Clear(watch) => store.watch_clear(*watch),
+        }
+    }
+}
+
+/// Records of each kind, at the last minute, one that is too early, and what is no record; a watch set and cleared, and what is
+/// no watch, or no rectangle.
+fn requests() -> Vec<Request> {
+    let area = Rectangle {
+        west: 1,
+        east: 2,
+        south: 1,
+        north: 2,
+    };
+    let reversed = Rectangle { west: 3, ..area };
+    let watches = [
+        Request::Set(0, area),
+        Request::Set(ALL as u16, area),
+        Request::Set(16, area),
+        Request::Set(0, reversed),
+        Request::Clear(ALL as u16),
+        Request::Clear(16),
+    ];
+    records().into_iter().map(Request::Record).chain(watches).collect()
+}
+
+fn records() -> Vec<Vec<u8>> {
     let minute = u32::MAX;
     let (east, north) = (1, 1);
     vec![
@@ -260,22 +332,22 @@ fn requests() -> Vec<Vec<u8>> {
 
 /// True if number 2 turns every request down. Checks that each then keeps every byte, and that the test alone finds the same.
 fn is_turned_down(store: &Store) -> bool {
-    let downs = requests().into_iter().map(|bytes| {
+    let downs = requests().into_iter().map(|request| {
         let mut tried = store.clone();
         let mut buffer = [0x5a; 3072];
-        let answer = tried.call(&bytes, &mut buffer);
+        let answer = request.hand_to(&mut tried, &mut buffer);
         let down = answer.refusal() == Some(Refusal::Unsound);
         assert!(!down || (answer.number(), answer.count()) == (2, 0));
         assert!(
             !down || (tried == *store && buffer == [0x5a; 3072]),
-            "{bytes:?} keeps every byte"
+            "{request:?} keeps every byte"
         );
         down
     });
     let downs: Vec<bool> = downs.collect();
     assert!(
         downs.iter().all(|down| *down == downs[0]),
-        "soundness does not hang on the record"
+        "soundness does not hang on the call"
     );
     assert_eq!(store.is_sound(), !downs[0], "the test alone finds what the calls find");
     downs[0]
@@ -292,10 +364,13 @@ fn changed(store: &Store, (name, change): &Change) -> Store {
 }
 
 fn all_turned_down(damages: &[Change]) {
-    let store = rich();
-    assert!(!is_turned_down(&store), "the store is sound before");
+    all_turned_down_of(&rich(), damages);
+}
+
+fn all_turned_down_of(store: &Store, damages: &[Change]) {
+    assert!(!is_turned_down(store), "the store is sound before");
     for damage in damages {
-        assert!(is_turned_down(&changed(&store, damage)), "{}", damage.0);
+        assert!(is_turned_down(&changed(store, damage)), "{}", damage.0);
     }
 }
 
@@ -744,6 +819,178 @@ fn the_highest_minute_of_entries_alone() {
     }
 }
 
+/// The radio becomes a member, or is one no longer.
+fn turn(watch: &mut Watch, radio: u16) {
+    watch.members[usize::from(radio / 16)] ^= 1 << (radio % 16);
+}
+
+fn first_member(desk: &Desk, watch: usize) -> u16 {
+    desk.watches[watch].members().next().expect("a member")
+}
+
+/// The entry of a member, its latest place, goes a metre aside and stays in its cell.
+fn step_aside(desk: &Desk, pages: &mut [u8], watch: usize) {
+    let waits = |radio| desk.reports_in_use().any(|report| report.radio == radio);
+    let slots = desk.cells_in_use().iter();
+    let mut first_pages = slots.flat_map(|slot| (0..entries(pages, slot.first)).map(move |i| (slot, i)));
+    let is_latest = |(slot, i): &(&Slot, usize)| {
+        let radio = field(pages, slot.first, entry(*i, 0));
+        desk.watches[watch].has_member(radio) && line_of(desk, radio).is_none() && !waits(radio)
+    };
+    let (slot, i) = first_pages.find(is_latest).expect("an entry of a member");
+    let east = field(pages, slot.first, entry(i, 1));
+    let aside = if east < slot.east { east + 1 } else { east - 1 };
+    set(pages, slot.first, entry(i, 1), aside);
+}
+
+#[test]
+fn watches_and_their_members() {
+    let store = watched();
+    all_turned_down_of(
+        &store,
+        &[
+            ("a member is missing", |desk, _| {
+                let radio = first_member(desk, ALL);
+                turn(&mut desk.watches[ALL], radio);
+            }),
+            ("the only members are missing", |desk, _| {
+                desk.watches[CAR_PARK].members.fill(0)
+            }),
+            ("a member that is on elsewhere", |desk, _| {
+                let radio = first_member(desk, ALL);
+                turn(&mut desk.watches[NOBODY], radio);
+            }),
+            ("a member that is off", |desk, _| turn(&mut desk.watches[ALL], 4000)),
+            ("radio 4,095 is a member", |desk, _| turn(&mut desk.watches[ALL], 4095)),
+            ("radio 0 is a member", |desk, _| turn(&mut desk.watches[ALL], 0)),
+            ("radio 0 is a member of one that takes in nobody", |desk, _| {
+                turn(&mut desk.watches[NOBODY], 0)
+            }),
+            ("the members of two exchanged", |desk, _| {
+                let members = desk.watches[ALL].members;
+                desk.watches[ALL].members = desk.watches[WEST].members;
+                desk.watches[WEST].members = members;
+            }),
+            ("everyone is a member", |desk, _| desk.watches[ALL].members.fill(65535)),
+            ("a rectangle that ends later", |desk, _| desk.watches[WEST].east = 65535),
+            ("a rectangle that ends sooner", |desk, _| desk.watches[ALL].north = 1),
+            ("west above east", |desk, _| desk.watches[NOBODY].west = 6),
+            ("south above north", |desk, _| desk.watches[NOBODY].south = 6),
+            ("reversed, with no member", |desk, _| {
+                desk.watches[WEST] = Watch {
+                    set: 1,
+                    west: 2,
+                    east: 1,
+                    ..Watch::UNSET
+                }
+            }),
+            ("reversed at the last line, which takes in those on it", |desk, _| {
+                desk.watches[NOBODY].south = 65535;
+                desk.watches[NOBODY].north = 65534;
+            }),
+            ("a mark of 2", |desk, _| desk.watches[ALL].set = 2),
+            ("a mark of 2 on one that takes in nobody", |desk, _| {
+                desk.watches[NOBODY].set = 2
+            }),
+            ("a mark of 256", |desk, _| desk.watches[NOBODY].set = 256),
+            ("a mark of 65,535", |desk, _| desk.watches[ALL].set = 65535),
+            ("no mark, and a rectangle with members", |desk, _| {
+                desk.watches[ALL].set = 0
+            }),
+            ("no mark, and a rectangle", |desk, _| desk.watches[NOBODY].set = 0),
+            ("a mark of 2 on one that isn't set", |desk, _| {
+                desk.watches[UNSET].set = 2
+            }),
+            ("an edge of one that isn't set", |desk, _| desk.watches[UNSET].north = 1),
+            ("the whole map of one that isn't set", |desk, _| {
+                desk.watches[UNSET].east = 65535;
+                desk.watches[UNSET].north = 65535;
+            }),
+            ("a member of one that isn't set", |desk, _| {
+                turn(&mut desk.watches[UNSET], 7)
+            }),
+            ("radio 0 is a member of one that isn't set", |desk, _| {
+                turn(&mut desk.watches[UNSET], 0)
+            }),
+            ("an entry that leaves its watch", |desk, pages| {
+                step_aside(desk, pages, CAR_PARK)
+            }),
+            ("one that takes in a report that waits, with no member", |desk, _| {
+                let report = desk.waiting.report_at(0);
+                desk.watches[NOBODY] = Watch {
+                    set: 1,
+                    west: report.east,
+                    east: report.east + 1,
+                    south: report.north,
+                    north: report.north + 1,
+                    ..Watch::UNSET
+                };
+            }),
+        ],
+    );
+}
+
+/// The same where no watch is set: nothing at all may stand there.
+#[test]
+fn watches_that_are_not_set() {
+    all_turned_down(&[
+        ("a mark alone, of 2", |desk, _| desk.watches[0].set = 2),
+        ("a mark, and nobody in the whole map", |desk, _| {
+            desk.watches[15] = Watch {
+                set: 1,
+                east: 65535,
+                north: 65535,
+                ..Watch::UNSET
+            }
+        }),
+        ("an edge", |desk, _| desk.watches[0].west = 1),
+        ("a rectangle", |desk, _| {
+            desk.watches[15].east = 9;
+            desk.watches[15].north = 9;
+        }),
+        ("a member", |desk, _| turn(&mut desk.watches[0], 1)),
+        ("radio 0 is a member", |desk, _| turn(&mut desk.watches[15], 0)),
+        ("a member who is on", |desk, _| {
+            let radio = desk.on[0];
+            turn(&mut desk.watches[15], radio);
+        }),
+    ]);
+}
+
+#[test]
+fn every_bit_of_the_members_is_looked_at() {
+    let store = watched();
+    for watch in [UNSET, ALL, WEST, NOBODY, CAR_PARK] {
+        for radio in 0..4096 {
+            let mut other = store.clone();
+            turn(&mut other.parts_mut().0.watches[watch], radio);
+            assert!(!other.is_sound(), "radio {radio} in watch {watch}");
+        }
+    }
+}
+
+/// What no call set may still be sound: members as the places have them, whoever wrote them.
+#[test]
+fn watches_that_no_call_set() {
+    let store = watched();
+    let changes: [Change; 5] = [
+        ("one that takes in nobody", |desk, _| desk.watches[UNSET].set = 1),
+        ("another rectangle that takes in nobody", |desk, _| {
+            desk.watches[NOBODY].west = 0;
+            desk.watches[NOBODY].east = 0;
+        }),
+        ("the same twice", |desk, _| desk.watches[UNSET] = desk.watches[WEST]),
+        ("all cleared", |desk, _| desk.watches = [Watch::UNSET; WATCHES]),
+        ("an entry that moves inside its watches", |desk, pages| {
+            step_aside(desk, pages, CAR_PARK);
+            desk.watches[CAR_PARK] = Watch::UNSET;
+        }),
+    ];
+    for change in &changes {
+        assert!(!is_turned_down(&changed(&store, change)), "{}", change.0);
+    }
+}
+
 #[test]
 fn slots_past_the_count_are_zero() {
     all_turned_down(&[
@@ -784,7 +1031,7 @@ fn slots_past_the_count_are_zero() {
     ]);
 }
 
-/// The places in the desk of those of its 7,464 numbers of 16 bits that are past a count.
+/// The places in the desk of those of its 11,640 numbers of 16 bits that are past a count, or of a watch that isn't set.
 fn past_the_counts(desk: &Desk) -> BTreeSet<usize> {
     let (parts, frame) = (&desk.parts, &desk.parts.frame);
     // where an array begins in the desk, in bytes; its slots; how many are in use; the numbers of a slot
@@ -802,8 +1049,21 @@ fn past_the_counts(desk: &Desk) -> BTreeSet<usize> {
         (offset_of!(Desk, on), 512, parts.on, 1),
     ];
     let past = |(at, slots, n, fields)| at / 2 + fields * usize::from(n)..at / 2 + fields * slots;
-    arrays.into_iter().flat_map(past).collect()
+    // a mark alone is a watch that takes in nobody
+    let unmarked = |w: usize| {
+        let at = offset_of!(Desk, watches) / 2 + WATCH_NUMBERS * w;
+        at + 1..at + WATCH_NUMBERS
+    };
+    let unset = (0..WATCHES).filter(|w| !desk.watches[*w].is_set());
+    arrays
+        .into_iter()
+        .flat_map(past)
+        .chain(unset.flat_map(unmarked))
+        .collect()
 }
+
+/// The numbers of 16 bits of a watch.
+const WATCH_NUMBERS: usize = size_of::<Watch>() / 2;
 
 /// The store with other numbers at these places of the desk.
 fn with_numbers(store: &Store, numbers: &[(usize, u16)]) -> Store {
@@ -818,16 +1078,21 @@ fn with_numbers(store: &Store, numbers: &[(usize, u16)]) -> Store {
 
 #[test]
 fn every_number_past_a_count_is_looked_at() {
-    let store = rich();
+    for store in [rich(), watched()] {
+        look_past_the_counts(&store);
+    }
+}
+
+fn look_past_the_counts(store: &Store) {
     let past = past_the_counts(store.desk());
-    assert!(!is_turned_down(&store) && past.len() > 4_000);
+    assert!(!is_turned_down(store) && past.len() > 7_000);
     for at in &past {
-        assert!(with_numbers(&store, &[(*at, 0)]) == store, "number {at} is zero");
-        assert!(is_turned_down(&with_numbers(&store, &[(*at, 1)])), "number {at}");
+        assert!(with_numbers(store, &[(*at, 0)]) == *store, "number {at} is zero");
+        assert!(is_turned_down(&with_numbers(store, &[(*at, 1)])), "number {at}");
         // two that are zero when they are added in 16 bits: beside each other, and in the same slot of two columns
         for other in [at + 1, at + 128] {
             if past.contains(&other) {
-                let both = with_numbers(&store, &[(*at, 1), (other, 65535)]);
+                let both = with_numbers(store, &[(*at, 1), (other, 65535)]);
                 assert!(!both.is_sound(), "numbers {at} and {other}");
             }
         }
@@ -947,10 +1212,10 @@ fn stale_entries_late_in_the_round() {
 #[test]
 fn stores_in_any_condition() {
     let mut random = Xorshift::new(13);
-    let store = rich();
+    let stores = [rich(), watched()];
     let mut sound = 0;
-    for _ in 0..20_000 {
-        let mut other = store.clone();
+    for i in 0..20_000 {
+        let mut other = stores[i % 2].clone();
         let (desk, pages) = other.parts_mut();
         for _ in 0..1 + random.below(3) {
             let value = if random.once_in(2) {
@@ -959,7 +1224,7 @@ fn stores_in_any_condition() {
                 random.within(0, 130)
             };
             let (page, at) = (random.within(0, PAGES as u16 - 1), random.below(PAGE_BYTES / 2));
-            match random.below(13) {
+            match random.below(16) {
                 0 => desk.parts.frame.easts.at[random.below(15)] = value,
                 1 => desk.parts.frame.norths.n = value,
                 2 => desk.cells[random.below(64)].first = value,
@@ -970,13 +1235,16 @@ fn stores_in_any_condition() {
                 7 => desk.on[random.below(512)] = value,
                 8 => desk.parts.tally = value,
                 9 => desk.parts.highest = FIRST_MINUTE + u32::from(value),
+                10 => desk.watches[random.below(16)].set = value % 3,
+                11 => desk.watches[random.below(16)].east = value,
+                12 => desk.watches[random.below(16)].members[random.below(256)] = value,
                 _ => set(pages, page, at, value),
             }
         }
         let before = other.clone();
         let mut buffer = [0x5a; 3072];
         let requests = requests();
-        let answer = other.call(&requests[random.below(requests.len())], &mut buffer);
+        let answer = requests[random.below(requests.len())].hand_to(&mut other, &mut buffer);
         let refusal = answer.refusal();
         if refusal.is_some() {
             assert!(other == before && buffer == [0x5a; 3072]);

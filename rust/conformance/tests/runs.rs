@@ -1,10 +1,11 @@
 //! Long runs beside the plain list: more than a million calls, every answer and list compared, and every turned-down call
 //! and every range leaving desk and pages as they were; beside the plain rule, who waits after every call, and chains, stale
 //! entries, missed counts and minutes now and then. Minutes rise, some are too early, and ranges ask when a radio is just not
-//! too old, or just too old; two runs come to the last minute there is. The same runs every time.
+//! too old, or just too old; two runs come to the last minute there is. Watches are set, set again and cleared in between; those
+//! that gain or lose a radio are compared after every call, and all members now and then. The same runs every time.
 #![forbid(unsafe_code)]
-use boragefile::{Record, LIST_BYTES};
-use conformance::{Both, Fix, Xorshift};
+use boragefile::{Record, Rectangle, LIST_BYTES};
+use conformance::{Both, Fix, Told, Xorshift};
 
 const RUNS: usize = 9;
 const CALLS: usize = 115_000;
@@ -14,9 +15,10 @@ const _: () = assert!(RUNS * CALLS >= 1_000_000);
 #[derive(Default, Debug)]
 struct Seen {
     /// Answers by number; at 0 the accepted ones.
-    answers: [usize; 14],
+    answers: [usize; 15],
     found: usize,
     ages: Ages,
+    watches: Watched,
     flushes: usize,
     splits: usize,
     joins: usize,
@@ -30,6 +32,22 @@ struct Ages {
     of_720: usize,
     of_721: usize,
     of_more: usize,
+}
+
+/// What the watches went through: calls that set one and that cleared one, and how often a watch gained a radio, or lost it.
+#[derive(Default, Debug)]
+struct Watched {
+    set: usize,
+    cleared: usize,
+    gained: usize,
+    lost: usize,
+}
+
+impl Watched {
+    fn count(&mut self, told: &Told) {
+        self.gained += told.gained.count_ones() as usize;
+        self.lost += told.lost.count_ones() as usize;
+    }
 }
 
 impl Ages {
@@ -67,12 +85,18 @@ fn run(name: &str, seed: u64, first: u32, mut next: impl FnMut(&mut Xorshift, &B
     });
     both.record(Record::SignOff { radio, minute });
     while both.calls() < CALLS {
+        if random.once_in(60) {
+            let told = watch(&mut random, &mut both, &mut seen.watches);
+            seen.answers[usize::from(told.number)] += 1;
+            continue;
+        }
         let (bytes, room) = next(&mut random, &both);
         let before = &both.store.desk().parts;
         let (cells, waiting) = (before.frame.cells, before.waiting);
         let told = both.call(&bytes, room);
         let parts = &both.store.desk().parts;
         seen.answers[usize::from(told.number)] += 1;
+        seen.watches.count(&told);
         if told.number == 0 && bytes[2] == 4 {
             seen.found += told.count;
             seen.ages.count(&both, &bytes[..16]);
@@ -83,9 +107,21 @@ fn run(name: &str, seed: u64, first: u32, mut next: impl FnMut(&mut Xorshift, &B
         seen.most_cells = seen.most_cells.max(parts.frame.cells);
         seen.most_lines = seen.most_lines.max(parts.lines);
     }
+    both.compare_watches();
     println!("{name}: {CALLS} calls agree: {seen:?}");
     assert_eq!(seen.answers[2], 0, "{name}: a run's store stays sound");
     assert!(seen.answers[13] > 100, "{name}: some minutes are too early");
+    assert!(seen.answers[14] > 100, "{name}: some watches are not there");
+    let Watched {
+        set,
+        cleared,
+        gained,
+        lost,
+    } = seen.watches;
+    assert!(
+        set.min(cleared) > 100 && gained.min(lost) > 1000,
+        "{name}: watches come and go, and so do their members"
+    );
     let Ages {
         of_720,
         of_721,
@@ -184,6 +220,43 @@ fn rectangle(random: &mut Xorshift, both: &Both) -> Record {
         north,
         minute: asks_at(random, both, of_one.minute),
     }
+}
+
+/// Sets a watch, or now and then clears one; some have a number above 15, or a rectangle that is reversed.
+fn watch(random: &mut Xorshift, both: &mut Both, watched: &mut Watched) -> Told {
+    let number = match random.below(12) {
+        0 => 16,
+        1 => random.coordinate(),
+        _ => random.within(0, 15),
+    };
+    if random.once_in(4) {
+        let told = both.watch_clear(number);
+        watched.cleared += usize::from(told.number == 0);
+        return told;
+    }
+    let mut area = match rectangle(random, both) {
+        Record::Range {
+            west,
+            east,
+            south,
+            north,
+            ..
+        } => Rectangle {
+            west,
+            east,
+            south,
+            north,
+        },
+        record => panic!("{record:?} is no rectangle"),
+    };
+    match random.below(30) {
+        0 => std::mem::swap(&mut area.west, &mut area.east),
+        1 => std::mem::swap(&mut area.south, &mut area.north),
+        _ => (),
+    }
+    let told = both.watch_set(number, area);
+    watched.set += usize::from(told.number == 0);
+    told
 }
 
 fn with_room(record: Record) -> (Vec<u8>, usize) {
@@ -360,7 +433,7 @@ fn small_answer_buffers() {
 
 #[test]
 fn a_crowd_that_crosses_the_square() {
-    let seen = run("a crowd", 10, 0, |random, both| {
+    let seen = run("a crowd", 11, 0, |random, both| {
         if random.once_in(10) {
             return with_room(rectangle(random, both));
         }

@@ -1,14 +1,17 @@
 //! Replays journals on the compiled desk: JSON lines that say what each call must answer and leave.
 //!
-//! `replay FILE...` ends with 0 only if every call of every file agrees in number, count, answer bytes, pages and, where it
-//! is given, the whole store. It says the first difference of each file. A line may lend other pages than the store's, for
-//! its call only: of another length (`page_bytes`), or with other bytes in them (`damage`).
+//! `replay FILE...` ends with 0 only if every call of every file agrees in number, count, answer bytes, pages and, where they
+//! are given, the watches that gained or lost a radio and the whole store. It says the first difference of each file. A line
+//! is a record, or names another `call`. It may lend other pages than the store's, for its call only: of another length
+//! (`page_bytes`), or with other bytes in them (`damage`).
 #![forbid(unsafe_code)]
+mod call;
 mod json;
 mod sha256;
 mod whole;
 
-use boragefile::{Refusal, Store};
+use boragefile::{Answer, Refusal, Store};
+use call::Call;
 use json::Json;
 use std::process::ExitCode;
 
@@ -57,40 +60,53 @@ fn replay_file(file: &str) -> Result<(usize, usize), String> {
 
 /// Makes one call and compares it with what the line says.
 fn replay_call(store: &mut Store, wanted: &Json) -> Result<(), String> {
-    let record = bytes_of(text(wanted, "record")?)?;
-    let room = number(wanted, "buffer")?;
-    let list = bytes_of(text(wanted, "answer")?)?;
-    let mut buffer = vec![UNTOUCHED; size(room)?];
+    let call = Call::of(wanted)?;
+    let mut buffer = vec![UNTOUCHED; call.room()];
     let mut strange = strange_pages(store.pages(), wanted)?;
-    let before = strange.is_some().then(|| store.clone());
-    let answer = match &mut strange {
-        Some(pages) => boragefile::call(store.parts_mut().0, pages, &record, &mut buffer),
-        None => store.call(&record, &mut buffer),
-    };
-    let (count, pages) = (number(wanted, "count")?, text(wanted, "pages")?);
-    equal("number", answer.number().into(), number(wanted, "number")?)?;
-    equal("count", answer.count() as u64, count)?;
+    let before = store.clone();
+    let (desk, own) = store.parts_mut();
+    let answer = call.hand_to(desk, strange.as_deref_mut().unwrap_or(own), &mut buffer);
+    compare_numbers(&answer, wanted)?;
     let refusal = answer.refusal();
     if strange.is_some() && !matches!(refusal, Some(Refusal::PageBuffer | Refusal::Unsound)) {
         return Err("a call that is lent strange pages is turned down with 1 or 2".to_string());
     }
-    if before.is_some_and(|before| before != *store) {
-        return Err("a call that is turned down changes the desk".to_string());
+    if refusal.is_some() && before != *store {
+        return Err("a call that is turned down changes the store".to_string());
     }
-    if !buffer.starts_with(&list) {
+    compare_buffer(&buffer, call.list())?;
+    let digest = sha256::hex_digest(strange.as_deref().unwrap_or(store.pages()));
+    let pages = text(wanted, "pages")?;
+    if digest != pages {
+        return Err(format!("the pages' sha256 is {digest}, not {pages}"));
+    }
+    match wanted.get("store") {
+        Some(given) => whole::difference("store", &whole::whole(store, given), given).map_or(Ok(()), Err),
+        None => Ok(()),
+    }
+}
+
+/// Number and count; and the watches that gained, and that lost, the radio. A journal from before watches does not name these.
+fn compare_numbers(answer: &Answer, wanted: &Json) -> Result<(), String> {
+    equal("number", answer.number().into(), number(wanted, "number")?)?;
+    equal("count", answer.count() as u64, number(wanted, "count")?)?;
+    for (name, watches) in [("gained", answer.gained()), ("lost", answer.lost())] {
+        if wanted.get(name).is_some() {
+            equal(name, watches.bits().into(), number(wanted, name)?)?;
+        }
+    }
+    Ok(())
+}
+
+/// The list stands at the buffer's start, and nothing else is written there.
+fn compare_buffer(buffer: &[u8], list: &[u8]) -> Result<(), String> {
+    if !buffer.starts_with(list) {
         return Err(format!("the answer's bytes are not {list:?}"));
     }
     if buffer[list.len()..].iter().any(|byte| *byte != UNTOUCHED) {
         return Err("the answer buffer is written past the answer".to_string());
     }
-    let digest = sha256::hex_digest(strange.as_deref().unwrap_or(store.pages()));
-    if digest != pages {
-        return Err(format!("the pages' sha256 is {digest}, not {pages}"));
-    }
-    match wanted.get("store") {
-        Some(given) => whole::difference("store", &whole::whole(store), given).map_or(Ok(()), Err),
-        None => Ok(()),
-    }
+    Ok(())
 }
 
 /// The pages that the line lends in place of the store's: a copy of these, cut off or with zeros behind them (`page_bytes`),
@@ -146,14 +162,4 @@ fn number(line: &Json, name: &str) -> Result<u64, String> {
     line.get(name)
         .and_then(Json::number)
         .ok_or_else(|| format!("no number \"{name}\""))
-}
-
-fn bytes_of(hex: &str) -> Result<Vec<u8>, String> {
-    let digit = |byte: u8| char::from(byte).to_digit(16).map(|digit| digit as u8);
-    let pair = |pair: &[u8]| Some(16 * digit(pair[0])? + digit(*pair.get(1)?)?);
-    hex.as_bytes()
-        .chunks(2)
-        .map(pair)
-        .collect::<Option<_>>()
-        .ok_or_else(|| format!("no hex: {hex}"))
 }

@@ -3,8 +3,16 @@ use crate::json::Json;
 use boragefile::{CutList, Slot, Store, NONE, PAGES, PAGE_BYTES, PAGE_ENTRY_BYTES};
 use std::collections::BTreeMap;
 
-/// Desk and pages in the journals' form.
-pub fn whole(store: &Store) -> Json {
+/// Desk and pages in the journals' form. A journal from before watches does not name these: they are left out where it doesn't.
+pub fn whole(store: &Store, wanted: &Json) -> Json {
+    let mut members = all(store);
+    if wanted.get("watches").is_none() {
+        members.remove("watches");
+    }
+    Json::Object(members)
+}
+
+fn all(store: &Store) -> BTreeMap<String, Json> {
     let desk = store.desk();
     let cells = desk.cells_in_use().iter().map(|slot| cell(store, slot)).collect();
     let waiting = desk.reports_in_use().map(|report| {
@@ -21,7 +29,16 @@ pub fn whole(store: &Store) -> Json {
         });
         Json::List(row)
     });
-    object([
+    let watches = desk.watches_set().map(|(number, watch)| {
+        let area = watch.rectangle();
+        let members: Vec<u16> = watch.members().collect();
+        Json::List(vec![
+            Json::Number(number.into()),
+            Json::List(places(&[area.west, area.east, area.south, area.north])),
+            Json::List(places(&members)),
+        ])
+    });
+    named([
         ("east_cuts", cuts(&desk.parts.frame.easts)),
         ("north_cuts", cuts(&desk.parts.frame.norths)),
         ("cells", Json::List(cells)),
@@ -31,6 +48,7 @@ pub fn whole(store: &Store) -> Json {
         ("on", Json::List(places(desk.radios_on()))),
         ("tally", Json::Number(desk.parts.tally.into())),
         ("highest", Json::Number(desk.parts.highest.into())),
+        ("watches", Json::List(watches.collect())),
     ])
 }
 
@@ -61,8 +79,8 @@ pub fn difference(name: &str, is: &Json, wanted: &Json) -> Option<String> {
     }
 }
 
-fn object<const N: usize>(members: [(&str, Json); N]) -> Json {
-    Json::Object(BTreeMap::from(members.map(|(name, value)| (name.to_string(), value))))
+fn named<const N: usize>(members: [(&str, Json); N]) -> BTreeMap<String, Json> {
+    BTreeMap::from(members.map(|(name, value)| (name.to_string(), value)))
 }
 
 fn places(fields: &[u16]) -> Vec<Json> {
@@ -76,7 +94,7 @@ fn cuts(list: &CutList) -> Json {
 fn cell(store: &Store, slot: &Slot) -> Json {
     let pages = chain(store, slot.first);
     let entries = pages.iter().flat_map(|page| entries(page_of(store, *page)));
-    object([
+    Json::Object(named([
         ("number", Json::Number(slot.number.into())),
         (
             "edges",
@@ -84,7 +102,7 @@ fn cell(store: &Store, slot: &Slot) -> Json {
         ),
         ("entries", Json::List(entries.collect())),
         ("chain", Json::List(places(&pages))),
-    ])
+    ]))
 }
 
 /// The pages of a chain from its front, by next page. It stops after as many pages as there are.

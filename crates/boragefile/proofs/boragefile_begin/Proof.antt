@@ -18,7 +18,6 @@ use types.Run.{look, init, forget, stop, hop, fld, from, load, addr, and-then, n
 use types.Part.{agg, whole, sub, look-in}
 use sound.WpLaws.{FmC, fmOf, WpFn-mono}
 use denote.RattleType.{owns}
-use denote.Memory.{mem}
 use denote.Laws.{Is, shows}
 use denote.Builtin.{u8}
 use denote.Ref.{RefT, MutRef, ptr-vals, mut-tells}
@@ -32,7 +31,7 @@ use denote.Triple.Call.{calls-at}
 use denote.Triple.Clauses.{Lasts, ensured, lasts}
 use denote.Triple.Table.{entered, cited}
 use denote.Triple.Walked.{says, Stays, walkOf, Walks, ends-at, walked, walk-meets}
-use Rattle.fresh.specs.Begin.{Begins}
+use Rattle.fresh.specs.Begin.{found, made, Begins}
 use Rattle.desk.specs.declared.Desk.{Desk}
 use Rattle.desk.specs.declared.Answer.{Answer}
 use Rattle.boragefile.proofs.Left.{stays-left, all-go-left}
@@ -73,8 +72,7 @@ module _ {M : Type 1} (𝓤 : URA M) (H : Heap 𝓤) (A : Atoms 𝓤) (W : Given
   -- what `begin` ensures, at the last values
   abbrev Said : Answer → Lasts begin.ended κs a → Type 0
   Said c ws =
-      Begins (record { desk = desk .now; pages = pages .now })
-      (record { number = c .number; count = c .count; desk = ws .0; pages = ws .1 .0 })
+      Begins (found (desk .now) (pages .now)) (made c (ws .0) (ws .1 .0))
 
   abbrev Post : Val → SProp 𝓤
   Post = walkOf 𝓤 H A f.ended stayed (f.clauses 𝓤 H A at-mem run) .post to

@@ -19,7 +19,6 @@ use types.Run.{look, init, forget, stop, hop, fld, from, load, addr, and-then, n
 use types.Part.{agg, whole, sub, look-in}
 use sound.WpLaws.{FmC, fmOf, WpFn-mono}
 use denote.RattleType.{owns}
-use denote.Memory.{mem}
 use denote.Laws.{Is, shows}
 use denote.Builtin.{u8}
 use denote.Ref.{RefT, MutRef, ptr-vals, mut-tells}
@@ -33,7 +32,8 @@ use denote.Triple.Call.{calls-at}
 use denote.Triple.Clauses.{Lasts, ensured, lasts}
 use denote.Triple.Table.{entered, cited}
 use denote.Triple.Walked.{says, Stays, walkOf, Walks, ends-at, walked, walk-meets}
-use Rattle.desk.specs.Call.{Answers}
+use Rattle.rules.specs.Calls.{hands}
+use Rattle.desk.specs.Call.{Answers, handed, left}
 use Rattle.desk.specs.declared.Desk.{Desk}
 use Rattle.desk.specs.declared.Answer.{Answer}
 use Rattle.boragefile.proofs.Left.{stays-left, all-go-left}
@@ -74,8 +74,7 @@ module _ {M : Type 1} (𝓤 : URA M) (H : Heap 𝓤) (A : Atoms 𝓤) (W : Given
   -- what `call` ensures, at the last values
   abbrev Said : Answer → Lasts call.ended κs a → Type 0
   Said c ws =
-      Answers (record { desk = desk .now; pages = pages .now; bytes = bytes .now; buffer = buffer .now })
-      (record { number = c .number; count = c .count; desk = ws .0; pages = ws .1 .0; buffer = ws .1 .1 .1 .0 })
+      Answers (handed (desk .now) (pages .now) (hands (bytes .now)) (buffer .now)) (left c (ws .0) (ws .1 .0) (ws .1 .1 .1 .0))
 
   abbrev Post : Val → SProp 𝓤
   Post = walkOf 𝓤 H A f.ended stayed (f.clauses 𝓤 H A at-mem run) .post to

@@ -43,7 +43,7 @@ use Rattle.desk.specs.Sound.{Sound}
 use Rattle.desk.specs.declared.Desk.{Desk}
 use Rattle.boragefile.proofs.Left.{stays-left, all-go-left}
 use Rattle.boragefile.proofs.Lending.{Words, words-ref, shares-words, shared-back, slice-shorter}
-use Rattle.boragefile.proofs.Apart.{cell-words, waiting-words, memo-words, on-words, cells-at, waiting-at, memo-at, on-at, parts-field, cells-field, waiting-field, memo-field, on-field, parts-known, arrays-known, arrays-long, desk-made, parts-typed, comes-apart, comes-together}
+use Rattle.boragefile.proofs.Apart.{cell-words, waiting-words, memo-words, on-words, watches-words, cells-at, waiting-at, memo-at, on-at, watches-at, parts-field, cells-field, waiting-field, memo-field, on-field, watches-field, parts-known, arrays-known, arrays-long, desk-made, parts-typed, comes-apart, comes-together}
 use Rattle.desk.proofs.Desk as D
 use Rattle.desk.proofs.Desk.Laws as D′
 use Rattle.desk.proofs.Parts as P
@@ -76,15 +76,15 @@ module _ {M : Type 1} (𝓤 : URA M) (H : Heap 𝓤) (A : Atoms 𝓤) (W : Given
   abbrev within : ℕ → Lft
   within ν = ν ∷ κs .0
 
-  -- what is passed on: the parts, the arrays, lent under the names δc, δw, δm and δo, and the pages
-  abbrev a′ : (ν : ℕ) (δc δw δm δo : GName) → Args test.signature (within ν, tt)
-  a′ ν δc δw δm δo = (d .parts, (words-ref (d .cells) b (o + cells-at) δc, (words-ref (d .waiting) b (o + waiting-at) δw, (words-ref (d .memo) b (o + memo-at) δm, (words-ref (d .on) b (o + on-at) δo, (pages, tt))))))
+  -- what is passed on: the parts, the arrays, lent under the names δc, δw, δm, δo and δr, and the pages
+  abbrev a′ : (ν : ℕ) (δc δw δm δo δr : GName) → Args test.signature (within ν, tt)
+  a′ ν δc δw δm δo δr = (d .parts, (words-ref (d .cells) b (o + cells-at) δc, (words-ref (d .waiting) b (o + waiting-at) δw, (words-ref (d .memo) b (o + memo-at) δm, (words-ref (d .on) b (o + on-at) δo, (words-ref (d .watches) b (o + watches-at) δr, (pages, tt)))))))
 
   abbrev vals′ : (ν : ℕ) → Vals test.signature (within ν, tt)
-  vals′ ν = (P′.lowered (d .parts) ∷ [], (vptr b (o + cells-at) ∷ [], (vptr b (o + waiting-at) ∷ [], (vptr b (o + memo-at) ∷ [], (vptr b (o + on-at) ∷ [], (slice-vals pages, tt))))))
+  vals′ ν = (P′.lowered (d .parts) ∷ [], (vptr b (o + cells-at) ∷ [], (vptr b (o + waiting-at) ∷ [], (vptr b (o + memo-at) ∷ [], (vptr b (o + on-at) ∷ [], (vptr b (o + watches-at) ∷ [], (slice-vals pages, tt)))))))
 
-  abbrev to : (ν : ℕ) (δc δw δm δo : GName) → Test 𝓤 H A at-mem run .Ghost
-  to ν δc δw δm δo = (((within ν, tt), qs, tt, a′ ν δc δw δm δo, vals′ ν), tt)
+  abbrev to : (ν : ℕ) (δc δw δm δo δr : GName) → Test 𝓤 H A at-mem run .Ghost
+  to ν δc δw δm δo δr = (((within ν, tt), qs, tt, a′ ν δc δw δm δo δr, vals′ ν), tt)
 
   -- what `parts_sound` ensures; nothing that it is lent changes
   abbrev Said : Bool → Type 0
@@ -104,45 +104,46 @@ module _ {M : Type 1} (𝓤 : URA M) (H : Heap 𝓤) (A : Atoms 𝓤) (W : Given
     walk : ent 𝓤 (onEntry 𝓤 H A f.signature (κ, κs) (q, qs) a vals) (WpFn 𝓤 H C Λ code.function (vptr b o ∷ only (slice-vals pages) ∷ []) Post)
     walk =
         qed W ((‵ (flft κ q) ⊛ (‵ (flft (κs .0) (qs .0)) ⊛ ‵ ftrue)) ∷ ‵ (owns (ShrRef (named 0) κ D.the-row ∷ ShrSlice (named 1) (κs .0) u8 ∷ []) a vals) ∷ []) ∵ enter ! C Λ code.function _ _ $
-        alloc1 ! (λ l₀. alloc1 ! (λ l₁. alloc1 ! (λ l₂. alloc1 ! (λ l₃. alloc1 ! (λ l₄. alloc1 ! (λ l₅. alloc1 ! (λ l₆. alloc1 ! (λ l₇. alloc0 ! $ params1 ! $
-        pass1 ! (init ! 12 refl (tt, tt)) $ pass1 ! (init ! 10 refl (shr-slice-lawful 𝓤 H A W (named 1) (κs .0) u8 .typed pages _ pages-is .0)) $ pass0 ! $
+        alloc1 ! (λ l₀. alloc1 ! (λ l₁. alloc1 ! (λ l₂. alloc1 ! (λ l₃. alloc1 ! (λ l₄. alloc1 ! (λ l₅. alloc1 ! (λ l₆. alloc1 ! (λ l₇. alloc1 ! (λ l₈. alloc0 ! $ params1 ! $
+        pass1 ! (init ! 14 refl (tt, tt)) $ pass1 ! (init ! 12 refl (shr-slice-lawful 𝓤 H A W (named 1) (κs .0) u8 .typed pages _ pages-is .0)) $ pass0 ! $
         -- the borrow is looked into, and the desk's cell is taken apart
-        move ! (17 ∷ []) $ fsplit ! $ fsplit3 ! $ drop ! $ drop ! $ move ! (18 ∷ []) $ split ! $ move ! (1 ∷ []) $ split ! $ move ! (1 ∷ []) $ drop ! $ move ! (2 ∷ 1 ∷ []) $
+        move ! (19 ∷ []) $ fsplit ! $ fsplit3 ! $ drop ! $ drop ! $ move ! (20 ∷ []) $ split ! $ move ! (1 ∷ []) $ split ! $ move ! (1 ∷ []) $ drop ! $ move ! (2 ∷ 1 ∷ []) $
         looks ! tt D.the-row (Is D.the-row) (shows 𝓤 H A D.the-row) (LL.vals D.the-type D′.the-laws) (LL.tells D.the-type D′.the-laws) (LL.copy D.the-type D′.the-copy 𝓤 H A W) d b o (λ q′ vs.
         spelt ! D.the-row (Is D.the-row) (shows 𝓤 H A D.the-row) (λ (x : Desk). D′.lowered x ∷ []) (D′.lowers .val-is) q′ d vs b o $ move ! (1 ∷ []) $ facts ! D.the-row (Is D.the-row) (shows 𝓤 H A D.the-row) d _ (λ is. comes-apart ! q′ b o d $
-        -- [parts; cells; waiting; memo; on; the way back; what shuts the borrow; the fractured borrow; the pages' token; what the pages own; _7; …; _6; …; … ; _1; …; room for _0; …]
-        assigns ! (of-opd ! (load ! (from ! (hop ! (look ! 22 refl) (fld ! parts-field (stop !)))) (look ! 0 refl))) (from ! (stop !)) (init ! 18 refl (parts-typed 𝓤 H A W (d .parts) (parts-known d _ is))) $
-        assigns ! (addr ! (from ! (hop ! (look ! 22 refl) (fld ! cells-field (stop !))))) (from ! (stop !)) (init ! 16 refl (tt, tt)) $
-        assigns ! (addr ! (from ! (hop ! (look ! 22 refl) (fld ! waiting-field (stop !))))) (from ! (stop !)) (init ! 14 refl (tt, tt)) $
-        assigns ! (addr ! (from ! (hop ! (look ! 22 refl) (fld ! memo-field (stop !))))) (from ! (stop !)) (init ! 12 refl (tt, tt)) $
-        assigns ! (addr ! (from ! (hop ! (look ! 22 refl) (fld ! on-field (stop !))))) (from ! (stop !)) (init ! 10 refl (tt, tt)) $
+        -- [parts; cells; waiting; memo; on; watches; the way back; what shuts the borrow; the fractured borrow; the pages' token; what the pages own; _8; …; _7; …; … ; _1; …; room for _0; …]
+        assigns ! (of-opd ! (load ! (from ! (hop ! (look ! 25 refl) (fld ! parts-field (stop !)))) (look ! 0 refl))) (from ! (stop !)) (init ! 21 refl (parts-typed 𝓤 H A W (d .parts) (parts-known d _ is))) $
+        assigns ! (addr ! (from ! (hop ! (look ! 25 refl) (fld ! cells-field (stop !))))) (from ! (stop !)) (init ! 19 refl (tt, tt)) $
+        assigns ! (addr ! (from ! (hop ! (look ! 25 refl) (fld ! waiting-field (stop !))))) (from ! (stop !)) (init ! 17 refl (tt, tt)) $
+        assigns ! (addr ! (from ! (hop ! (look ! 25 refl) (fld ! memo-field (stop !))))) (from ! (stop !)) (init ! 15 refl (tt, tt)) $
+        assigns ! (addr ! (from ! (hop ! (look ! 25 refl) (fld ! on-field (stop !))))) (from ! (stop !)) (init ! 13 refl (tt, tt)) $
+        assigns ! (addr ! (from ! (hop ! (look ! 25 refl) (fld ! watches-field (stop !))))) (from ! (stop !)) (init ! 11 refl (tt, tt)) $
         -- a new lifetime within the pages', at the pages' share
-        lft-new ! tt (λ ν. move ! (0 ∷ 9 ∷ []) $ use2 W (‵ (flft (within ν) (qs .0)) ⊛ raw (Rest 𝓤 H A W ν (qs .0))) (within-token 𝓤 H A W ν (κs .0) (qs .0)) $ split ! $
+        lft-new ! tt (λ ν. move ! (0 ∷ 10 ∷ []) $ use2 W (‵ (flft (within ν) (qs .0)) ⊛ raw (Rest 𝓤 H A W ν (qs .0))) (within-token 𝓤 H A W ν (κs .0) (qs .0)) $ split ! $
         -- each array is lent for it, the last first, and so are the pages
-        move ! (6 ∷ []) $ shares-words ! tt (within ν) q′ on-words (d .on) b (o + on-at) (arrays-known d _ is .on) (λ δo. move ! (7 ∷ []) $ shares-words ! tt (within ν) q′ memo-words (d .memo) b (o + memo-at) (arrays-known d _ is .memo) (λ δm.
-        move ! (8 ∷ []) $ shares-words ! tt (within ν) q′ waiting-words (d .waiting) b (o + waiting-at) (arrays-known d _ is .waiting) (λ δw. move ! (9 ∷ []) $ shares-words ! tt (within ν) q′ cell-words (d .cells) b (o + cells-at) (arrays-known d _ is .cells) (λ δc.
-        move ! (14 ∷ []) $ fsplit ! $ slice-shorter ! (named 1) (named 0) (κs .0) (within ν) u8 pages (slice-vals pages) (meet-⊑-right (ν ∷ []) (κs .0)) $ fjoin ! $
-        -- [what the pages own; cells' reference; its lender's part; waiting's; its; memo's; its; on's; its; the new token; what ends it; parts; the way back; what shuts the borrow; the fractured borrow; _7; …]
+        move ! (7 ∷ []) $ shares-words ! tt (within ν) q′ watches-words (d .watches) b (o + watches-at) (arrays-known d _ is .watches) (λ δr. move ! (8 ∷ []) $ shares-words ! tt (within ν) q′ on-words (d .on) b (o + on-at) (arrays-known d _ is .on) (λ δo. move ! (9 ∷ []) $ shares-words ! tt (within ν) q′ memo-words (d .memo) b (o + memo-at) (arrays-known d _ is .memo) (λ δm.
+        move ! (10 ∷ []) $ shares-words ! tt (within ν) q′ waiting-words (d .waiting) b (o + waiting-at) (arrays-known d _ is .waiting) (λ δw. move ! (11 ∷ []) $ shares-words ! tt (within ν) q′ cell-words (d .cells) b (o + cells-at) (arrays-known d _ is .cells) (λ δc.
+        move ! (16 ∷ []) $ fsplit ! $ slice-shorter ! (named 1) (named 0) (κs .0) (within ν) u8 pages (slice-vals pages) (meet-⊑-right (ν ∷ []) (κs .0)) $ fjoin ! $
+        -- [what the pages own; cells' reference; its lender's part; waiting's; its; memo's; its; on's; its; watches'; its; the new token; what ends it; parts; the way back; what shuts the borrow; the fractured borrow; _8; …]
         -- the call: what it asks is the new token, and what the parts, the references and the pages own
-        move ! (7 ∷ 0 ∷ []) $ fjoin ! $ move ! (5 ∷ 0 ∷ []) $ fjoin ! $ move ! (3 ∷ 0 ∷ []) $ fjoin ! $ move ! (1 ∷ 0 ∷ []) $ fjoin ! $ owned ! P.the-row (Is P.the-row) (LL.makes P.the-type P′.the-plain 𝓤 H A) (d .parts) _ (parts-known d _ is) $ fjoin ! $ nothing ! $ move ! (6 ∷ 0 ∷ []) $ join ! $
-        use2 W (raw (Test 𝓤 H A at-mem run .pre (to ν δc δw δm δo))) (qed W ((‵ (flft (within ν) (qs .0)) ⊛ ‵ ftrue) ∷ ‵ (owns (P.the-row ∷ ShrRef (named 0) (within ν) (Words cell-words) ∷ ShrRef (named 0) (within ν) (Words waiting-words) ∷ ShrRef (named 0) (within ν) (Words memo-words) ∷ ShrRef (named 0) (within ν) (Words on-words) ∷ ShrSlice (named 0) (within ν) u8 ∷ []) (a′ ν δc δw δm δo) (vals′ ν)) ∷ []) ∵ says ! (arrays-long d (arrays-known d _ is)) $ frame ! $ done !) $
-        calls-at ! fm (Test 𝓤 H A at-mem run) known (to ν δc δw δm δo) (and-then ! (load ! (from ! (stop !)) (look ! 18 refl)) (and-then ! (load ! (from ! (stop !)) (look ! 16 refl)) (and-then ! (load ! (from ! (stop !)) (look ! 14 refl)) (and-then ! (load ! (from ! (stop !)) (look ! 12 refl)) (and-then ! (load ! (from ! (stop !)) (look ! 10 refl)) (and-then ! (load ! (from ! (stop !)) (look ! 20 refl)) (no-more !))))))) (λ v.
-        use1 W (later (some (λ (c : Bool). ((‵ (flft (within ν) (qs .0)) ⊛ ‵ ftrue) ⊛ ‵ (bool .own c (v ∷ []))) ⊛ raw (ensured 𝓤 H A test.ended (test.clauses 𝓤 H A at-mem run) (within ν, tt) (a′ ν δc δw δm δo) tt c)))) (id⊢ 𝓤 _) $ await ! tt $ pick ! (λ c.
-        split ! $ move ! (1 ∷ []) $ use1 W (some (λ (ws : Lasts test.ended (within ν, tt) (a′ ν δc δw δm δo)). ‵ (lasts test.ended (within ν, tt) (a′ ν δc δw δm δo) ws) ⊛ raw (fact 𝓤 (Said c)))) (id⊢ 𝓤 _) $ pick ! (λ ws.
+        move ! (9 ∷ 0 ∷ []) $ fjoin ! $ move ! (7 ∷ 0 ∷ []) $ fjoin ! $ move ! (5 ∷ 0 ∷ []) $ fjoin ! $ move ! (3 ∷ 0 ∷ []) $ fjoin ! $ move ! (1 ∷ 0 ∷ []) $ fjoin ! $ owned ! P.the-row (Is P.the-row) (LL.makes P.the-type P′.the-plain 𝓤 H A) (d .parts) _ (parts-known d _ is) $ fjoin ! $ nothing ! $ move ! (7 ∷ 0 ∷ []) $ join ! $
+        use2 W (raw (Test 𝓤 H A at-mem run .pre (to ν δc δw δm δo δr))) (qed W ((‵ (flft (within ν) (qs .0)) ⊛ ‵ ftrue) ∷ ‵ (owns (P.the-row ∷ ShrRef (named 0) (within ν) (Words cell-words) ∷ ShrRef (named 0) (within ν) (Words waiting-words) ∷ ShrRef (named 0) (within ν) (Words memo-words) ∷ ShrRef (named 0) (within ν) (Words on-words) ∷ ShrRef (named 0) (within ν) (Words watches-words) ∷ ShrSlice (named 0) (within ν) u8 ∷ []) (a′ ν δc δw δm δo δr) (vals′ ν)) ∷ []) ∵ says ! (arrays-long d (arrays-known d _ is)) $ frame ! $ done !) $
+        calls-at ! fm (Test 𝓤 H A at-mem run) known (to ν δc δw δm δo δr) (and-then ! (load ! (from ! (stop !)) (look ! 21 refl)) (and-then ! (load ! (from ! (stop !)) (look ! 19 refl)) (and-then ! (load ! (from ! (stop !)) (look ! 17 refl)) (and-then ! (load ! (from ! (stop !)) (look ! 15 refl)) (and-then ! (load ! (from ! (stop !)) (look ! 13 refl)) (and-then ! (load ! (from ! (stop !)) (look ! 11 refl)) (and-then ! (load ! (from ! (stop !)) (look ! 23 refl)) (no-more !)))))))) (λ v.
+        use1 W (later (some (λ (c : Bool). ((‵ (flft (within ν) (qs .0)) ⊛ ‵ ftrue) ⊛ ‵ (bool .own c (v ∷ []))) ⊛ raw (ensured 𝓤 H A test.ended (test.clauses 𝓤 H A at-mem run) (within ν, tt) (a′ ν δc δw δm δo δr) tt c)))) (id⊢ 𝓤 _) $ await ! tt $ pick ! (λ c.
+        split ! $ move ! (1 ∷ []) $ use1 W (some (λ (ws : Lasts test.ended (within ν, tt) (a′ ν δc δw δm δo δr)). ‵ (lasts test.ended (within ν, tt) (a′ ν δc δw δm δo δr) ws) ⊛ raw (fact 𝓤 (Said c)))) (id⊢ 𝓤 _) $ pick ! (λ ws.
         split ! $ move ! (1 ∷ []) $ heard ! (Said c) (λ e. drop ! $ split ! $ split ! $ move ! (1 ∷ []) $ drop ! $ move ! (1 ∷ []) $ peeks ! bool (Is bool) (shows 𝓤 H A bool) c (v ∷ []) (λ ic.
-        -- [the answer; the new token; the lender's parts of cells; waiting; memo; on; what ends the token; parts; the way back; what shuts the borrow; the fractured borrow; _7; …]
-        land ! (from ! (stop !)) (init ! 25 refl (bool-lawful 𝓤 H A W .typed c _ ic .0)) $
+        -- [the answer; the new token; the lender's parts of cells; waiting; memo; on; watches; what ends the token; parts; the way back; what shuts the borrow; the fractured borrow; _8; …]
+        land ! (from ! (stop !)) (init ! 28 refl (bool-lawful 𝓤 H A W .typed c _ ic .0)) $
         -- the lifetime is ended, and each array is taken back
-        move ! (1 ∷ 6 ∷ []) $ use2 W (later (‵ (fdead (within ν)) ⊛ ‵ (flft (κs .0) (qs .0)))) (within-end 𝓤 H A W ν (κs .0) (qs .0)) $ await ! tt $ split ! $
-        move ! (0 ∷ 6 ∷ []) $ shared-back ! tt (within ν) q′ on-words (d .on) b (o + on-at) $ move ! (0 ∷ 6 ∷ []) $ shared-back ! tt (within ν) q′ memo-words (d .memo) b (o + memo-at) $
-        move ! (0 ∷ 6 ∷ []) $ shared-back ! tt (within ν) q′ waiting-words (d .waiting) b (o + waiting-at) $ move ! (0 ∷ 6 ∷ []) $ shared-back ! tt (within ν) q′ cell-words (d .cells) b (o + cells-at) $ drop ! $
-        -- [cells; waiting; memo; on; the pages' token; the answer; parts; the way back; what shuts the borrow; the fractured borrow; _7; …]: the cell is put together, and the borrow is shut
-        move ! (6 ∷ 0 ∷ 1 ∷ 2 ∷ 3 ∷ 7 ∷ []) $ comes-together ! q′ b o d $ owned ! D.the-row (Is D.the-row) (LL.makes D.the-type D′.the-plain 𝓤 H A) d _ (desk-made d _ (parts-known d _ is) (arrays-known d _ is)) $ move ! (1 ∷ 0 ∷ 4 ∷ []) $ shuts ! tt D.the-row q′ d (D′.lowered d ∷ []) b o $
-        -- [the desk's token; the pages'; the answer; the fractured borrow; _7; …]
+        move ! (1 ∷ 7 ∷ []) $ use2 W (later (‵ (fdead (within ν)) ⊛ ‵ (flft (κs .0) (qs .0)))) (within-end 𝓤 H A W ν (κs .0) (qs .0)) $ await ! tt $ split ! $
+        move ! (0 ∷ 7 ∷ []) $ shared-back ! tt (within ν) q′ watches-words (d .watches) b (o + watches-at) $ move ! (0 ∷ 7 ∷ []) $ shared-back ! tt (within ν) q′ on-words (d .on) b (o + on-at) $ move ! (0 ∷ 7 ∷ []) $ shared-back ! tt (within ν) q′ memo-words (d .memo) b (o + memo-at) $
+        move ! (0 ∷ 7 ∷ []) $ shared-back ! tt (within ν) q′ waiting-words (d .waiting) b (o + waiting-at) $ move ! (0 ∷ 7 ∷ []) $ shared-back ! tt (within ν) q′ cell-words (d .cells) b (o + cells-at) $ drop ! $
+        -- [cells; waiting; memo; on; watches; the pages' token; the answer; parts; the way back; what shuts the borrow; the fractured borrow; _8; …]: the cell is put together, and the borrow is shut
+        move ! (7 ∷ 0 ∷ 1 ∷ 2 ∷ 3 ∷ 4 ∷ 8 ∷ []) $ comes-together ! q′ b o d $ owned ! D.the-row (Is D.the-row) (LL.makes D.the-type D′.the-plain 𝓤 H A) d _ (desk-made d _ (parts-known d _ is) (arrays-known d _ is)) $ move ! (1 ∷ 0 ∷ 4 ∷ []) $ shuts ! tt D.the-row q′ d (D′.lowered d ∷ []) b o $
+        -- [the desk's token; the pages'; the answer; the fractured borrow; _8; …]
         move ! (3 ∷ []) $ drop ! $
-        returns ! (look ! 17 refl) $ forget ! 17 refl $ forget ! 15 refl $ forget ! 13 refl $ forget ! 11 refl $ forget ! 9 refl $ forget ! 7 refl $ forget ! 5 refl $ forget ! 3 refl $
-        move ! (17 ∷ 18 ∷ []) $ free1 ! $ move ! (15 ∷ 16 ∷ []) $ free1 ! $ move ! (13 ∷ 14 ∷ []) $ free1 ! $ move ! (11 ∷ 12 ∷ []) $ free1 ! $ move ! (9 ∷ 10 ∷ []) $ free1 ! $ move ! (7 ∷ 8 ∷ []) $ free1 ! $ move ! (5 ∷ 6 ∷ []) $ free1 ! $ move ! (3 ∷ 4 ∷ []) $ free1 ! $ free0 ! $
-        by ! (exits c v e)))))))))))))))))))))
+        returns ! (look ! 19 refl) $ forget ! 19 refl $ forget ! 17 refl $ forget ! 15 refl $ forget ! 13 refl $ forget ! 11 refl $ forget ! 9 refl $ forget ! 7 refl $ forget ! 5 refl $ forget ! 3 refl $
+        move ! (19 ∷ 20 ∷ []) $ free1 ! $ move ! (17 ∷ 18 ∷ []) $ free1 ! $ move ! (15 ∷ 16 ∷ []) $ free1 ! $ move ! (13 ∷ 14 ∷ []) $ free1 ! $ move ! (11 ∷ 12 ∷ []) $ free1 ! $ move ! (9 ∷ 10 ∷ []) $ free1 ! $ move ! (7 ∷ 8 ∷ []) $ free1 ! $ move ! (5 ∷ 6 ∷ []) $ free1 ! $ move ! (3 ∷ 4 ∷ []) $ free1 ! $ free0 ! $
+        by ! (exits c v e)))))))))))))))))))))))
 
 module _ {M : Type 1} (𝓤 : URA M) (H : Heap 𝓤) (A : Atoms 𝓤) (W : Given 𝓤 H A) (at-mem : Memory → SProp 𝓤) (run : Routine → Fun 𝓤) where
   sound-walks : (C : Calls 𝓤 H) (Λ : Loops 𝓤 H) → FmC 𝓤 H (W .laws) C → Triple 𝓤 (C #sound·parts-sound) (Test 𝓤 H A at-mem run) → Walks 𝓤 H A f.ended stayed (WpFn 𝓤 H C Λ code.function) (f.clauses 𝓤 H A at-mem run)

@@ -7,7 +7,7 @@ answered-requires : tie.Need-answered-requires
 answered-requires c κs = search needs
 
 returns : tie.Need-returns
-returns c = let e = c .before .before .before .before .before in size-answers (e .args .parts) (e .args .cells .now) (e .args .waiting .now) (e .args .memo .now) (e .args .on .now) _ _ _ (search needs) (c .answered .ensures)
+returns c = let e = c .before .before .before .before .before in size-answers (e .args .parts) (e .args .cells .now) (e .args .waiting .now) (e .args .memo .now) (e .args .on .now) (e .args .watches .now) (e .args .pages .now) (e .args .bytes .now) (e .args .buffer .now) (search needs) (c .answered .ensures)
 
 parts-sound-requires : tie.Need-parts-sound-requires
 parts-sound-requires c κs = search needs
@@ -19,16 +19,13 @@ same-length : tie.Need-same-length
 same-length c = search needs
 
 returns-2 : tie.Need-returns-2
-returns-2 c =
-    let s = c .before .before in
-    let e = s .before .before .before .before .before .before .before .before .before .before in
-    unsound-answers (e .args .parts) (e .args .cells .now) (e .args .waiting .now) (e .args .memo .now) (e .args .on .now) _ _ _ (search needs) (s .parts-sound .ensures .1) (c .before .if2 .taken) (c .answered2 .ensures)
+returns-2 c = let s = c .before .before in
+    let e = c .before .before .before .before .before .before .before .before .before .before .before .before .before in
+    unsound-answers (e .args .parts) (e .args .cells .now) (e .args .waiting .now) (e .args .memo .now) (e .args .on .now) (e .args .watches .now) (e .args .pages .now) (e .args .bytes .now) (e .args .buffer .now) (search (needs, c .before .before .before .before .before .before .before .before .before .if1 .left)) (s .parts-sound .ensures .1) (c .before .if2 .taken) (c .answered2 .ensures)
 
 carry-sound-requires : tie.Need-carry-sound-requires
-carry-sound-requires c κs =
-    let i = c .before .before .before .before .before .before in
-    let s = i .before in
-    (s .before .before .before .before .before .before .before .before .before .before .pre, sound-by (s .parts-sound .result) (s .parts-sound .ensures .0) (i .if2 .left))
+carry-sound-requires c κs = let s = c .before .before .before .before .before .before .before .before in
+    (c .before .before .before .before .before .before .before .before .before .before .before .before .before .before .before .before .before .before .before .pre, sound-by (s .parts-sound .result) (s .parts-sound .ensures .0) (c .before .before .before .before .before .before .before .if2 .left))
 
 same-length-2 : tie.Need-same-length-2
 same-length-2 c = search needs
@@ -37,12 +34,9 @@ same-length-3 : tie.Need-same-length-3
 same-length-3 c = search needs
 
 returns-3 : tie.Need-returns-3
-returns-3 c =
-    let k = c .before .before .before .before in
-    let i = k .before .before .before .before .before .before .before in
-    let s = i .before in
-    let e = s .before .before .before .before .before .before .before .before .before .before in
-    sound-answers (e .args .parts) (e .args .cells .now) (e .args .waiting .now) (e .args .memo .now) (e .args .on .now) _ _ _ (sound-by (s .parts-sound .result) (s .parts-sound .ensures .0) (i .if2 .left)) (k .carry-sound .ensures)
+returns-3 c = let s = c .before .before .before .before .before .before .before .before .before .before .before .before .before in
+    let e = c .before .before .before .before .before .before .before .before .before .before .before .before .before .before .before .before .before .before .before .before .before .before .before .before in
+    sound-answers (e .args .parts) (e .args .cells .now) (e .args .waiting .now) (e .args .memo .now) (e .args .on .now) (e .args .watches .now) _ _ _ (sound-by (s .parts-sound .result) (s .parts-sound .ensures .0) (c .before .before .before .before .before .before .before .before .before .before .before .before .if2 .left)) (c .before .before .before .before .carry-sound .ensures)
 
 pub carry-lent-spec : {M : Type 1} → statement M
 carry-lent-spec =

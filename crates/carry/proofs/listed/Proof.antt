@@ -1,5 +1,5 @@
 use borrow.Author.Needs.{needs}
-use Rattle.desk.specs.Held.{deskWith}
+use Rattle.desk.specs.Held.{ledgerWith}
 use Rattle.range.proofs.StoreLaws.{range-asks}
 use Rattle.carry.proofs.CallLaws.{lists-returns}
 use Rattle.carry.proofs.listed.Statement.{statement}
@@ -10,7 +10,7 @@ list-requires c κs =
     let e = c .before .before .before in
     let s = e .pre .1 in
     let l = e .pre .0 in
-    let a = range-asks (s .store) _ (deskWith (e .args .parts) (e .args .cells .now) (e .args .waiting .now) (e .args .memo .now) (e .args .on .now)) (s .well) (s .laid) (s .held) in
+    let a = range-asks (s .store) _ (ledgerWith (e .args .parts) (e .args .cells .now) (e .args .waiting .now) (e .args .memo .now) (e .args .on .now)) (s .well) (s .laid) (s .held) in
     (record { cell-words = l .0; report-words = l .1; line-words = l .2 }, a .0, l .3, a .2, a .3)
 
 answered-requires : tie.Need-answered-requires

@@ -1,5 +1,5 @@
 use borrow.Author.Needs.{needs}
-use Rattle.desk.specs.Held.{deskWith}
+use Rattle.desk.specs.Held.{ledgerWith}
 use Rattle.own_effect.proofs.StoreLaws.{report-asks}
 use Rattle.effects.proofs.OwnLaws.{report-effect, report-carries}
 use Rattle.effects.proofs.reported.Statement.{statement}
@@ -9,7 +9,7 @@ reported-requires : tie.Need-reported-requires
 reported-requires c κs =
     let start = c .before .before in
     let x = start .pre in
-    report-asks (x .sound .store) (deskWith (start .args .parts) (start .args .cells .now) (start .args .waiting .now) (start .args .memo .now) (start .args .on .now)) (x .sound .held) (x .sound .well)
+    report-asks (x .sound .store) (ledgerWith (start .args .parts) (start .args .cells .now) (start .args .waiting .now) (start .args .memo .now) (start .args .on .now)) (x .sound .held) (x .sound .well)
 
 followed-requires : tie.Need-followed-requires
 followed-requires c κs =

@@ -1,5 +1,5 @@
 use borrow.Author.Needs.{needs}
-use Rattle.desk.specs.Held.{deskWith}
+use Rattle.desk.specs.Held.{ledgerWith}
 use Rattle.own_effect.proofs.StoreLaws.{off-asks}
 use Rattle.effects.proofs.OwnLaws.{off-tallies, off-carries}
 use Rattle.effects.proofs.sign_off.Statement.{statement}
@@ -9,7 +9,7 @@ signed-off-requires : tie.Need-signed-off-requires
 signed-off-requires c κs =
     let start = c .before .before .before .before in
     let x = start .pre in
-    off-asks (x .sound .store) (deskWith (start .args .parts) (start .args .cells .now) (start .args .waiting .now) (start .args .memo .now) (start .args .on .now)) (x .sound .held) (x .sound .well) (start .args .radio)
+    off-asks (x .sound .store) (ledgerWith (start .args .parts) (start .args .cells .now) (start .args .waiting .now) (start .args .memo .now) (start .args .on .now)) (x .sound .held) (x .sound .well) (start .args .radio)
 
 ticked-requires : tie.Need-ticked-requires
 ticked-requires c κs =

@@ -1,5 +1,5 @@
 use borrow.Author.Needs.{needs}
-use Rattle.desk.specs.Held.{deskWith}
+use Rattle.desk.specs.Held.{ledgerWith}
 use Rattle.own_effect.proofs.StoreLaws.{on-asks}
 use Rattle.effects.proofs.OwnLaws.{on-effect, on-carries}
 use Rattle.effects.proofs.sign_on.Statement.{statement}
@@ -9,7 +9,7 @@ signed-on-requires : tie.Need-signed-on-requires
 signed-on-requires c κs =
     let start = c .before .before .before in
     let x = start .pre in
-    on-asks (x .sound .store) (deskWith (start .args .parts) (start .args .cells .now) (start .args .waiting .now) (start .args .memo .now) (start .args .on .now)) (x .sound .held) (x .sound .well) (x .signs .room)
+    on-asks (x .sound .store) (ledgerWith (start .args .parts) (start .args .cells .now) (start .args .waiting .now) (start .args .memo .now) (start .args .on .now)) (x .sound .held) (x .sound .well) (x .signs .room)
 
 followed-requires : tie.Need-followed-requires
 followed-requires c κs =

@@ -1,5 +1,5 @@
 use denote.Ref.{now}
-use Rattle.desk.specs.Held.{deskWith}
+use Rattle.desk.specs.Held.{ledgerWith}
 use Rattle.sound_grid.proofs.SoundLaws.{grid-east-room, grid-north-room}
 use Rattle.sound_desk.proofs.DeskLaws.{desk-grid, desk-radios, desk-memo, desk-tally}
 use borrow.Author.Needs.{needs}
@@ -31,7 +31,7 @@ returns-3 c = search desk-memo
 returns-4 : tie.Need-returns-4
 returns-4 c =
     let x = c .before .before .before .before .before .before .before .before .args in
-    search (desk-tally (deskWith (x .parts) (now (x .cells)) (now (x .waiting)) (now (x .memo)) (now (x .on))))
+    search (desk-tally (ledgerWith (x .parts) (now (x .cells)) (now (x .waiting)) (now (x .memo)) (now (x .on))))
 
 pub desk-sound-spec : {M : Type 1} → statement M
 desk-sound-spec =

@@ -1,5 +1,5 @@
 -- What desk and pages have shown lets the tables be filled (`Known`); then the low halves show who is on, and the table is settled, and the inequality holds, exactly if the entries pass.
-use Rattle.desk.specs.Held.{deskWith}
+use Rattle.desk.specs.Held.{ledgerWith}
 use Rattle.memo_index.proofs.IndexLaws.{blank-zeros}
 use Rattle.sound_radios.proofs.KnownLaws.{Known, known}
 use Rattle.sound_radios.proofs.SoundLaws.{on-asks, lines-asks, new-asks, cells-asks, bound-asks, radios-off, radios-fail, radios-bound}
@@ -16,9 +16,9 @@ use Rattle.sound_entries.proofs.tally_cells.Reads as tally-cells-reads
 use Rattle.sound_balance.proofs.tally_new.Reads as tally-new-reads
 
 shown : (s : lts.Start (on-due-reads.Asked, on-due-reads.Learnt, lines-due-reads.Asked, lines-due-reads.Learnt, tally-new-reads.Asked, tally-new-reads.Learnt, tally-cells-reads.Asked, tally-cells-reads.Learnt, all-settled-reads.Asked, all-settled-reads.Learnt, bound-ok-reads.Asked, bound-ok-reads.Learnt) reads.Pre reads.Post)
-    → Known (s .args .pages .now) (deskWith (s .args .parts) (s .args .cells .now) (s .args .waiting .now) (s .args .memo .now) (s .args .on .now))
+    → Known (s .args .pages .now) (ledgerWith (s .args .parts) (s .args .cells .now) (s .args .waiting .now) (s .args .memo .now) (s .args .on .now))
 shown s =
-    known (s .args .pages .now) (deskWith (s .args .parts) (s .args .cells .now) (s .args .waiting .now) (s .args .memo .now) (s .args .on .now))
+    known (s .args .pages .now) (ledgerWith (s .args .parts) (s .args .cells .now) (s .args .waiting .now) (s .args .memo .now) (s .args .on .now))
     (record { easts = search needs; norths = search needs; cells = s .pre .0; waiting = s .pre .1; memo = s .pre .2; on = s .pre .3 }) (s .pre .4) (s .pre .5)
 
 cast-n : tie.Need-cast-n

@@ -1,0 +1,2 @@
+pub mod LatestLaws
+pub mod TellLaws

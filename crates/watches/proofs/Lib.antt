@@ -1,0 +1,4 @@
+pub mod AreaLaws
+pub mod MembersLaws
+pub mod NumberLaws
+pub mod UpdateLaws
