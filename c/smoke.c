@@ -1,4 +1,4 @@
-/* The desk through its C interface: a fresh store, the contract's own journal, watches, the test of soundness, and a desk that is saved and restored as
+/* The desk through its C interface: a fresh store, the contract's own journal, watches, files, the test of soundness, and a desk that is saved and restored as
  * bytes. */
 #undef NDEBUG
 #include "boragefile.h"
@@ -13,7 +13,7 @@ static struct lent {
     uint8_t guard1[64];
     uint8_t pages[BORAGEFILE_PAGES_BYTES];
     uint8_t guard2[64];
-    uint8_t buffer[BORAGEFILE_LIST_BYTES];
+    uint8_t buffer[BORAGEFILE_CSV_BYTES];
     uint8_t guard3[64];
 } lent, before;
 
@@ -32,7 +32,7 @@ static void expect_guards(void)
 }
 
 /* What was answered, from the bytes lent before the call; a turned-down call keeps every byte of all that is lent. */
-static void expect_answer(boragefile_answer answer, unsigned number, unsigned count, unsigned gained, unsigned lost)
+static void expect_answer(boragefile_answer answer, unsigned number, uint64_t count, unsigned gained, unsigned lost)
 {
     assert(answer.number == number && answer.count == count && answer.gained == gained && answer.lost == lost);
     if (number != 0)
@@ -67,6 +67,28 @@ static void expect_clear(unsigned watch, size_t pages_length, unsigned number)
     memcpy(&before, &lent, sizeof lent);
     expect_answer(boragefile_watch_clear(&lent.desk, lent.pages, pages_length, (uint16_t)watch), number, 0, 0, 0);
 }
+
+/* Writes a file to a buffer of this length, and expects this answer; nothing but the file is written. */
+static void expect_file(size_t length, size_t pages_length, unsigned number, uint64_t count, const char *file)
+{
+    memset(lent.buffer, 0x5A, sizeof lent.buffer);
+    memcpy(&before, &lent, sizeof lent);
+    expect_answer(boragefile_csv_write(&lent.desk, lent.pages, pages_length, lent.buffer, length), number, count, 0, 0);
+    memcpy(before.buffer, file, strlen(file));
+    assert(memcmp(&before, &lent, sizeof lent) == 0);
+}
+
+/* Reads a file of this length, and expects this answer. */
+static void expect_read(const char *file, size_t length, size_t pages_length, unsigned number, uint64_t count)
+{
+    memcpy(&before, &lent, sizeof lent);
+    expect_answer(boragefile_csv_read(&lent.desk, lent.pages, pages_length, (const uint8_t *)file, length), number, count, 0, 0);
+}
+
+#define HEADER "radio,east,north,minute\r\n"
+
+/* The lines behind the header. */
+#define EXPECT_LINES(lines, number, count) expect_read(HEADER lines, sizeof HEADER lines - 1, sizeof lent.pages, number, count)
 
 /* Watch 3 alone is set, and radio 7 is its only member, or it has none. */
 static void expect_watch(unsigned north, int member)
@@ -221,6 +243,55 @@ int main(void)
 
     /* sound after all these */
     assert(is_sound(sizeof lent.pages));
+
+    /* a file: nobody is on; one byte too short; an unsound store, and other pages, which come first */
+    const char *const nobody = HEADER, *const everyone = HEADER "7,100,200,4294967295\r\n4095,65535,0,0\r\n";
+    const size_t bytes = strlen(everyone);
+    expect_file(sizeof lent.buffer, whole, 0, strlen(nobody), nobody);
+    expect_file(strlen(nobody), whole, 0, strlen(nobody), nobody);
+    expect_file(strlen(nobody) - 1, whole, BORAGEFILE_ANSWER_BUFFER, strlen(nobody), "");
+    expect_file(0, whole - 1, BORAGEFILE_PAGE_BUFFER, 0, "");
+    lent.desk.parts.tally = 16;
+    expect_file(0, whole, BORAGEFILE_UNSOUND, 0, "");
+
+    /* reading one makes a store of its own, whatever stood there, in its own order */
+    expect_set(3, 0, 201, whole, BORAGEFILE_UNSOUND);
+    EXPECT_LINES("7,100,200,4294967295\r\n\"4095\",\"65535\",00,0", 0, 0);
+    assert(is_sound(whole) && lent.desk.parts.tally == 2 && lent.desk.parts.highest == UINT32_MAX && lent.desk.parts.on == 2);
+    assert(all((const uint8_t *)lent.desk.watches, sizeof lent.desk.watches, 0));
+    expect_file(bytes, whole, 0, bytes, everyone);
+    expect_file(bytes - 1, whole, BORAGEFILE_ANSWER_BUFFER, bytes, "");
+    expect_file(0, whole, BORAGEFILE_ANSWER_BUFFER, bytes, "");
+    expect_at(UINT32_MAX, report, sizeof report, 0, 0);
+
+    /* turned down: each with the line of the file, and every byte kept */
+    expect_read(everyone, bytes, whole + 1, BORAGEFILE_PAGE_BUFFER, 0);
+    expect_read(everyone, 0, whole, BORAGEFILE_BAD_LINE, 1);
+    expect_read("radio,east,north\r\n", 18, whole, BORAGEFILE_BAD_LINE, 1);
+    EXPECT_LINES("7,100,200,1\r\n\r\n", BORAGEFILE_BAD_LINE, 3);
+    EXPECT_LINES("7,100,200,1\r\n4096,1,1,1\r\n7,1,1,1\r\n", BORAGEFILE_BAD_LINE, 3);
+    EXPECT_LINES("7,100,200,4294967296", BORAGEFILE_BAD_LINE, 2);
+    EXPECT_LINES("7,0,0,2\r\n8,0,0,1\r\n", BORAGEFILE_NO_FIX, 3);
+    EXPECT_LINES("7,1,1,2\r\n8,1,1,1\r\n7,2,2,1\r\n", BORAGEFILE_ALREADY_ON, 2);
+    EXPECT_LINES("", 0, 0);
+    expect_fresh();
+
+    /* the 513th; and a line whose number 16 bits do not hold */
+    static char many[sizeof HEADER + 70000 * 16];
+    size_t length = (size_t)sprintf(many, HEADER), at_512 = 0;
+    for (unsigned line = 2; line <= 70001; line++) {
+        length += (size_t)sprintf(many + length, "%u,1,1,%u\r\n", line % 4095 + 1, line);
+        if (line == 513)
+            at_512 = length;
+    }
+    expect_read(many, length, whole, BORAGEFILE_FULL, 514);
+    expect_read(many, length - 1, whole, BORAGEFILE_BAD_LINE, 70001);
+    expect_read(many, at_512, whole, 0, 0);
+    assert(lent.desk.parts.on == 512 && is_sound(whole));
+    expect_at(513, on, sizeof on, BORAGEFILE_ALREADY_ON, 0);
+    expect_at(512, on, sizeof on, BORAGEFILE_TOO_EARLY, 0);
+    EXPECT_LINES("7,100,200,16909060", 0, 0);
+    expect_at(minute, off, sizeof off, 0, 0);
 
     /* a desk is its bytes: whatever it is copied over, the copy is the same desk, and a fresh one is the same wherever it is made */
     boragefile_desk copy;

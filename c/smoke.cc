@@ -1,10 +1,10 @@
-// The desk from C++: the header, a fresh store, a watch, a sign-on and a range.
+// The desk from C++: the header, a fresh store, a watch, a sign-on, a range, and a file written and read.
 #include "boragefile.h"
 #include <cstdio>
 #include <cstring>
 
 static boragefile_desk desk;
-static uint8_t pages[BORAGEFILE_PAGES_BYTES], buffer[BORAGEFILE_LIST_BYTES];
+static uint8_t pages[BORAGEFILE_PAGES_BYTES], buffer[BORAGEFILE_LIST_BYTES], file[BORAGEFILE_CSV_BYTES];
 
 template <size_t N> static boragefile_answer call(const uint8_t (&record)[N])
 {
@@ -29,6 +29,14 @@ int main()
         boragefile_watch_clear(&desk, pages, sizeof pages, 0).number != BORAGEFILE_NO_WATCH)
         return 1;
     if (call(on).number != BORAGEFILE_ALREADY_ON || !boragefile_sound(&desk, pages, sizeof pages))
+        return 1;
+    const boragefile_answer written = boragefile_csv_write(&desk, pages, sizeof pages, file, sizeof file);
+    if (written.number != BORAGEFILE_ACCEPTED || written.count != 38 || std::memcmp(file, "radio,east,north,minute\r\n7,100,200,0\r\n", 38) != 0)
+        return 1;
+    if (boragefile_csv_read(&desk, pages, sizeof pages, file, 38).number != BORAGEFILE_ACCEPTED || call(on).number != BORAGEFILE_ALREADY_ON)
+        return 1;
+    const boragefile_answer bad = boragefile_csv_read(&desk, pages, sizeof pages, file, 37);
+    if (bad.number != BORAGEFILE_BAD_LINE || bad.count != 2)
         return 1;
     std::puts("ok");
     return 0;

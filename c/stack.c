@@ -1,5 +1,6 @@
 /* How much stack a call takes: reads a journal (records, one after the other) from standard input, carries it out with watches set, on a painted stack, and
- * prints the bytes of it that the making of a fresh store, the deepest setting and clearing of a watch, the deepest call and the test of soundness wrote to. */
+ * prints the bytes of it that the making of a fresh store, the deepest setting and clearing of a watch, the deepest call, the test of soundness, and the writing
+ * and deepest reading of a file wrote to: the file of what the journal leaves, and one of 512 radios all over the map. */
 #define _GNU_SOURCE
 #include "boragefile.h"
 #include <pthread.h>
@@ -11,7 +12,7 @@
 #define PAINT 0xA5
 
 static boragefile_desk desk;
-static uint8_t pages[BORAGEFILE_PAGES_BYTES], buffer[BORAGEFILE_LIST_BYTES];
+static uint8_t pages[BORAGEFILE_PAGES_BYTES], buffer[BORAGEFILE_LIST_BYTES], file[BORAGEFILE_CSV_BYTES];
 static uint8_t journal[1 << 20];
 static size_t journal_bytes;
 static uint8_t *stack;
@@ -35,6 +36,28 @@ static size_t deeper(size_t deepest)
 {
     size_t deep = used();
     return deep > deepest ? deep : deepest;
+}
+
+/* 512 lines, whose minutes fall and whose places lie apart. Answers their length. */
+static size_t full_file(void)
+{
+    size_t length = (size_t)sprintf((char *)file, "radio,east,north,minute\r\n");
+    for (unsigned i = 0; i < 512; i++) {
+        char line[32];
+        int bytes = sprintf(line, "%u,%u,%u,%u\r\n", 4095 - i, i * 40503u % 65536, i * 22695u % 65536 | 1, 4294967295u - i);
+        memcpy(file + length, line, (size_t)bytes);
+        length += (size_t)bytes;
+    }
+    return length;
+}
+
+/* The bytes that reading this much of the file takes. */
+static size_t reading(size_t length)
+{
+    paint();
+    if (boragefile_csv_read(&desk, pages, sizeof pages, file, length).number != BORAGEFILE_ACCEPTED)
+        exit(1);
+    return used();
 }
 
 /* Watches are set as the journal goes on, each over another stripe of the map, so that the last is set on a full store; then one is cleared. */
@@ -62,7 +85,15 @@ static void *measure(void *unused)
     paint();
     if (!boragefile_sound(&desk, pages, sizeof pages))
         exit(1);
-    printf("begin %zu\nwatch_set %zu\ncall %zu\nwatch_clear %zu\nsound %zu\n", begin, set, call, clear, used());
+    size_t sound = used();
+    paint();
+    boragefile_answer written = boragefile_csv_write(&desk, pages, sizeof pages, file, sizeof file);
+    size_t csv_write = used();
+    if (written.number != BORAGEFILE_ACCEPTED)
+        exit(1);
+    size_t own = reading((size_t)written.count), other = reading(full_file());
+    printf("begin %zu\nwatch_set %zu\ncall %zu\nwatch_clear %zu\nsound %zu\n", begin, set, call, clear, sound);
+    printf("csv_write %zu\ncsv_read %zu\n", csv_write, own > other ? own : other);
     return unused;
 }
 

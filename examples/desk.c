@@ -3,9 +3,10 @@
  *     desk FILE < LINES
  *
  * A line is one of "on RADIO EAST NORTH MINUTE", "report RADIO EAST NORTH MINUTE", "off RADIO MINUTE" and "range WEST EAST SOUTH NORTH MINUTE", or one of
- * "watch WATCH WEST EAST SOUTH NORTH", "unwatch WATCH" and "members WATCH". For line i it prints "i ok", with the watches that gained and lost the radio,
- * "i found n" and then n lines "radio east north", "i members" with the radios, "i refused r: words", or "i no call". What was answered with "ok" is in the
- * file.
+ * "watch WATCH WEST EAST SOUTH NORTH", "unwatch WATCH" and "members WATCH", or one of "save-csv NAME" and "load-csv NAME": all radios on to a spreadsheet's
+ * file, and a store from one in place of this. For line i it prints "i ok", with the watches that gained and lost the radio, "i found n" and then n lines
+ * "radio east north", "i members" with the radios, "i wrote n bytes", "i refused r: words" (of a file "i refused r in line l: words"), "i no file", or
+ * "i no call". What was answered with "ok" is in the file.
  *
  * The file: a line with the version, the desk, the pages, and a sum over all of these, so that a bit that flipped on the disk is found even where
  * the store is sound with it. A file that cannot be used is left as it is, and the program ends with 1. */
@@ -13,6 +14,7 @@
 #include "boragefile.h"
 #include <errno.h>
 #include <fcntl.h>
+#include <inttypes.h>
 #include <stdio.h>
 #include <stdlib.h>
 #include <string.h>
@@ -25,7 +27,7 @@
 
 static boragefile_desk desk;
 static uint8_t pages[BORAGEFILE_PAGES_BYTES];
-static uint8_t buffer[BORAGEFILE_LIST_BYTES]; /* takes every radio, so number 11 never comes */
+static uint8_t buffer[BORAGEFILE_LIST_BYTES], csv[BORAGEFILE_CSV_BYTES]; /* these take every radio, so number 11 never comes */
 
 static void end(const char *path, const char *why)
 {
@@ -206,6 +208,71 @@ static bool watch_call(char *words[MOST_WORDS], unsigned count, boragefile_answe
     return true;
 }
 
+/* A file's bytes, which the caller frees, or null where it cannot be read. */
+static uint8_t *bytes_of(const char *name, size_t *length)
+{
+    FILE *file = fopen(name, "rb");
+    if (!file)
+        return NULL;
+    size_t room = sizeof csv, some;
+    uint8_t *bytes = malloc(room);
+    for (*length = 0; bytes && (some = fread(bytes + *length, 1, room - *length, file)) > 0;) {
+        *length += some;
+        uint8_t *more = *length < room ? bytes : realloc(bytes, room *= 2);
+        if (!more)
+            free(bytes);
+        bytes = more;
+    }
+    if (ferror(file)) {
+        free(bytes);
+        bytes = NULL;
+    }
+    fclose(file);
+    return bytes;
+}
+
+/* Whether these bytes are written to a file. */
+static bool put_bytes(const char *name, const uint8_t *bytes, size_t length)
+{
+    FILE *file = fopen(name, "wb");
+    if (!file)
+        return false;
+    bool written = fwrite(bytes, 1, length, file) == length;
+    return fclose(file) == 0 && written;
+}
+
+static void print_refusal(unsigned long i, boragefile_answer answer)
+{
+    printf("%lu refused %u", i, answer.number);
+    if (answer.count > 0) /* only where a file is read: the buffers are large enough for all else */
+        printf(" in line %" PRIu64, answer.count);
+    printf(": %s\n", boragefile_words(answer.number));
+}
+
+/* Writes all radios on to a spreadsheet's file. */
+static void save_csv(unsigned long i, const char *name)
+{
+    boragefile_answer answer = boragefile_csv_write(&desk, pages, sizeof pages, csv, sizeof csv);
+    if (answer.number != BORAGEFILE_ACCEPTED)
+        print_refusal(i, answer);
+    else if (put_bytes(name, csv, (size_t)answer.count))
+        printf("%lu wrote %" PRIu64 " bytes\n", i, answer.count);
+    else
+        printf("%lu no file\n", i);
+}
+
+/* Makes a store of a spreadsheet's file, where there is one. */
+static bool load_csv(const char *name, boragefile_answer *answer)
+{
+    size_t length;
+    uint8_t *bytes = bytes_of(name, &length);
+    if (!bytes)
+        return false;
+    *answer = boragefile_csv_read(&desk, pages, sizeof pages, bytes, length);
+    free(bytes);
+    return true;
+}
+
 /* Prints the members of a watch, where the line asks for them; one that is not set has none. */
 static bool print_members(unsigned long i, char *words[MOST_WORDS], unsigned count)
 {
@@ -230,9 +297,9 @@ static void print_watches(const char *word, uint16_t watches)
             printf(" %u", watch);
 }
 
-static void print_list(unsigned long i, unsigned count)
+static void print_list(unsigned long i, size_t count)
 {
-    printf("%lu found %u\n", i, count);
+    printf("%lu found %zu\n", i, count);
     for (const uint8_t *entry = buffer; entry < buffer + BORAGEFILE_ENTRY_BYTES * count; entry += BORAGEFILE_ENTRY_BYTES)
         printf("%u %u %u\n", field(entry), field(entry + 2), field(entry + 4));
 }
@@ -247,14 +314,22 @@ static void serve(const char *path, unsigned long i, char *words[MOST_WORDS], un
         answer = boragefile_call(&desk, pages, sizeof pages, record, bytes, buffer, sizeof buffer);
     } else if (print_members(i, words, count)) {
         return;
+    } else if (count == 2 && strcmp(words[0], "save-csv") == 0) {
+        save_csv(i, words[1]);
+        return;
+    } else if (count == 2 && strcmp(words[0], "load-csv") == 0) {
+        if (!load_csv(words[1], &answer)) {
+            printf("%lu no file\n", i);
+            return;
+        }
     } else if (!watch_call(words, count, &answer)) {
         printf("%lu no call\n", i);
         return;
     }
     if (answer.number != BORAGEFILE_ACCEPTED) {
-        printf("%lu refused %u: %s\n", i, answer.number, boragefile_words(answer.number));
+        print_refusal(i, answer);
     } else if (field(record + 2) == BORAGEFILE_KIND_RANGE) {
-        print_list(i, answer.count);
+        print_list(i, (size_t)answer.count);
     } else {
         save(path);
         printf("%lu ok", i);

@@ -23,7 +23,7 @@ MEMBERS_AT = 10
 
 
 class Answer(ctypes.Structure):
-    _fields_ = [(name, ctypes.c_uint16) for name in ("number", "count", "gained", "lost")]
+    _fields_ = [*((name, ctypes.c_uint16) for name in ("number", "gained", "lost")), ("count", ctypes.c_uint64)]
 
 
 class Store:
@@ -37,6 +37,8 @@ class Store:
             (self.library.boragefile_call, Answer, 3, 0),
             (self.library.boragefile_watch_set, Answer, 1, 5),
             (self.library.boragefile_watch_clear, Answer, 1, 1),
+            (self.library.boragefile_csv_write, Answer, 2, 0),
+            (self.library.boragefile_csv_read, Answer, 2, 0),
             (self.library.boragefile_sound, ctypes.c_bool, 1, 0),
         ):
             function.restype = result
@@ -44,6 +46,7 @@ class Store:
         self.desk = (ctypes.c_uint32 * (DESK_BYTES // 4))()
         self.pages = (ctypes.c_uint8 * 41984)()
         self.buffer = (ctypes.c_uint8 * 3072)()
+        self.csv = (ctypes.c_uint8 * 14873)()
         if self.library.boragefile_begin(self.desk, self.pages, len(self.pages)).number != 0:
             raise ValueError("no fresh store")
 
@@ -60,6 +63,14 @@ class Store:
 
     def watch_clear(self, watch):
         return self.library.boragefile_watch_clear(self.desk, self.pages, len(self.pages), watch)
+
+    def csv_write(self):
+        """The answer and, if it is accepted, the file of all radios on."""
+        answer = self.library.boragefile_csv_write(self.desk, self.pages, len(self.pages), self.csv, len(self.csv))
+        return answer, bytes(self.csv)[: answer.count] if answer.number == 0 else None
+
+    def csv_read(self, file):
+        return self.library.boragefile_csv_read(self.desk, self.pages, len(self.pages), file, len(file))
 
     def members(self, watch):
         """The radios in a watch, rising; one that is not set has none."""
@@ -91,6 +102,28 @@ def watch_call(store, word, words):
     return call(*numbers) if call and numbers else None
 
 
+def csv_call(store, word, name):
+    """Writes a spreadsheet's file, or takes a store from one. What is said then."""
+    try:
+        if word == b"load-csv":
+            with open(name, "rb") as file:
+                answer = store.csv_read(file.read())
+            return ["ok"] if answer.number == 0 else refused(answer)
+        answer, made = store.csv_write()
+        if made is None:
+            return refused(answer)
+        with open(name, "wb") as file:
+            file.write(made)
+        return ["wrote", len(made), "bytes"]
+    except OSError:
+        return ["no file"]
+
+
+def refused(answer):
+    """Only where a file is read is a count among it, the line: the buffers are large enough for all else."""
+    return ["refused", answer.number, *(["in line", answer.count] if answer.count else [])]
+
+
 def bits(number):
     return [bit for bit in range(WATCHES) if number >> bit & 1]
 
@@ -103,10 +136,12 @@ def serve(store, line):
         answer, found = store.call(record)
     elif word == b"members" and (watch := numbers_of(words, [WATCHES - 1])):
         return ["members", *store.members(*watch)], []
+    elif word in (b"save-csv", b"load-csv") and len(words) == 1:
+        return csv_call(store, word, *words), []
     elif not (answer := watch_call(store, word, words)):
         return ["no call"], []
     if answer.number != 0:
-        return ["refused", answer.number], []
+        return refused(answer), []
     if found is not None:
         return ["found", len(found)], found
     moved = [(name, bits(getattr(answer, name))) for name in ("gained", "lost")]

@@ -4,19 +4,23 @@
 //!     desk FILE < LINES
 //!
 //! A line is one of `on RADIO EAST NORTH MINUTE`, `report RADIO EAST NORTH MINUTE`, `off RADIO MINUTE` and
-//! `range WEST EAST SOUTH NORTH MINUTE`, or one of `watch WATCH WEST EAST SOUTH NORTH`, `unwatch WATCH` and `members WATCH`. For
+//! `range WEST EAST SOUTH NORTH MINUTE`, or one of `watch WATCH WEST EAST SOUTH NORTH`, `unwatch WATCH` and `members WATCH`, or one
+//! of `save-csv NAME` and `load-csv NAME`: all radios on to a spreadsheet's file, and a store from one in place of this. For
 //! line i it prints `i ok`, with the watches that gained and lost the radio, `i found n` and then n lines `radio east north`,
-//! `i members` with the radios, `i refused r: words`, or `i no call`. What was answered with `ok` is in the file.
+//! `i members` with the radios, `i wrote n bytes`, `i refused r: words` (of a file `i refused r in line l: words`), `i no file`, or
+//! `i no call`. What was answered with `ok` is in the file.
 //!
 //! The file: a line with the version, the desk, the pages, and a sum over all of these, so that a bit that flipped on the disk
 //! is found even where the store is sound with it. A file that cannot be used is left as it is, and the program ends with 1.
 #![forbid(unsafe_code)]
 use boragefile::{
-    Answer, Located, Record, Rectangle, Store, Watches, DESK_BYTES, LIST_BYTES, PAGES_BYTES,
-    VERSION, WATCHES,
+    Answer, Located, Record, Rectangle, Store, Watches, CSV_BYTES, DESK_BYTES, LIST_BYTES,
+    PAGES_BYTES, VERSION, WATCHES,
 };
+use std::ffi::OsStr;
 use std::fs::{rename, File};
 use std::io::{self, BufRead, ErrorKind, Write};
+use std::os::unix::ffi::OsStrExt;
 use std::path::{Path, PathBuf};
 use std::process::ExitCode;
 
@@ -42,8 +46,8 @@ fn main() -> ExitCode {
 
 fn serve(path: &Path) -> Result<(), Failure> {
     let mut store = restored(path)?;
-    // takes every radio, so number 11 never comes
-    let mut buffer = [0; LIST_BYTES];
+    // these take every radio, so number 11 never comes
+    let (mut buffer, mut csv) = ([0; LIST_BYTES], [0; CSV_BYTES]);
     let mut out = io::stdout().lock();
     for (i, line) in (1..).zip(io::stdin().lock().split(b'\n')) {
         let answer = match call_of(&line?) {
@@ -55,6 +59,22 @@ fn serve(path: &Path) -> Result<(), Failure> {
                 let members = members.flat_map(|watch| watch.members());
                 writeln!(out, "{i} members{}", spaced(members))?;
                 continue;
+            }
+            Some(Call::SaveCsv(name)) => {
+                let answer = store.csv_write(&mut csv);
+                let failed = |file| std::fs::write(name, file).is_err();
+                if answer.file().is_some_and(failed) {
+                    writeln!(out, "{i} no file")?;
+                    continue;
+                }
+                answer
+            }
+            Some(Call::LoadCsv(name)) => {
+                let Ok(file) = std::fs::read(name) else {
+                    writeln!(out, "{i} no file")?;
+                    continue;
+                };
+                store.csv_read(&file)
             }
             None => {
                 writeln!(out, "{i} no call")?;
@@ -73,8 +93,11 @@ fn serve(path: &Path) -> Result<(), Failure> {
                     writeln!(out, "{radio} {east} {north}")?;
                 }
             }
+            Answer::Written(file) => writeln!(out, "{i} wrote {} bytes", file.len())?,
             Answer::Refused { refusal, .. } => {
-                writeln!(out, "{i} refused {}: {refusal}", refusal.number())?
+                let line = answer.line().map(|line| format!(" in line {line}"));
+                let line = line.unwrap_or_default();
+                writeln!(out, "{i} refused {}{line}: {refusal}", refusal.number())?
             }
         }
     }
@@ -147,6 +170,8 @@ enum Call {
     Watch(u16, Rectangle),
     Unwatch(u16),
     Members(u16),
+    SaveCsv(PathBuf),
+    LoadCsv(PathBuf),
 }
 
 /// The call of a line, if it is one.
@@ -155,8 +180,23 @@ fn call_of(line: &[u8]) -> Option<Call> {
         .split(u8::is_ascii_whitespace)
         .filter(|word| !word.is_empty());
     let kind = words.next()?;
+    if let Some(call) = csv_of(kind, words.clone()) {
+        return Some(call);
+    }
     let numbers = words.map(number_of).collect::<Option<Vec<u32>>>()?;
     watch_of(kind, &numbers).or_else(|| record_of(kind, &numbers).map(Call::Record))
+}
+
+fn csv_of<'a>(kind: &[u8], mut words: impl Iterator<Item = &'a [u8]>) -> Option<Call> {
+    let call = match kind {
+        b"save-csv" => Call::SaveCsv,
+        b"load-csv" => Call::LoadCsv,
+        _ => return None,
+    };
+    let (Some(name), None) = (words.next(), words.next()) else {
+        return None;
+    };
+    Some(call(PathBuf::from(OsStr::from_bytes(name))))
 }
 
 fn fields_of(numbers: &[u32]) -> Option<Vec<u16>> {

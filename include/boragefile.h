@@ -1,4 +1,4 @@
-/* The position desk: the five functions of libboragefile.a, the desk that they are lent, and what they answer. docs/USING.md says how to use them. */
+/* The position desk: the seven functions of libboragefile.a, the desk that they are lent, and what they answer. docs/USING.md says how to use them. */
 #ifndef BORAGEFILE_H
 #define BORAGEFILE_H
 
@@ -8,14 +8,15 @@
 
 /* The layout of the desk is part of the version: a desk that another version saved is not for this one. */
 #define BORAGEFILE_VERSION_MAJOR 0
-#define BORAGEFILE_VERSION_MINOR 6
+#define BORAGEFILE_VERSION_MINOR 7
 #define BORAGEFILE_VERSION_PATCH 0
-#define BORAGEFILE_VERSION "0.6.0"
+#define BORAGEFILE_VERSION "0.7.0"
 
 #define BORAGEFILE_PAGES_BYTES 41984 /* 128 pages of 328 bytes */
 #define BORAGEFILE_DESK_BYTES 23280
 #define BORAGEFILE_ENTRY_BYTES 6   /* radio, east, north: what a range lists of a radio */
 #define BORAGEFILE_LIST_BYTES 3072 /* an answer buffer that takes 512 radios, all that may be on */
+#define BORAGEFILE_CSV_BYTES 14873 /* a buffer that takes the file of 512 radios, all that may be on */
 #define BORAGEFILE_KEPT_MINUTES 720 /* a range leaves out a radio whose minute is more than this before its own */
 #define BORAGEFILE_WATCHES 16 /* rectangles that may be watched, under numbers 0 to 15 */
 
@@ -28,7 +29,7 @@ enum {
 };
 
 /* an answer's number: 0, or that of the first check that turned the call down. They are checked in this order, but 12 and then 13 after 6 and before 7,
- * and 14 after 2. */
+ * and 14 after 2. Reading a file makes 1, 15, 12, 8 and 10, in this order. */
 enum {
     BORAGEFILE_ACCEPTED = 0,
     BORAGEFILE_PAGE_BUFFER = 1,
@@ -44,7 +45,8 @@ enum {
     BORAGEFILE_ANSWER_BUFFER = 11,
     BORAGEFILE_NO_FIX = 12,
     BORAGEFILE_TOO_EARLY = 13,
-    BORAGEFILE_NO_WATCH = 14
+    BORAGEFILE_NO_WATCH = 14,
+    BORAGEFILE_BAD_LINE = 15
 };
 
 /* An answer's number in words. The text is constant; it is never null. */
@@ -62,10 +64,11 @@ static inline const char *boragefile_words(uint16_t number)
     case BORAGEFILE_ALREADY_ON: return "a sign-on names a radio that is on";
     case BORAGEFILE_NOT_ON: return "a report or sign-off names a radio that isn't on";
     case BORAGEFILE_FULL: return "a sign-on comes while 512 are on";
-    case BORAGEFILE_ANSWER_BUFFER: return "the answer buffer is too small for the radios found";
+    case BORAGEFILE_ANSWER_BUFFER: return "the answer buffer is too small for the radios found or the file";
     case BORAGEFILE_NO_FIX: return "a sign-on or report has the place (0,0): the radio has no fix";
     case BORAGEFILE_TOO_EARLY: return "the minute is below the store's highest";
     case BORAGEFILE_NO_WATCH: return "a watch number is above 15, or the watch to be cleared isn't set";
+    case BORAGEFILE_BAD_LINE: return "a line of the file isn't four fields of plain digits in range, or its header is wrong";
     default: return "no number of this version";
     }
 }
@@ -134,10 +137,12 @@ static inline bool boragefile_has_member(const boragefile_watch *watch, uint16_t
     return radio < 4096 && (watch->members[radio / 16] >> radio % 16 & 1) == 1;
 }
 
-/* 0, or the number of the check that turned the call down; what it counted; and of an accepted sign-on, report or sign-off, which watches gained its radio
- * and which lost it: bit w is set exactly if watch w did. Both are 0 for every other answer. */
+/* 0, or the number of the check that turned the call down; of an accepted sign-on, report or sign-off, which watches gained its radio and which lost it: bit w
+ * is set exactly if watch w did, and both are 0 for every other answer; and a count, of 64 bits: the radios that a range found, the bytes of a file that is
+ * written, both also under number 11, the line that turned a file down, else 0. */
 typedef struct {
-    uint16_t number, count, gained, lost;
+    uint16_t number, gained, lost;
+    uint64_t count;
 } boragefile_answer;
 
 #ifdef __cplusplus
@@ -177,7 +182,10 @@ BORAGEFILE_STATIC_ASSERT(offsetof(boragefile_desk, waiting) == 848, "waiting in 
 BORAGEFILE_STATIC_ASSERT(offsetof(boragefile_desk, memo) == 2384, "memo in the desk");
 BORAGEFILE_STATIC_ASSERT(offsetof(boragefile_desk, on) == 13904, "on in the desk");
 BORAGEFILE_STATIC_ASSERT(offsetof(boragefile_desk, watches) == 14928, "watches in the desk");
-BORAGEFILE_STATIC_ASSERT(sizeof(boragefile_answer) == 8, "answer");
+BORAGEFILE_STATIC_ASSERT(sizeof(boragefile_answer) == 16, "answer");
+BORAGEFILE_STATIC_ASSERT(offsetof(boragefile_answer, gained) == 2, "watches that gained");
+BORAGEFILE_STATIC_ASSERT(offsetof(boragefile_answer, lost) == 4, "watches that lost");
+BORAGEFILE_STATIC_ASSERT(offsetof(boragefile_answer, count) == 8, "count");
 
 #undef BORAGEFILE_STATIC_ASSERT
 
@@ -186,7 +194,7 @@ extern "C" {
 #endif
 
 /* A slice is a pointer and a length. The caller owes this much: no pointer is null, even with length 0; the desk is aligned; no two of desk,
- * pages, bytes and buffer overlap. What stands in them is free. */
+ * pages, bytes, file and buffer overlap. What stands in them is free. */
 
 /* Makes desk and pages a fresh store. Only number 1 can turn it down. */
 boragefile_answer boragefile_begin(boragefile_desk *desk, uint8_t *pages, size_t pages_length);
@@ -205,6 +213,16 @@ boragefile_answer boragefile_watch_set(boragefile_desk *desk, const uint8_t *pag
 
 /* Watches the rectangle under this number no longer. Numbers 1, 2 and 14 can turn it down. */
 boragefile_answer boragefile_watch_clear(boragefile_desk *desk, const uint8_t *pages, size_t pages_length, uint16_t watch);
+
+/* Writes all radios on to the buffer's start as a file of comma-separated lines (RFC 4180), count bytes, whatever their age: the header
+ * "radio,east,north,minute", then a line for each by rising number, with CRLF after every line. Nothing behind these bytes is touched. Numbers 1, 2 and 11 can
+ * turn it down; under 11 count is the bytes needed. Desk and pages are only read. */
+boragefile_answer boragefile_csv_write(const boragefile_desk *desk, const uint8_t *pages, size_t pages_length, uint8_t *buffer, size_t buffer_length);
+
+/* Makes desk and pages, whatever stood in them, the store of such a file: a fresh one, with no watch set, to which each line is a sign-on, by rising minute, then
+ * radio, then line. Fields may stand in quotes and have leading zeros, and the last CRLF may be missing. Number 2 isn't tested. Number 1 can turn it down; 15 with
+ * the first bad line in count, the header being line 1; then 12, 8 or 10 with the first line, in the order taken, that the check of a sign-on stops. */
+boragefile_answer boragefile_csv_read(boragefile_desk *desk, uint8_t *pages, size_t pages_length, const uint8_t *file, size_t file_length);
 
 /* Whether desk and pages are those of a sound store: the test that each call makes first. It changes nothing. */
 bool boragefile_sound(const boragefile_desk *desk, const uint8_t *pages, size_t pages_length);

@@ -1,7 +1,8 @@
 #!/usr/bin/env python3
 """A plain model of the position desk: the contract with the user, sentence by sentence, on lists and dicts.
 
-    from model import Model             Model().call(record, buffer, lent) carries out a record and answers it; watch_set and watch_clear likewise
+    from model import Model             Model().call(record, buffer, lent) carries out a record and answers it; watch_set, watch_clear, csv_write and
+                                        csv_read likewise
     tools/model.py FILE...              holds journals (see tools/replay-vectors) against the model
 
 It is written from the contract's text and from the readings in docs/DECISIONS.md, not from the crates, so that one can be held
@@ -10,6 +11,7 @@ another length, and 2 where the pages are not the ones that it left, without ask
 """
 import hashlib
 import json
+import re
 import struct
 import sys
 from typing import NamedTuple
@@ -38,6 +40,8 @@ SWEEP_EVERY = 16            # "At 16, sweep the cell at the front of the round"
 KEPT_MINUTES = 720          # "more than 720 before the range's own; exactly 720 stays in" (02, Job 3)
 LAST_MINUTE = 2**32 - 1     # "a 32-bit minute"
 MOST_WATCHES = 16           # "Let up to 16 be watched under numbers 0 to 15" (02, Job 5)
+LINE_END = b"\r\n"          # "CRLF after every line" (02, Job 6)
+HEADER = [b"radio", b"east", b"north", b"minute"]   # "with the header `radio,east,north,minute`"
 
 RECORD_HEAD = 4             # "its length in bytes, its kind"
 MINUTE_BYTES = 4            # "Every record ends with a 32-bit minute"
@@ -45,7 +49,7 @@ SIGN_ON, REPORT, SIGN_OFF, RANGE = 1, 2, 3, 4
 LENGTHS = {SIGN_ON: 14, REPORT: 14, SIGN_OFF: 10, RANGE: 16}
 
 EAST, NORTH = 0, 1          # the two directions; a place is (east, north)
-ARGUMENTS = ("call", "record", "buffer", "watch", "rect")  # what a journal's line hands in (tools/replay-vectors)
+ARGUMENTS = ("call", "record", "buffer", "watch", "rect", "file")  # what a journal's line hands in (tools/replay-vectors)
 STRANGE = ("page_bytes", "damage")  # what it may say of the page buffer
 ORDER = ("west", "east", "south", "north")  # "take the first of west, east, south, north" (02, Job 7)
 
@@ -120,6 +124,48 @@ def in_range(place, west, east, south, north):
 def in_cell(place, west, east, south, north):
     # "a cell's edges are its least and greatest coordinates, both inside it"
     return west <= place[EAST] <= east and south <= place[NORTH] <= north
+
+
+# ---- files
+
+def line_bytes(*words):
+    return b",".join(words) + LINE_END
+
+
+def file_bytes(rows):
+    """A file of rows, each a radio with its fix."""
+    numbers = ((radio, *fix.place, fix.minute) for radio, fix in rows)
+    return b"".join([line_bytes(*HEADER), *(line_bytes(*(b"%d" % number for number in row)) for row in numbers)])
+
+
+def words_of(line):
+    """The fields of a line, without the quotes that a whole field may stand in."""
+    return [re.sub(rb'\A"([^"]*)"\Z', rb"\1", word) for word in line.split(b",")]
+
+
+def number_of(word, least, most):
+    """A field of plain digits in range, any number of zeros before it, or None."""
+    if not re.fullmatch(rb"[0-9]+", word):
+        return None
+    digits = word.lstrip(b"0")
+    number = int(digits or b"0") if len(digits) <= len(str(most)) else most + 1
+    return number if least <= number <= most else None
+
+
+def row_of(line):
+    """Radio, east, north and minute of a line, or None: "a line that isn't four fields of plain digits in range (radio 1 to 4,095)"."""
+    words = words_of(line)
+    limits = [(1, LAST_RADIO), (0, LAST_METRE), (0, LAST_METRE), (0, LAST_MINUTE)]
+    if len(words) != len(limits):
+        return None
+    row = [number_of(word, *limit) for word, limit in zip(words, limits)]
+    return None if None in row else row
+
+
+def lines_of(file):
+    """The lines of a file, without their ends; the last one may have none."""
+    lines = file.split(LINE_END)
+    return lines[:-1] if len(lines) > 1 and lines[-1] == b"" else lines
 
 
 class Cell:
@@ -215,6 +261,39 @@ class Model:
         if radio not in self.on:
             return set()
         return {watch for watch, rectangle in self.watches.items() if in_range(self.latest(radio).place, *rectangle)}
+
+    # ---- files
+
+    def csv_write(self, buffer, lent=None):
+        self.seen = []
+        number = self.pages_refusal(lent)
+        if number:
+            return Answer(number)
+        # "Write all radios on .. rising radio numbers"
+        file = file_bytes((radio, self.latest(radio)) for radio in sorted(self.on))
+        # "Number 11 comes with the bytes needed if the written file doesn't fit."
+        return Answer(11, len(file)) if buffer < len(file) else Answer(0, len(file), file)
+
+    def csv_read(self, file, lent=None):
+        self.seen = []
+        # "the read starts from a fresh store of its own making, so number 2 isn't tested"
+        if self.pages_refusal(lent) == 1:
+            return Answer(1)
+        header, *lines = lines_of(file)
+        rows = [HEADER if words_of(header) == HEADER else None, *map(row_of, lines)]
+        # "15 .. given with the first such line's number, the header being 1; checked over the whole file after 1 and before 12"
+        if None in rows:
+            return Answer(15, 1 + rows.index(None))
+        # "Lines are taken by rising minute, then radio, then line."
+        taken = sorted((minute, radio, number, east, north) for number, (radio, east, north, minute) in enumerate(rows[1:], 2))
+        made = Model()
+        for minute, radio, number, east, north in taken:
+            answer = made.call(record(SIGN_ON, radio, east, north, minute=minute), 0)
+            # "the first line, so taken, that a sign-on check stops gives that check's number and its line"
+            if answer.number:
+                return Answer(answer.number, number)
+        vars(self).update(vars(made), seen=[])
+        return Answer(0)
 
     # ---- checks
 
@@ -485,14 +564,19 @@ class Model:
             return self.watch_set(arguments["watch"], arguments["rect"], lent)
         if arguments["call"] == "watch-clear":
             return self.watch_clear(arguments["watch"], lent)
+        if arguments["call"] == "csv-write":
+            return self.csv_write(arguments["buffer"], lent)
+        if arguments["call"] == "csv-read":
+            return self.csv_read(bytes.fromhex(arguments["file"]), lent)
         raise ValueError(f"no call of this model: {arguments['call']}")
 
     def line(self, arguments, with_store, **strange):
         """Makes a call. Answers its line of a journal. `strange` is what the line says of the page buffer: `page_bytes`, `damage`."""
         lent = self.lent(**strange)
         answer = self.handed(arguments, lent)
-        left = lent if answer.number in (1, 2) else self.pages()
-        written = {} if "call" in arguments else {"answer": answer.written.hex()}
+        # what is turned down leaves the pages that it was lent; what makes a store makes it of these
+        left = self.pages() if lent is None or answer.number == 0 else lent
+        written = {"answer": answer.written.hex()} if "buffer" in arguments else {}
         line = {**arguments, **strange, "number": answer.number, "count": answer.count, **written, "gained": answer.gained, "lost": answer.lost,
                 "pages": hashlib.sha256(left).hexdigest()}
         return {**line, "store": self.store()} if with_store else line

@@ -1,12 +1,14 @@
-// The desk's calls on a desk that is lent: thin functions over `carry_lent`, `set_lent`, `clear_lent` and `fresh::begin`, and those for programs in
-// Rust or C, with the test of soundness.
+// The desk's calls on a desk that is lent: thin functions over `carry_lent`, `set_lent`, `clear_lent`, `write_lent`, `read_lent` and `fresh::begin`, and those
+// for programs in Rust or C, with the test of soundness.
 ghost use mathlib.Core.Bool.{true};
 ghost use mathlib.Core.List.{[]};
 ghost use mathlib.Core.Path.{_≡_};
-ghost use Rattle.rules.specs.Calls.{hands, clears};
+ghost use Rattle.rules.specs.Calls.{hands, clears, writes};
 ghost use Rattle.desk.specs.Call.{handed, left, Answers};
 ghost use Rattle.desk.specs.Sound.{Sound};
-ghost use Rattle.fresh.specs.Begin.{found, made, Begins};
+ghost use Rattle.desk.specs.Making.{found, made};
+ghost use Rattle.fresh.specs.Begin.{Begins};
+ghost use Rattle.spreadsheet.specs.Call.{Reads};
 ghost use Rattle.watching.specs.Watching.{setsWithin};
 use desk::Answer;
 use desk::Desk;
@@ -100,6 +102,50 @@ pub extern "C" fn boragefile_watch_clear(desk: &mut Desk, pages: &[u8], watch: u
         pages,
         watch,
     )
+}
+
+// ---- files
+
+// `write_lent` on a desk that is lent: neither desk nor pages change. For a serving program in Rust or C.
+#[no_mangle]
+pub extern "C" fn boragefile_csv_write(desk: &Desk, pages: &[u8], buffer: &mut [u8]) -> Answer
+    ensures { λ a. ⌜ Answers
+        (handed (now (desk .entry)) (now (pages .entry)) writes (now (buffer .entry)))
+        (left a (now (desk .entry)) (now (pages .entry)) (now (buffer .exit))) ⌝ }
+{
+    let parts = desk.parts;
+    spreadsheet_write::write_lent(
+        parts,
+        &desk.cells,
+        &desk.waiting,
+        &desk.memo,
+        &desk.on,
+        &desk.watches,
+        pages,
+        buffer,
+    )
+}
+
+// `read_lent` on a desk that is lent and altered there: its parts are copied out and stored back, as in `call`. For a serving program in Rust or C.
+#[no_mangle]
+pub extern "C" fn boragefile_csv_read(desk: &mut Desk, pages: &mut [u8], file: &[u8]) -> Answer
+    ensures { λ a. ⌜ Reads (now (file .entry))
+        (found (now (desk .entry)) (now (pages .entry)))
+        (made a (now (desk .exit)) (now (pages .exit))) ⌝ }
+{
+    let parts = desk.parts;
+    let told = spreadsheet_read::read_lent(
+        parts,
+        &mut desk.cells,
+        &mut desk.waiting,
+        &mut desk.memo,
+        &mut desk.on,
+        &mut desk.watches,
+        pages,
+        file,
+    );
+    desk.parts = told.parts;
+    told.answer
 }
 
 // ---- a fresh store, and the test

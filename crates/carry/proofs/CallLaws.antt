@@ -1,16 +1,14 @@
 -- From what the parts of a call leave to what the call answers.
-use mathlib.Core.Bool.{Bool, true, false, not, cond}
+use mathlib.Core.Bool.{Bool, true, false, cond}
 use mathlib.Core.List.{List}
 use mathlib.Core.Option.{Option, none, some}
 use mathlib.Core.Path.{_≡_, refl, sym, ap, ap₂, _∙_, subst}
 use Prim.Native.Nat.{ℕ, _≤_}
 use lib.ListN.{length}
-use borrow.Author.Tests.{not-true, eq-eqb}
+use borrow.Author.Tests.{eq-eqb}
 use Rattle.terms.specs.Terms.{Place, Fix, maxRadio, maxOn}
 use Rattle.lists.specs.Rows.{Rising}
 use Rattle.lists.specs.Words.{Bytes}
-use Rattle.lists.proofs.Cases.{false-true}
-use Rattle.page.specs.Buffer.{bufferBytes}
 use Rattle.rules.specs.Grid.{Rect}
 use Rattle.rules.specs.Store.{Store}
 use Rattle.rules.specs.Records.{Request, signOn, report, signOff, range, requestOf, refusal, radioField}
@@ -29,7 +27,7 @@ use Rattle.desk.specs.Layout.{onOf, watchesOf, deskOf}
 use Rattle.desk.specs.Held.{Ledger, ledgerOn, ledgerWith, deskWith, directoryIn, waitingWith, memoIn, onWith}
 use Rattle.desk.specs.Views.{radiosOf, rectOf}
 use Rattle.desk.specs.Sound.{SoundLedger, Sound}
-use Rattle.desk.specs.Call.{Before, After, turnedDown, laidOut, CarriedOut, Answers, wrong-size, unsound, carried}
+use Rattle.desk.specs.Call.{Before, After, laidOut, CarriedOut}
 use Rattle.desk.specs.Laid.{LaidLedger}
 use Rattle.desk.proofs.PagesLaws.{pages-laid}
 use Rattle.desk.proofs.UniqueLaws.{sound-ledger, desk-watches}
@@ -58,12 +56,7 @@ well-once s w = w .once
 abbrev toldWith : Parts → ℕ → ℕ → ℕ → ℕ → Told
 toldWith parts number count gains losses = record { parts = parts; answer = record { number = number; count = count; gained = gains; lost = losses } }
 
--- a number alone, with a count
-pub counts : (parts : Parts) (number count : ℕ) {a : Answer} → a ≡ record { number = number; count = 0; gained = 0; lost = 0 }
-    → toldWith parts (a .number) count (a .gained) (a .lost) ≡ toldWith parts number count 0 0
-counts parts number count e = ap (λ (a : Answer). toldWith parts (a .number) count (a .gained) (a .lost)) e
-
--- and with the watches that gained and lost
+-- number 0, with the watches that gained and lost
 pub moves : (parts : Parts) (m : Moved) {a : Answer} → a ≡ record { number = 0; count = 0; gained = 0; lost = 0 }
     → toldWith parts (a .number) (a .count) (m .gained) (m .lost) ≡ toldWith parts 0 0 (m .gained) (m .lost)
 moves parts m e = ap (λ (a : Answer). toldWith parts (a .number) (a .count) (m .gained) (m .lost)) e
@@ -261,36 +254,13 @@ module _ (parts : Parts) (cs ws ms os vs : List ℕ) {b : List ℕ} (x : Sound (
         (λ i. record { number = c .answer .number; count = c .answer .count; gained = none₁ i; lost = none₂ i; desk = deskWith (kept i) cs ws ms os vs; pages = b; buffer = after })
         ∙ stays (c .answer .number) (c .answer .count) after (taken-carry s (ledgerOn ledger) bytes on-laid highest-laid told (range rect minute) e buffer ∙ sym (z .told))
 
--- ---- numbers 1 and 2
+-- ---- numbers 1 and 2: the parts are those that were handed
 
-module _ (parts : Parts) (cs ws ms os vs pages bytes buffer : List ℕ) where
-  abbrev x : Before
-  x = record { desk = deskWith parts cs ws ms os vs; pages = pages; call = hands bytes; buffer = buffer }
+pub desk-kept : (parts : Parts) (cs ws ms os vs : List ℕ) {a : Answer} {r : Told} → r ≡ record { parts = parts; answer = a } → deskWith (r .parts) cs ws ms os vs ≡ deskWith parts cs ws ms os vs
+desk-kept parts cs ws ms os vs e = ap (λ (r : Told). deskWith (r .parts) cs ws ms os vs) e
 
-  abbrev keeps : Told → After
-  keeps r = record {
-    number = r .answer .number;
-    count = r .answer .count;
-    gained = r .answer .gained;
-    lost = r .answer .lost;
-    desk = deskWith (r .parts) cs ws ms os vs;
-    pages = pages;
-    buffer = buffer;
-  }
-
-  turned : (n : ℕ) {r : Told} → r ≡ record { parts = parts; answer = record { number = n; count = 0; gained = 0; lost = 0 } } → keeps r ≡ turnedDown n x
-  unfolding turnedDown
-  turned n e = ap keeps e
-
-  pub size-answers : {r : Told} → (length pages ≡ bufferBytes → ⊥) → r ≡ record { parts = parts; answer = record { number = 1; count = 0; gained = 0; lost = 0 } } → Answers x (keeps r)
-  size-answers n e = wrong-size n (turned 1 e)
-
-  pub unsound-answers : {t : Bool} {r : Told} → length pages ≡ bufferBytes → (Sound (x .desk) pages → t ≡ true) → not t ≡ true
-      → r ≡ record { parts = parts; answer = record { number = 2; count = 0; gained = 0; lost = 0 } } → Answers x (keeps r)
-  unsound-answers {t = t} l f n e = unsound l (λ s. false-true (sym (not-true t n) ∙ f s)) (turned 2 e)
-
-  pub sound-answers : {y : After} → Sound (x .desk) pages → ((s : Sound (x .desk) pages) → CarriedOut x s y) → Answers x y
-  sound-answers s c = carried s (c s)
+pub answer-told : {parts : Parts} {a : Answer} {r : Told} → r ≡ record { parts = parts; answer = a } → r .answer ≡ a
+answer-told e = ap (λ (r : Told). r .answer) e
 
 -- ---- the list
 
@@ -306,8 +276,3 @@ lists-returns parts cs ws ms os {b = b} x area minute buffer {told = told} {afte
       ap (λ (c : Told). record { number = c .answer .number; count = c .answer .count; buffer = after; store = x .store }) g
       ∙ range-gives (x .store) b (ledgerWith parts cs ws ms os) (x .well) (x .laid) (x .held) (rectOf area) minute buffer e;
 }
-
--- the test passed
-pub sound-by : {desk : Desk} {b : List ℕ} (t : Bool) → (t ≡ true → Sound desk b) → not t ≡ false → Sound desk b
-sound-by true f e = f refl
-sound-by false f e = false-true (sym e)

@@ -40,12 +40,13 @@ fn accepted(parts: Parts, moved: Moved) -> Told
 }
 
 // A number and a count.
-fn answered(parts: Parts, number: u16, count: u16) -> Told
+fn answered(parts: Parts, number: u16, count: u64) -> Told
     ensures { λ r. ⌜ r ≡ record { parts = parts; answer = record { number = number; count = count; gained = 0; lost = 0 } } ⌝ }
 {
-    let mut answer = desk::numbered(number);
-    answer.count = count;
-    Told { parts, answer }
+    Told {
+        parts,
+        answer: desk::counted(number, count),
+    }
 }
 
 // "Range finds the radios on whose latest place .. lies in the rectangle": it alters the answer buffer alone.
@@ -62,17 +63,18 @@ fn listed(
 ) -> Told
     requires { ⌜ LedgerArrays (now cells) (now waiting) (now memo) (now on)
         × SoundLedger (ledgerWith parts (now cells) (now waiting) (now memo) (now on)) (now pages) ⌝ }
-    ensures { λ r. ⌜ ((s : SoundLedger (ledgerWith parts (now (cells .entry)) (now (waiting .entry)) (now (memo .entry)) (now (on .entry))) (now (pages .entry)))
+    ensures { λ r. ⌜ ((s : SoundLedger (ledgerWith parts (now (cells .entry)) (now (waiting .entry)) (now (memo .entry)) (now (on .entry)))
+        (now (pages .entry)))
         → AfterRange (s .store) (rectOf area) minute parts (now (buffer .entry)) r (now (buffer .exit))) ⌝ }
 {
     let told = range::list(pages, area, minute, parts, cells, waiting, memo, on, buffer);
-    answered(parts, told.number, told.count)
+    answered(parts, told.number, told.count as u64)
 }
 
 // ---- a record
 
 // One record on a sound store: carried out, or turned down under 3 to 13. The watches follow an accepted sign-on, report or sign-off.
-fn carry_sound<'a>(
+pub fn carry_sound<'a>(
     parts: Parts,
     cells: &'a mut [u16; Desk::CELL_WORDS],
     waiting: &'a mut [u16; Desk::WAITING_WORDS],

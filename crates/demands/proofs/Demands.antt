@@ -5,18 +5,23 @@ use mathlib.Core.Option.{none, some}
 use mathlib.Core.Path.{_≡_, refl, sym, ap, _∙_, subst}
 use Prim.Native.Nat.{ℕ}
 use native.Mathlib.Omega.{arith}
-use lib.Dec.{eqb, leb}
-use lib.ListN.{set, replicate}
+use lib.Dec.{eqb, leb, ltb}
+use lib.ListN.{length, set, replicate}
 use borrow.Author.Tests.{eqb-true}
+use Rattle.terms.specs.Terms.{Fix}
+use Rattle.lists.specs.Rows.{Rows}
 use Rattle.lists.specs.Tests.{either, isSome}
 use Rattle.lists.specs.Words.{Bytes}
 use Rattle.lists.proofs.Cases.{by-cases}
+use Rattle.csv.specs.Csv.{fileOf}
+use Rattle.rules.specs.Everyone.{everyone, plainEveryone}
 use Rattle.rules.specs.Grid.{Rect, isReversed}
 use Rattle.rules.specs.Store.{Store, fresh}
 use Rattle.rules.specs.Carry.{carry}
 use Rattle.rules.specs.Plain.{Plain, plainFresh, plainStep}
+use Rattle.rules.specs.Told.{Told, toldFile}
 use Rattle.rules.specs.Watches.{maxWatches, Watch, watchAt, Watched, RightWatches, freshWatched}
-use Rattle.rules.specs.Calls.{Call, hands, sets, clears, carryRecord, setRefusal, clearRefusal, numbered, watchCall, carryCall, plainCall}
+use Rattle.rules.specs.Calls.{Call, hands, sets, clears, writes, carryRecord, filed, setRefusal, clearRefusal, numbered, watchCall, carryCall, plainCall}
 use Rattle.rules.specs.WellFormed.{WellFormed}
 use Rattle.rules.proofs.LinkLaws.{Link, fresh-link}
 use Rattle.rules.proofs.PlainLaws.{step-link}
@@ -31,6 +36,7 @@ use Rattle.desk.specs.Call.{After, handed, Answers, laidOut}
 use Rattle.desk.proofs.CallLaws.{answers-sound}
 use Rattle.desk.proofs.PagesLaws.{laid-pages}
 use Rattle.desk.proofs.FreshLaws.{fresh-laid, fresh-well, fresh-right}
+use Rattle.spreadsheet.proofs.EveryoneLaws.{everyone-same}
 use Rattle.demands.specs.Trace.{InBytes, Trace, begun, called, freshDesk, deskCuts, watchesThen, watchesSet, EveryState, Step, EveryCall}
 use Rattle.demands.specs.Demands.{toldCall, AsTold, Demand2, Kept, HadSpace, NotRefused, Demand3}
 use Rattle.demands.proofs.KeptLaws.{deskAt, kept, desk-cuts}
@@ -75,6 +81,18 @@ outcome {d} {b} {x} {l} k bytes buffer {y} e small =
       link = rw cuts (step-link (k .store) x bytes buffer small (k .well) (k .link));
     }
 
+-- a file that is written changes neither store nor watches
+unfoldable pub wrote : {d : Desk} {b : List ℕ} {x : Plain} {l : List Watch} (k : Beside d b x l) (t : Told) {y : After} → y ≡ laidOut (filed t (watched k)) → Beside (y .desk) (y .pages) x l
+unfolding laidOut
+wrote k t {y} e = record {
+  store = k .store;
+  well = k .well;
+  right = k .right;
+  held = ap (λ (a : After). a .desk) e;
+  laid = subst (λ (n : List ℕ). Laid (k .store) n) (sym (ap (λ (a : After). a .pages) e)) (laid-pages (k .store) (k .well .once));
+  link = k .link;
+}
+
 -- a call that changes the watches, or nothing
 unfoldable pub rewatched : {d : Desk} {b : List ℕ} {x : Plain} {l : List Watch} (k : Beside d b x l) (z : List Watch) (number : ℕ) (buffer : List ℕ) → RightWatches z → {y : After}
     → y ≡ laidOut (numbered number (record { store = k .store; watches = z }) buffer) → Beside (y .desk) (y .pages) x z
@@ -99,6 +117,7 @@ right-then (hands bytes) h = h
 right-then (sets w rect) {l} h =
     by-cases (eqb (setRefusal w rect) 0) (λ t. rw t (right-set l w (some rect) (upright w rect t) h)) (λ t. rw t h)
 right-then (clears w) {l} h = by-cases (eqb (clearRefusal w l) 0) (λ t. rw t (right-set l w none tt h)) (λ t. rw t h)
+right-then writes h = h
 
 -- under number 0 the watches are changed, under any other all stays
 pub watched-then : (s : Store) (l : List Watch) (number w : ℕ) (watch : Watch) (buffer : List ℕ)
@@ -115,6 +134,7 @@ follows {l = l} k (sets w rect) buffer e small =
     rewatched k (watchesThen (sets w rect) l) (setRefusal w rect) buffer (right-then (sets w rect) (k .right)) (e ∙ ap laidOut (watched-then (k .store) l (setRefusal w rect) w (some rect) buffer))
 follows {l = l} k (clears w) buffer e small =
     rewatched k (watchesThen (clears w) l) (clearRefusal w l) buffer (right-then (clears w) (k .right)) (e ∙ ap laidOut (watched-then (k .store) l (clearRefusal w l) w none buffer))
+follows k writes buffer e small = wrote k (toldFile (fileOf (everyone (k .store))) buffer) e
 
 pub beside : {d : Desk} {b : List ℕ} {x : Plain} (t : Trace d b x) → Beside d b x (watchesSet t)
 unfolding watchesSet
@@ -149,6 +169,14 @@ module _ {d : Desk} {b : List ℕ} {x : Plain} {l : List Watch} (k : Beside d b 
       }
   as-told (sets w rect) buffer a = let t = watch-told (setRefusal w rect) w (some rect) buffer (answers-sound a (sound k)) in record { number = t .0; count = t .1; buffer = t .2 }
   as-told (clears w) buffer a = let t = watch-told (clearRefusal w l) w none buffer (answers-sound a (sound k)) in record { number = t .0; count = t .1; buffer = t .2 }
+  as-told writes buffer a =
+      let c = answers-sound a (sound k) in
+      let t = ap (λ (r : Rows Fix). toldFile (fileOf r) buffer) (everyone-same (k .store) x (k .link) (well-core (k .store) (k .well) .signed)) in
+      record {
+        number = ap (λ (z : After). z .number) c ∙ ap (λ (z : Told). z .number) t;
+        count = ap (λ (z : After). z .count) c ∙ ap (λ (z : Told). z .count) t;
+        buffer = ap (λ (z : After). z .buffer) c ∙ ap (λ (z : Told). z .buffer) t;
+      }
 
 every-told : {d : Desk} {b : List ℕ} {x : Plain} (t : Trace d b x) → EveryCall AsTold t
 every-told begun = tt
@@ -169,16 +197,22 @@ set-not-2 w rect e = by-cases (leb maxWatches w) (λ t. absurd (omega (arith, rw
 clear-not-2 : (w : ℕ) (l : List Watch) → clearRefusal w l ≡ 2 → ⊥
 clear-not-2 w l e = by-cases (either (leb maxWatches w) (not (isSome (watchAt l w)))) (λ t. absurd (omega (arith, rw t at e))) (λ t. absurd (omega (arith, rw t at e)))
 
--- number 2 is no refusal of a record's or a watch's, nor is 11 one of a sign-on or report
+file-not-2 : (file room : List ℕ) → toldFile file room .number ≡ 2 → ⊥
+unfolding toldFile
+file-not-2 file room = by-cases (ltb (length room) (length file)) (λ t. rw t (λ e. omega arith)) (λ t. rw t (λ e. omega arith))
+
+-- number 2 is no refusal of a record's, a watch's or a file's, nor is 11 one of a sign-on or report
 told-sound : (x : Plain) (l : List Watch) (call : Call) (room : List ℕ) → toldCall x l call room .number ≡ 2 → ⊥
 told-sound x l (hands bytes) room e = told-not-2 x bytes room e
 told-sound x l (sets w rect) room e = set-not-2 w rect e
 told-sound x l (clears w) room e = clear-not-2 w l e
+told-sound x l writes room e = file-not-2 (fileOf (plainEveryone x)) room e
 
 told-space : (x : Plain) (l : List Watch) (call : Call) (room : List ℕ) {number : ℕ} → number ≡ toldCall x l call room .number → HadSpace x call number
 told-space x l (hands bytes) room t = λ q e. t ∙ told-zero x bytes room q e
 told-space x l (sets w rect) room t = tt
 told-space x l (clears w) room t = tt
+told-space x l writes room t = tt
 
 not-refused : (c : Step) → AsTold c → NotRefused c
 not-refused c t = record {

@@ -28,7 +28,7 @@ use Rattle.rules.specs.Records.{requestOf}
 use Rattle.rules.specs.Carry.{carry}
 use Rattle.rules.specs.Plain.{Plain, plainStep}
 use Rattle.rules.specs.Watches.{Watch}
-use Rattle.rules.specs.Calls.{Call, hands, sets, clears, carryRecord, carryCall, plainCall}
+use Rattle.rules.specs.Calls.{Call, hands, sets, clears, writes, carryRecord, carryCall, plainCall}
 use Rattle.rules.specs.WellFormed.{countIf, staleOf, WellFormed}
 use Rattle.rules.specs.Parts.{Rowed, Clean}
 use Rattle.rules.specs.Lasting.{isCounted, lastingRecords}
@@ -43,7 +43,7 @@ use Rattle.desk.proofs.CallLaws.{answers-sound}
 use Rattle.demands.specs.Trace.{InBytes, Trace, begun, called, deskCuts, watchesSet}
 use Rattle.demands.specs.Lasting.{isEntry, entriesAt, isRecord, recordsSince, Lasting, LastingLess, OneEntry}
 use Rattle.demands.proofs.KeptLaws.{pages-sum, stale-flushed}
-use Rattle.demands.proofs.Demands.{Beside, watched, sound, begins, outcome, rewatched, follows}
+use Rattle.demands.proofs.Demands.{Beside, watched, sound, begins, outcome, rewatched, wrote, follows}
 
 sum-le-among : {A : Type 0} (f g : A → ℕ) (l : List A) → ((x : A) → Among l x → f x ≤ g x) → sumBy f l ≤ sumBy g l
 unfolding sumBy
@@ -171,7 +171,7 @@ module _ {d : Desk} {b : List ℕ} {x : Plain} (t : Trace d b x) (k : Aged t) wh
   )
 
   aged-called : (call : Call) (buffer : List ℕ) (y : After) (small : InBytes call) (a : Answers (handed d b call buffer) y) → Aged (called t call buffer y small a)
-  unfolding watchesSet follows rewatched isRecord carryCall
+  unfolding watchesSet follows rewatched wrote isRecord carryCall
   aged-called (hands bytes) buffer y small a =
       let e = answers-sound a (sound (k .beside)) in
       record {
@@ -189,6 +189,10 @@ module _ {d : Desk} {b : List ℕ} {x : Plain} (t : Trace d b x) (k : Aged t) wh
   aged-called (clears w) buffer y small a = record {
     beside = follows (k .beside) (clears w) buffer (answers-sound a (sound (k .beside))) small;
     soon = λ r p. soon-same (clears w) buffer y small a r p refl refl;
+  }
+  aged-called writes buffer y small a = record {
+    beside = follows (k .beside) writes buffer (answers-sound a (sound (k .beside))) small;
+    soon = λ r p. soon-same writes buffer y small a r p refl refl;
   }
 
 aged : {d : Desk} {b : List ℕ} {x : Plain} (t : Trace d b x) → Aged t

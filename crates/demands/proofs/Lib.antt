@@ -1,4 +1,5 @@
 pub mod Demands
+pub mod Files
 pub mod KeptLaws
 pub mod Lasting
 pub mod Same

@@ -18,12 +18,15 @@ use Rattle.lists.specs.Words.{Bytes}
 use Rattle.lists.proofs.BitsLaws.{bit-bits, bits-same}
 use Rattle.lists.proofs.Cases.{by-cases}
 use Rattle.lists.proofs.PartsLaws.{length-part, getD-part, tab-ext}
+use Rattle.csv.specs.Csv.{fileOf}
+use Rattle.rules.specs.Everyone.{everyone}
 use Rattle.rules.specs.Store.{Store}
 use Rattle.rules.specs.Records.{requestOf, refusal, kindField, kindSignOn, kindReport, kindSignOff, radioField}
 use Rattle.rules.specs.Carry.{isOn, onCount, latest, carry}
 use Rattle.rules.specs.Plain.{Plain, placeOf, plainStep}
+use Rattle.rules.specs.Told.{Told, toldFile}
 use Rattle.rules.specs.Watches.{maxWatches, Watch, watchAt, isMember, latestPlace, gained, lost}
-use Rattle.rules.specs.Calls.{Call, hands, sets, clears, carryRecord, carryCall, watchCall, numbered, setRefusal, clearRefusal}
+use Rattle.rules.specs.Calls.{Call, hands, sets, clears, writes, filed, carryRecord, carryCall, watchCall, numbered, setRefusal, clearRefusal}
 use Rattle.rules.specs.WellFormed.{WellFormed}
 use Rattle.rules.proofs.LatestLaws.{latestBy, step-latest}
 use Rattle.rules.proofs.LinkLaws.{latest-same}
@@ -35,7 +38,7 @@ use Rattle.desk.proofs.CallLaws.{answers-sound}
 use Rattle.desk.proofs.UniqueLaws.{desk-watches}
 use Rattle.desk.proofs.WatchesLaws.{length-watch, length-watches, field-at, watch-laid, member-laid}
 use Rattle.demands.specs.Trace.{InBytes, Trace, begun, called, deskCuts, watchesSet, EveryState, Step, EveryCall}
-use Rattle.demands.specs.Watched.{Watching, wasMember, nowMember, Moves, Changes, MovedBy, WatchedAlways}
+use Rattle.demands.specs.Watched.{Watching, wasMember, nowMember, Moves, Changes, Stays, MovedBy, WatchedAlways}
 use Rattle.demands.proofs.Demands.{Beside, watched, sound, begins, outcome, beside, watched-then}
 
 -- ---- the watches of a desk beside its store
@@ -182,6 +185,17 @@ module _ {d : Desk} {b : List ℕ} {x : Plain} {l : List Watch} (k : Beside d b 
         ∙ sym (ap (λ (ws : List ℕ). part ws (watchFields * v) watchFields) (watches-are k) ∙ part-watch (latestPlace (k .store)) l v (omega (arith, k .right .sixteen)));
   }
 
+-- ---- a file that is written
+
+stays : {d : Desk} {b : List ℕ} {x : Plain} {l : List Watch} (k : Beside d b x l) (t : Told) (buffer : List ℕ) {y : After} → y ≡ laidOut (filed t (watched k))
+    → Stays (record { desk = d; plain = x; watches = l; call = writes; buffer = buffer; after = y })
+unfolding laidOut
+stays k t buffer e = record {
+  none-gained = ap (λ (a : After). a .gained) e;
+  none-lost = ap (λ (a : After). a .lost) e;
+  all = ap (λ (a : After). a .desk) e ∙ sym (k .held);
+}
+
 -- ---- over the whole list
 
 moved-by : {d : Desk} {b : List ℕ} {x : Plain} {l : List Watch} (k : Beside d b x l) (call : Call) (buffer : List ℕ) (y : After) → InBytes call → Answers (handed d b call buffer) y
@@ -190,6 +204,7 @@ unfolding carryCall
 moved-by k (hands bytes) buffer y small a = moves k bytes buffer (answers-sound a (sound k)) small
 moved-by {l = l} k (sets w rect) buffer y small a = changes k (setRefusal w rect) w (some rect) (sets w rect) buffer (answers-sound a (sound k))
 moved-by {l = l} k (clears w) buffer y small a = changes k (clearRefusal w l) w none (clears w) buffer (answers-sound a (sound k))
+moved-by k writes buffer y small a = stays k (toldFile (fileOf (everyone (k .store))) buffer) buffer (answers-sound a (sound k))
 
 every-state : {d : Desk} {b : List ℕ} {x : Plain} (t : Trace d b x) → EveryState Watching t
 unfolding watchesSet

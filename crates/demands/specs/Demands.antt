@@ -12,14 +12,16 @@ use Rattle.lists.specs.Rows.{Row}
 use Rattle.lists.specs.Sums.{sumBy, sumTo, concat, count}
 use Rattle.lists.specs.Tests.{one-if, both, either}
 use Rattle.lists.specs.Words.{wide}
+use Rattle.csv.specs.Csv.{fileOf}
 use Rattle.page.specs.Page.{next, entries}
 use Rattle.page.specs.Buffer.{pageAt}
 use Rattle.rules.specs.Records.{kindField, kindSignOn, kindReport}
 use Rattle.rules.specs.Sweep.{isAt}
 use Rattle.rules.specs.Plain.{Plain, plainRefusal}
-use Rattle.rules.specs.Told.{Told, told}
+use Rattle.rules.specs.Told.{Told, told, toldFile}
+use Rattle.rules.specs.Everyone.{plainEveryone}
 use Rattle.rules.specs.Watches.{Watch}
-use Rattle.rules.specs.Calls.{Call, hands, sets, clears, setRefusal, clearRefusal}
+use Rattle.rules.specs.Calls.{Call, hands, sets, clears, writes, setRefusal, clearRefusal}
 use Rattle.desk.specs.declared.Desk.{Desk}
 use Rattle.desk.specs.declared.Line.{Line}
 use Rattle.desk.specs.declared.Report.{Report}
@@ -28,11 +30,13 @@ use Rattle.demands.specs.Trace.{Trace, EveryState, Step, EveryCall}
 
 -- ---- Demand 2
 
--- what is answered: to a record what the plain rule says; to a watch that is set or cleared its number, which the watches that are set decide
+-- what is answered: to a record what the plain rule says; to a watch that is set or cleared its number, which the watches that are set decide; the file of all
+-- radios on, by the plain rule
 abbrev pub toldCall : Plain → List Watch → Call → List ℕ → Told
 toldCall x l (hands bytes) room = told x bytes room
 toldCall x l (sets w rect) room = record { number = setRefusal w rect; count = 0; buffer = room }
 toldCall x l (clears w) room = record { number = clearRefusal w l; count = 0; buffer = room }
+toldCall x l writes room = toldFile (fileOf (plainEveryone x)) room
 
 -- each call is answered so: number, count and answer buffer
 pub record AsTold (c : Step) : Type 0 where
@@ -112,6 +116,7 @@ abbrev pub HadSpace : Plain → Call → ℕ → Type 0
 HadSpace x (hands bytes) number = either (eqb (kindField bytes) kindSignOn) (eqb (kindField bytes) kindReport) ≡ true → plainRefusal x bytes ≡ 0 → number ≡ 0
 HadSpace x (sets w rect) number = Unit {0}
 HadSpace x (clears w) number = Unit {0}
+HadSpace x writes number = Unit {0}
 
 -- what holds of each call
 pub record NotRefused (c : Step) : Type 0 where

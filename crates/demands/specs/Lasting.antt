@@ -14,7 +14,7 @@ use Rattle.rules.specs.Grid.{samePlace}
 use Rattle.rules.specs.Records.{requestOf}
 use Rattle.rules.specs.Sweep.{isAt}
 use Rattle.rules.specs.Plain.{Plain}
-use Rattle.rules.specs.Calls.{Call, hands, sets, clears, plainCall}
+use Rattle.rules.specs.Calls.{Call, hands, sets, clears, writes, plainCall}
 use Rattle.rules.specs.Lasting.{isCounted, lastingRecords}
 use Rattle.desk.specs.declared.Desk.{Desk}
 use Rattle.desk.specs.Call.{After}
@@ -37,6 +37,7 @@ unfoldable pub isRecord : Call → After → Bool
 isRecord (hands bytes) y = both (eqb (y .number) 0) (isCounted (requestOf bytes))
 isRecord (sets w rect) y = false
 isRecord (clears w) y = false
+isRecord writes y = false
 
 -- how many such records came "after" the one in which an entry of radio r at place p "became stale": none while p is the last place flushed for r, nor at
 -- the end of the very record after which it is so no longer. "one added later for that radio, even at the same place, is another entry": to add one is to

@@ -1,5 +1,5 @@
 -- Lists of calls from a fresh store, the plain rule beside them (01, "The plain rule": "Each call gets desk and pages as the last one returned or left
--- them, with record bytes and answer buffer of its own."). 02, Job 5: the calls that set and clear a watch are among them.
+-- them, with record bytes and answer buffer of its own."). The calls that set and clear a watch (02, Job 5) or write a file (Job 6) are among them.
 use mathlib.Core.Bool.{cond}
 use mathlib.Core.List.{List}
 use mathlib.Core.Option.{none, some}
@@ -10,7 +10,7 @@ use Rattle.lists.specs.Words.{Bytes}
 use Rattle.rules.specs.Grid.{Cuts}
 use Rattle.rules.specs.Plain.{Plain, plainFresh}
 use Rattle.rules.specs.Watches.{maxWatches, Watch, freshWatched}
-use Rattle.rules.specs.Calls.{Call, hands, sets, clears, setRefusal, clearRefusal, plainCall}
+use Rattle.rules.specs.Calls.{Call, hands, sets, clears, writes, setRefusal, clearRefusal, plainCall}
 use Rattle.desk.specs.declared.Desk.{Desk}
 use Rattle.desk.specs.Layout.{deskOf, freshPages}
 use Rattle.desk.specs.Call.{After, handed, Answers}
@@ -31,6 +31,7 @@ abbrev pub InBytes : Call → Type 0
 InBytes (hands bytes) = Bytes bytes
 InBytes (sets w rect) = Unit {0}
 InBytes (clears w) = Unit {0}
+InBytes writes = Unit {0}
 
 -- a list of calls: the desk and the pages that it leaves, and where the plain rule stands
 pub data Trace : Desk → List ℕ → Plain → Type 0 where
@@ -45,6 +46,7 @@ abbrev pub watchesThen : Call → List Watch → List Watch
 watchesThen (hands bytes) l = l
 watchesThen (sets w rect) l = cond (eqb (setRefusal w rect) 0) (set l w (some rect)) l
 watchesThen (clears w) l = cond (eqb (clearRefusal w l) 0) (set l w none) l
+watchesThen writes l = l
 
 unfoldable pub watchesSet : {d : Desk} {b : List ℕ} {x : Plain} → Trace d b x → List Watch
 watchesSet begun = replicate maxWatches none

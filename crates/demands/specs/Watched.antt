@@ -11,7 +11,7 @@ use Rattle.lists.specs.Tests.{both}
 use Rattle.rules.specs.Plain.{Plain, placeOf, plainStep}
 use Rattle.rules.specs.Records.{radioField}
 use Rattle.rules.specs.Watches.{maxWatches, Watch, watchAt, isMember}
-use Rattle.rules.specs.Calls.{Call, hands, sets, clears}
+use Rattle.rules.specs.Calls.{Call, hands, sets, clears, writes}
 use Rattle.desk.specs.declared.Desk.{Desk}
 use Rattle.desk.specs.Layout.{watchFields}
 use Rattle.desk.specs.Views.{watchIn, memberIn}
@@ -53,10 +53,17 @@ pub record Changes (c : Step) (w : ℕ) : Type 0 where
   pub none-lost : c .after .lost ≡ 0
   pub others : (v : ℕ) → v < maxWatches → v ≢ w → watchPart (c .after .desk) v ≡ watchPart (c .desk) v
 
+-- a file that is written
+pub record Stays (c : Step) : Type 0 where
+  pub none-gained : c .after .gained ≡ 0
+  pub none-lost : c .after .lost ≡ 0
+  pub all : c .after .desk ≡ c .desk
+
 abbrev pub MovedBy : Step → Call → Type 0
 MovedBy c (hands bytes) = Moves c bytes
 MovedBy c (sets w rect) = Changes c w
 MovedBy c (clears w) = Changes c w
+MovedBy c writes = Stays c
 
 -- ---- the claim about the whole list
 

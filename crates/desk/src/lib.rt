@@ -81,25 +81,32 @@ pub struct Desk {
     pub watches: [u16; Desk::WATCHES_WORDS],
 }
 
-// What a call answers: 0 or the number of the check that turned it down, what it counted, and the watches that gained, or lost, the radio of an accepted
-// record, a bit for each.
+// What a call answers: 0 or the number of the check that turned it down, the watches that gained, or lost, the radio of an accepted record, a bit for each,
+// and what it counted: a file may have any number of lines.
 #[repr(C)]
 pub struct Answer {
     pub number: u16,
-    pub count: u16,
     pub gained: u16,
     pub lost: u16,
+    pub count: u64,
 }
 
 // A number, and 0 for all else: "these, and whatever later requests add to the answer, are 0 where nothing else is said".
 pub fn numbered(number: u16) -> Answer
     ensures { λ r. ⌜ r ≡ record { number = number; count = 0; gained = 0; lost = 0 } ⌝ }
 {
+    counted(number, 0)
+}
+
+// A number and a count.
+pub fn counted(number: u16, count: u64) -> Answer
+    ensures { λ r. ⌜ r ≡ record { number = number; count = count; gained = 0; lost = 0 } ⌝ }
+{
     Answer {
         number,
-        count: 0,
         gained: 0,
         lost: 0,
+        count,
     }
 }
 

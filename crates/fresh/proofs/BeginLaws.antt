@@ -19,9 +19,11 @@ use Rattle.rules.specs.Store.{fresh}
 use Rattle.rules.specs.Watches.{freshWatched}
 use Rattle.desk.specs.declared.Answer.{Answer}
 use Rattle.desk.specs.declared.Desk.{Desk}
+use Rattle.desk.specs.Held.{deskWith}
 use Rattle.desk.specs.Layout.{deskOf, pagesOf, freshPages}
 use Rattle.desk.proofs.FreshLaws.{fresh-laid, fresh-pages}
-use Rattle.fresh.specs.Begin.{Found, made, numbered, Begins}
+use Rattle.desk.specs.Making.{Found, made, numbered}
+use Rattle.fresh.specs.Begin.{Begins}
 
 -- ---- the pages
 
@@ -107,3 +109,10 @@ begins-refused x n e = record { size = λ _. ap (λ (z : Answer). made z (x .des
 
 pub begins-made : (x : Found) {a : Answer} {d : Desk} {p : List ℕ} → length (x .pages) ≡ bufferBytes → a ≡ numbered 0 → d ≡ deskOf freshWatched → p ≡ pagesOf fresh → Begins x (made a d p)
 begins-made x l g e f = record { size = λ n. absurd (n l); begun = λ _. cc }
+
+-- ---- a desk whose arrays are lent
+
+-- the desk of a desk's parts and of its arrays, each copied
+pub copied-desk : (f : Desk) {d : Desk} {cells waiting memo on watches : List ℕ} → f ≡ d → cells ≡ f .cells → waiting ≡ f .waiting → memo ≡ f .memo → on ≡ f .on → watches ≡ f .watches
+    → deskWith (f .parts) cells waiting memo on watches ≡ d
+copied-desk f e c w m o a = (λ i. deskWith (f .parts) (c i) (w i) (m i) (o i) (a i)) ∙ e

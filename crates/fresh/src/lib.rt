@@ -9,10 +9,15 @@ ghost use Rattle.lists.specs.Parts.{put};
 ghost use Rattle.page.specs.Page.{pageBytes};
 ghost use Rattle.page.specs.Buffer.{bufferBytes};
 ghost use Rattle.rules.specs.Store.{fresh};
-ghost use Rattle.desk.specs.Layout.{pagesOf, freshPages};
-ghost use Rattle.fresh.specs.Begin.{found, made, Begins};
+ghost use Rattle.rules.specs.Watches.{freshWatched};
+ghost use Rattle.desk.specs.Held.{deskWith};
+ghost use Rattle.desk.specs.Layout.{deskOf, pagesOf, freshPages};
+ghost use Rattle.desk.specs.Sizes.{DeskArrays};
+ghost use Rattle.desk.specs.Making.{found, made};
+ghost use Rattle.fresh.specs.Begin.{Begins};
 use desk::Answer;
 use desk::Desk;
+use desk::Parts;
 use entries::TABLE_WORDS;
 use page::BUFFER_BYTES;
 use terms::NO_PAGE;
@@ -83,4 +88,43 @@ pub fn begin(desk: Desk, pages: &mut [u8]) -> Begun
         desk: Desk::fresh(),
         answer: desk::numbered(0),
     }
+}
+
+// ---- on a desk whose arrays are lent
+
+// The arrays are those of a fresh desk, whatever they held; its parts are answered.
+fn lay_arrays<'a>(
+    cells: &'a mut [u16; Desk::CELL_WORDS],
+    waiting: &'a mut [u16; Desk::WAITING_WORDS],
+    memo: &'a mut [u16; Desk::MEMO_WORDS],
+    on: &'a mut [u16; Desk::MAX_ON],
+    watches: &'a mut [u16; Desk::WATCHES_WORDS],
+) -> Parts
+    requires { ⌜ DeskArrays (now cells) (now waiting) (now memo) (now on) (now watches) ⌝ }
+    ensures { λ r. ⌜ deskWith r (now (cells .exit)) (now (waiting .exit)) (now (memo .exit)) (now (on .exit)) (now (watches .exit)) ≡ deskOf freshWatched ⌝ }
+{
+    let fresh = Desk::fresh();
+    lists::copy(&fresh.cells, cells);
+    lists::copy(&fresh.waiting, waiting);
+    lists::copy(&fresh.memo, memo);
+    lists::copy(&fresh.on, on);
+    lists::copy(&fresh.watches, watches);
+    fresh.parts
+}
+
+// Desk and pages are those of a fresh store, whatever they held.
+pub fn lay_out<'a>(
+    cells: &'a mut [u16; Desk::CELL_WORDS],
+    waiting: &'a mut [u16; Desk::WAITING_WORDS],
+    memo: &'a mut [u16; Desk::MEMO_WORDS],
+    on: &'a mut [u16; Desk::MAX_ON],
+    watches: &'a mut [u16; Desk::WATCHES_WORDS],
+    pages: &mut [u8],
+) -> Parts
+    requires { ⌜ DeskArrays (now cells) (now waiting) (now memo) (now on) (now watches) × (length (now pages) ≡ bufferBytes) ⌝ }
+    ensures { λ r. ⌜ (deskWith r (now (cells .exit)) (now (waiting .exit)) (now (memo .exit)) (now (on .exit)) (now (watches .exit)) ≡ deskOf freshWatched)
+        × (now (pages .exit) ≡ pagesOf fresh) ⌝ }
+{
+    write_pages(pages);
+    lay_arrays(cells, waiting, memo, on, watches)
 }

@@ -20,7 +20,8 @@ use Rattle.desk.specs.declared.Desk.{Desk}
 use Rattle.desk.specs.Call.{After, handed, left, Answers}
 use Rattle.desk.specs.Layout.{freshPages}
 use Rattle.desk.proofs.FreshLaws.{fresh-pages}
-use Rattle.fresh.specs.Begin.{Found, Made, Begins}
+use Rattle.desk.specs.Making.{Found, Made}
+use Rattle.fresh.specs.Begin.{Begins}
 use Rattle.demands.specs.Trace.{freshDesk, deskCuts, Trace, begun, called, EveryCall}
 use Rattle.demands.specs.Demands.{AsTold, WholeList}
 use Rattle.demands.proofs.Demands.{demand2, demand3}

@@ -11,7 +11,7 @@ use Rattle.lists.specs.Words.{Bytes}
 use Rattle.rules.specs.Records.{lengthField}
 use Rattle.rules.specs.Carry.{listBytes}
 use Rattle.rules.specs.Plain.{Plain}
-use Rattle.rules.specs.Calls.{hands, sets, clears}
+use Rattle.rules.specs.Calls.{hands, sets, clears, writes}
 use Rattle.desk.specs.declared.Answer.{Answer}
 use Rattle.desk.specs.declared.Desk.{Desk}
 use Rattle.desk.specs.Call.{After, handed, left, Answers}
@@ -66,6 +66,7 @@ recordsOf begun = []
 recordsOf (called before (hands bytes) buffer y small a) = recordsOf before ++ recordBy bytes (y .number)
 recordsOf (called before (sets w rect) buffer y small a) = recordsOf before
 recordsOf (called before (clears w) buffer y small a) = recordsOf before
+recordsOf (called before writes buffer y small a) = recordsOf before
 
 -- desk and pages are what these calls leave
 pub record Printed (desk : Desk) (pages hand : List ℕ) : Type 0 where

@@ -227,8 +227,8 @@ fn print_refused(number: u16) -> bool {
     print(b"\n")
 }
 
-fn print_found(n: u16, list: &[u8]) -> bool {
-    if !print_number(b" found ", n as u64) {
+fn print_found(n: u64, list: &[u8]) -> bool {
+    if !print_number(b" found ", n) {
         return false;
     }
     if !print(b"\n") {

@@ -29,7 +29,8 @@ use Rattle.desk.specs.declared.Desk.{Desk}
 use Rattle.desk.specs.Layout.{deskOf, pagesOf}
 use Rattle.desk.specs.Call.{After, handed, Answers}
 use Rattle.desk.proofs.FreshLaws.{fresh-pages}
-use Rattle.fresh.specs.Begin.{Found as Begin·Found, Made, Begins}
+use Rattle.desk.specs.Making.{Found as Begin·Found, Made}
+use Rattle.fresh.specs.Begin.{Begins}
 use Rattle.demands.specs.Trace.{deskCuts, Trace, begun, called, watchesSet, EveryCall}
 use Rattle.demands.specs.Demands.{AsTold, WholeList}
 use Rattle.demands.proofs.Demands.{demand2, demand3}

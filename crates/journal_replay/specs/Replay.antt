@@ -11,7 +11,7 @@ use Rattle.page.specs.Buffer.{bufferBytes}
 use Rattle.rules.specs.Records.{lengthField}
 use Rattle.rules.specs.Carry.{listBytes}
 use Rattle.rules.specs.Plain.{Plain}
-use Rattle.rules.specs.Calls.{hands, sets, clears}
+use Rattle.rules.specs.Calls.{hands, sets, clears, writes}
 use Rattle.desk.specs.declared.Desk.{Desk}
 use Rattle.desk.specs.Call.{After}
 use Rattle.demands.specs.Trace.{Trace, begun, called}
@@ -28,6 +28,7 @@ Leaves journal begun left = left ≡ journal
 Leaves journal (called before (hands bytes) buffer y small a) left = Leaves journal before bytes × (0 < length bytes) × (left ≡ leftBy bytes (y .number))
 Leaves journal (called before (sets w rect) buffer y small a) left = ⊥
 Leaves journal (called before (clears w) buffer y small a) left = ⊥
+Leaves journal (called before writes buffer y small a) left = ⊥
 
 -- ---- the answers
 

@@ -5,7 +5,7 @@ ghost use mathlib.Core.Path.{_≡_};
 ghost use Prim.Native.Nat.{_+_, _≤_, _<_};
 ghost use lib.Dec.{eqb};
 ghost use lib.ListN.{length, drop};
-ghost use Rattle.terms.specs.Terms.{fieldBytes};
+ghost use Rattle.terms.specs.Terms.{fieldBytes, maxOn};
 ghost use Rattle.lists.specs.Parts.{put};
 ghost use Rattle.lists.specs.Words.{le};
 ghost use Rattle.rules.specs.Records.{lengthField, notAtHand};
@@ -34,16 +34,17 @@ pub struct Replayed {
     pub run: Run,
 }
 
-// Number and count at `at`, and every other byte is kept.
+// Number and count at `at`, and every other byte is kept. A record counts radios on, so that its count fits a field.
 fn write_answer(out: &mut [u8], at: usize, answer: Answer)
-    requires { ⌜ at + answerBytes ≤ length (now out) ⌝ }
+    requires { ⌜ (at + answerBytes ≤ length (now out)) × (answer .count ≤ maxOn) ⌝ }
     ensures { λ _. ⌜ now (out .exit) ≡ put (now (out .entry)) at (le fieldBytes (answer .number) ++ le fieldBytes (answer .count)) ⌝ }
 {
     fields::write(out, at, answer.number);
-    fields::write(out, at + 2, answer.count);
+    fields::write(out, at + 2, answer.count as u16);
 }
 
 fn listed_bytes(answer: Answer) -> usize
+    requires { ⌜ answer .count ≤ maxOn ⌝ }
     ensures { λ r. ⌜ r ≡ listedBytes (answer .number) (answer .count) ⌝ }
 {
     if answer.number != 0 {

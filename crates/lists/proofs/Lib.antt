@@ -2,6 +2,7 @@ pub mod AmongLaws
 pub mod BitsLaws
 pub mod Cases
 pub mod ChainsLaws
+pub mod CopyLaws
 pub mod MapLaws
 pub mod PartsLaws
 pub mod RowsLaws

@@ -1,4 +1,4 @@
--- The calls on a sound store: a record, and since 02, Job 5, the two that aren't records, which set and clear a watch. What each answers and leaves.
+-- The calls on a sound store: a record, and those that 02 adds, which set and clear a watch (Job 5) and write a file (Job 6). What each answers and leaves.
 use mathlib.Core.Bool.{not, cond}
 use mathlib.Core.List.{List}
 use mathlib.Core.Option.{none, some}
@@ -6,10 +6,13 @@ use Prim.Native.Nat.{ℕ}
 use lib.Dec.{eqb, leb}
 use lib.ListN.{set}
 use Rattle.lists.specs.Tests.{either, isSome}
+use Rattle.csv.specs.Csv.{fileOf}
 use Rattle.rules.specs.Grid.{Rect, Cuts, isReversed}
 use Rattle.rules.specs.Records.{radioField}
 use Rattle.rules.specs.Carry.{carry}
 use Rattle.rules.specs.Plain.{Plain, plainStep}
+use Rattle.rules.specs.Told.{Told, toldFile}
+use Rattle.rules.specs.Everyone.{everyone}
 use Rattle.rules.specs.Watches.{maxWatches, Watch, watchAt, Watched, latestPlace, gained, lost}
 
 pub data Call : Type 0 where
@@ -18,6 +21,8 @@ pub data Call : Type 0 where
   -- "set and cleared by calls that aren't records, setting again meaning replaced"
   sets : ℕ → Rect → Call
   clears : ℕ → Call
+  -- "Write all radios on as comma-separated lines"
+  writes : Call
 
 -- what is answered, and what answer buffer and store then hold. "these, and whatever later requests add to the answer, are 0 where nothing else is said"
 pub record Result : Type 0 where
@@ -63,15 +68,23 @@ clearRefusal w watches = cond (either (leb maxWatches w) (not (isSome (watchAt w
 unfoldable pub watchCall : ℕ → ℕ → Watch → Watched → List ℕ → Result
 watchCall number w watch x buffer = cond (eqb number 0) (numbered 0 (withWatch w watch x) buffer) (numbered number x buffer)
 
+-- ---- a file
+
+-- "Number 11 comes with the bytes needed if the written file doesn't fit"; else it stands at the buffer's start
+abbrev pub filed : Told → Watched → Result
+filed t x = record { number = t .number; count = t .count; gained = 0; lost = 0; buffer = t .buffer; watched = x }
+
 -- ---- the whole
 
 unfoldable pub carryCall : Call → Watched → List ℕ → Result
 carryCall (hands bytes) x buffer = carryRecord bytes x buffer
 carryCall (sets w rect) x buffer = watchCall (setRefusal w rect) w (some rect) x buffer
 carryCall (clears w) x buffer = watchCall (clearRefusal w (x .watches)) w none x buffer
+carryCall writes x buffer = filed (toldFile (fileOf (everyone (x .store))) buffer) x
 
--- the plain rule knows no watch, and stays where it is
+-- the plain rule knows no watch and no file, and stays where it is
 abbrev pub plainCall : Cuts → Call → Plain → Plain
 plainCall cuts (hands bytes) x = plainStep cuts bytes x
 plainCall cuts (sets w rect) x = x
 plainCall cuts (clears w) x = x
+plainCall cuts writes x = x

@@ -1,6 +1,7 @@
 pub mod Calls
 pub mod Carry
 pub mod Cut
+pub mod Everyone
 pub mod Flush
 pub mod Grid
 pub mod Lasting

@@ -23,6 +23,13 @@ toldList l buffer =
     (record { number = 11; count = length l; buffer = buffer })
     (record { number = 0; count = length l; buffer = put buffer 0 (bytesOf l) })
 
+-- 11 "with the bytes needed if the written file doesn't fit"
+unfoldable pub toldFile : List ℕ → List ℕ → Told
+toldFile file buffer =
+    cond (ltb (length buffer) (length file))
+    (record { number = 11; count = length file; buffer = buffer })
+    (record { number = 0; count = length file; buffer = put buffer 0 file })
+
 unfoldable pub toldDone : Request → Plain → List ℕ → Told
 toldDone (signOn r f) x buffer = record { number = 0; count = 0; buffer = buffer }
 toldDone (report r f) x buffer = record { number = 0; count = 0; buffer = buffer }

@@ -60,7 +60,8 @@ pub fn watches_sound<'a>(
 ) -> bool
     requires { ⌜ DeskArrays (now cells) (now waiting) (now memo) (now on) (now watches)
         × SoundLedger (ledgerWith parts (now cells) (now waiting) (now memo) (now on)) (now pages) ⌝ }
-    ensures { λ r. ⌜ ((s : SoundLedger (ledgerWith parts (now (cells .entry)) (now (waiting .entry)) (now (memo .entry)) (now (on .entry))) (now (pages .entry)))
+    ensures { λ r. ⌜ ((s : SoundLedger (ledgerWith parts (now (cells .entry)) (now (waiting .entry)) (now (memo .entry)) (now (on .entry)))
+        (now (pages .entry)))
         → (r ≡ true → WatchesSound (s .store) (now (watches .entry))) × (WatchesSound (s .store) (now (watches .entry)) → r ≡ true)) ⌝ }
 {
     if sound_directory::is_clear(watches, 0) {

@@ -59,7 +59,8 @@ fn places_on(
 )
     requires { ⌜ LedgerArrays (now cells) (now waiting) (now memo) (now on) × (length (now easts) ≡ maxOn) × (length (now norths) ≡ maxOn)
         × SoundLedger (ledgerWith parts (now cells) (now waiting) (now memo) (now on)) (now pages) ⌝ }
-    ensures { λ _. ⌜ ((s : SoundLedger (ledgerWith parts (now (cells .entry)) (now (waiting .entry)) (now (memo .entry)) (now (on .entry))) (now (pages .entry)))
+    ensures { λ _. ⌜ ((s : SoundLedger (ledgerWith parts (now (cells .entry)) (now (waiting .entry)) (now (memo .entry)) (now (on .entry)))
+        (now (pages .entry)))
         → PlacesOn (latestPlace (s .store)) (now (on .entry)) (parts .on) (now (easts .exit)) (now (norths .exit))) ⌝ }
 {
     let mut all_easts = [0u16; RADIOS];
@@ -247,7 +248,8 @@ fn lay_members<'a>(
     requires { ⌜ (length (now watches) ≡ watchFields * maxWatches) × (length (now radios) ≡ maxOn) × (length (now numbers) ≡ maxOn) × (n ≤ maxOn)
         × OnceOn n (now radios) ⌝ }
     ensures { λ _. ⌜ ((places : ℕ → Option Place) (l : List Watch) → length l ≡ maxWatches → now (watches .entry) ≡ watchesOf nowhere l
-        → OnlyOn places n (now (radios .entry)) → Numbers (λ i. bits maxWatches (λ w. isMember (watchAt l w) (places (getD (now (radios .entry)) i 0)))) n (now (numbers .entry))
+        → OnlyOn places n (now (radios .entry)) → Numbers (λ i. bits maxWatches (λ w. isMember (watchAt l w) (places (getD (now (radios .entry)) i 0)))) n
+        (now (numbers .entry))
         → now (watches .exit) ≡ watchesOf places l) ⌝ }
 {
     let mut i: usize = 0;
@@ -275,7 +277,8 @@ pub fn lay_out<'a>(
     requires { ⌜ LedgerArrays (now cells) (now waiting) (now memo) (now on) × (length (now watches) ≡ watchFields * maxWatches)
         × (now blank ≡ replicate (watchFields * maxWatches) 0)
         × SoundLedger (ledgerWith parts (now cells) (now waiting) (now memo) (now on)) (now pages) ⌝ }
-    ensures { λ _. ⌜ ((s : SoundLedger (ledgerWith parts (now (cells .entry)) (now (waiting .entry)) (now (memo .entry)) (now (on .entry))) (now (pages .entry)))
+    ensures { λ _. ⌜ ((s : SoundLedger (ledgerWith parts (now (cells .entry)) (now (waiting .entry)) (now (memo .entry)) (now (on .entry)))
+        (now (pages .entry)))
         → now (blank .exit) ≡ watchesOf (latestPlace (s .store)) (watchesIn (now (watches .entry)))) ⌝ }
 {
     let mut easts = [0u16; Desk::MAX_ON];

@@ -7,15 +7,14 @@ use Prim.Native.Nat.{ℕ, _+_, _-_, _*_, _≤_, _<_}
 use native.Mathlib.Omega.{arith}
 use lib.Dec.{eqb, leb}
 use lib.ListN.{length, getD, set, replicate, length-set}
-use lib.Seq.{getD-set-same, getD-set-other, ext-getD}
-use borrow.Author.Tests.{eqb-true, eqb-false, ne-eqb, not-true, not-false, le-leb, lt-leb, leb-false}
+use lib.Seq.{getD-set-same, getD-set-other}
+use borrow.Author.Tests.{eqb-true, eqb-false, ne-eqb, le-leb, lt-leb, leb-false}
 use Rattle.terms.specs.Terms.{Place}
 use Rattle.lists.specs.Parts.{put}
 use Rattle.lists.specs.Sums.{concat}
 use Rattle.lists.specs.Tests.{either, isSome}
-use Rattle.lists.proofs.Cases.{by-cases, false-true}
+use Rattle.lists.proofs.Cases.{by-cases}
 use Rattle.lists.proofs.PartsLaws.{put-nil, put-fill, length-put, length-tab, getD-tab, tab-of}
-use Rattle.page.specs.Buffer.{bufferBytes}
 use Rattle.rules.specs.Grid.{Rect, isReversed}
 use Rattle.rules.specs.Watches.{maxWatches, Watch, watchAt, Watched, latestPlace}
 use Rattle.rules.specs.Calls.{Call, sets, clears, numbered, withWatch, setRefusal, clearRefusal, watchCall, carryCall}
@@ -25,7 +24,7 @@ use Rattle.desk.specs.Held.{deskWith, deskLedger}
 use Rattle.desk.specs.Layout.{areaFields, watchFields, watchWords, watchesOf, deskOf, pagesOf}
 use Rattle.desk.specs.Sound.{SoundLedger, Sound}
 use Rattle.desk.specs.Views.{watchIn, watchesIn}
-use Rattle.desk.specs.Call.{Before, After, handed, left, turnedDown, laidOut, CarriedOut, Answers, wrong-size, unsound, carried}
+use Rattle.desk.specs.Call.{handed, left, laidOut, CarriedOut}
 use Rattle.desk.proofs.PagesLaws.{pages-laid}
 use Rattle.desk.proofs.UniqueLaws.{sound-ledger, desk-watches}
 use Rattle.desk.proofs.WatchesLaws.{length-watches, watch-laid, watches-read, blank-watches}
@@ -200,30 +199,6 @@ module _ (d : Desk) (b : List ℕ) (s : Sound d b) (w : ℕ) where
       by-told d b s 0 (clears w) (withWatch w none (s .watched)) q refl (rewatched d b s (set l w none) laid)
       (ap (λ (m : ℕ). watchCall m w none (s .watched) []) (refusal-is f ∙ z) ∙ accepted-set w none (s .watched))
 
--- ---- numbers 1 and 2
-
-module _ (d : Desk) (b : List ℕ) (call : Call) where
-  abbrev x : Before
-  x = handed d b call []
-
-  turned : (n : ℕ) {a : Answer} → a ≡ record { number = n; count = 0; gained = 0; lost = 0 } → left a d b [] ≡ turnedDown n x
-  unfolding turnedDown
-  turned n e = ap (λ (z : Answer). left z d b []) e
-
-  pub size-answers : {a : Answer} → (length b ≡ bufferBytes → ⊥) → a ≡ record { number = 1; count = 0; gained = 0; lost = 0 } → Answers x (left a d b [])
-  size-answers n e = wrong-size n (turned 1 e)
-
-  pub unsound-answers : {t : Bool} {a : Answer} → length b ≡ bufferBytes → (Sound d b → t ≡ true) → not t ≡ true
-      → a ≡ record { number = 2; count = 0; gained = 0; lost = 0 } → Answers x (left a d b [])
-  unsound-answers {t = t} l f n e = unsound l (λ s. false-true (sym (not-true t n) ∙ f s)) (turned 2 e)
-
-  pub sound-answers : {y : After} → Sound d b → ((s : Sound d b) → CarriedOut x s y) → Answers x y
-  sound-answers s c = carried s (c s)
-
--- the test passed
-pub sound-by : {d : Desk} {b : List ℕ} (t : Bool) → (t ≡ true → Sound d b) → not t ≡ false → Sound d b
-sound-by t f e = f (not-false t e)
-
 -- ---- the loop that blanks
 
 -- the first i numbers of the watch are zero
@@ -253,27 +228,6 @@ blank-turn ws w at zs i k h =
 
 pub blank-end : (ws : List ℕ) (w at : ℕ) (zs : List ℕ) (i : ℕ) → Blanked ws w at zs i → i ≤ watchFields → watchFields ≤ i → zs ≡ put ws (watchFields * w) (replicate watchFields 0)
 blank-end ws w at zs i k h g = let e : i ≡ watchFields = omega arith in k .done ∙ ap₂ (λ (a n : ℕ). put ws a (replicate n 0)) (k .front) e
-
--- ---- the loop that copies
-
--- the first i numbers are copied
-pub record Copied (from to : List ℕ) (i : ℕ) : Type 0 where
-  pub long : length to ≡ watchFields * maxWatches
-  pub same : (j : ℕ) → j < i → getD to j 0 ≡ getD from j 0
-
-pub copy-start : (from to : List ℕ) → length to ≡ watchFields * maxWatches → Copied from to 0
-copy-start from to l = record { long = l; same = λ j h. absurd (omega arith) }
-
-pub copy-turn : (from to : List ℕ) (i : ℕ) → Copied from to i → i < watchFields * maxWatches → Copied from (set to i (getD from i 0)) (i + 1)
-copy-turn from to i k h = record {
-  long = length-set to i (getD from i 0) ∙ k .long;
-  same = λ j g. by-cases (eqb j i)
-      (λ t. let e = eqb-true j i t in ap (λ (n : ℕ). getD (set to i (getD from i 0)) n 0) e ∙ getD-set-same to i (getD from i 0) 0 (omega (arith, k .long)) ∙ sym (ap (λ (n : ℕ). getD from n 0) e))
-      (λ t. let n = eqb-false j i t in getD-set-other to i j (getD from i 0) 0 n ∙ k .same j (omega arith));
-}
-
-pub copy-end : (from to : List ℕ) (i : ℕ) → length from ≡ watchFields * maxWatches → Copied from to i → watchFields * maxWatches ≤ i → to ≡ from
-copy-end from to i l k h = ext-getD 0 to from (k .long ∙ sym l) (λ j g. k .same j (omega (arith, k .long)))
 
 -- ---- how long the arrays are
 

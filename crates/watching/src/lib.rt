@@ -42,17 +42,6 @@ fn set_refusal(watch: u16, area: Rectangle) -> u16
     0
 }
 
-fn copy<'a>(from: &'a [u16; Desk::WATCHES_WORDS], to: &'a mut [u16; Desk::WATCHES_WORDS])
-    requires { ⌜ (length (now from) ≡ watchFields * maxWatches) × (length (now to) ≡ watchFields * maxWatches) ⌝ }
-    ensures { λ _. ⌜ now (to .exit) ≡ now (from .entry) ⌝ }
-{
-    let mut i: usize = 0;
-    while i < Desk::WATCHES_WORDS {
-        to[i] = from[i];
-        i += 1;
-    }
-}
-
 // On a sound store. The watch has this rectangle and the members that it must have: "setting again meaning replaced".
 fn set_sound<'a>(
     parts: Parts,
@@ -65,13 +54,16 @@ fn set_sound<'a>(
     watch: u16,
     area: Rectangle,
 ) -> Answer
-    requires { ⌜ DeskArrays (now cells) (now waiting) (now memo) (now on) (now watches) × Sound (deskWith parts (now cells) (now waiting) (now memo) (now on) (now watches)) (now pages) ⌝ }
-    ensures { λ r. ⌜ ((s : Sound (deskWith parts (now (cells .entry)) (now (waiting .entry)) (now (memo .entry)) (now (on .entry)) (now (watches .entry))) (now (pages .entry)))
+    requires { ⌜ DeskArrays (now cells) (now waiting) (now memo) (now on) (now watches)
+        × Sound (deskWith parts (now cells) (now waiting) (now memo) (now on) (now watches)) (now pages) ⌝ }
+    ensures { λ r. ⌜ ((s : Sound (deskWith parts (now (cells .entry)) (now (waiting .entry)) (now (memo .entry)) (now (on .entry)) (now (watches .entry)))
+        (now (pages .entry)))
         → CarriedOut
         (handed (deskWith parts (now (cells .entry)) (now (waiting .entry)) (now (memo .entry)) (now (on .entry)) (now (watches .entry))) (now (pages .entry))
         (sets watch (rectOf area)) [])
         s
-        (left r (deskWith parts (now (cells .entry)) (now (waiting .entry)) (now (memo .entry)) (now (on .entry)) (now (watches .exit))) (now (pages .entry)) [])) ⌝ }
+        (left r (deskWith parts (now (cells .entry)) (now (waiting .entry)) (now (memo .entry)) (now (on .entry)) (now (watches .exit))) (now (pages .entry))
+        [])) ⌝ }
 {
     let number = set_refusal(watch, area);
     if number != 0 {
@@ -80,7 +72,7 @@ fn set_sound<'a>(
     watches::put_area(watches, watch as usize, area);
     let mut laid = [0u16; Desk::WATCHES_WORDS];
     watch_members::lay_out(pages, parts, cells, waiting, memo, on, watches, &mut laid);
-    copy(&laid, watches);
+    lists::copy(&laid, watches);
     desk::numbered(0)
 }
 
@@ -103,7 +95,8 @@ pub fn set_lent<'a>(
     ensures { λ r. ⌜ Answers
         (handed (deskWith parts (now (cells .entry)) (now (waiting .entry)) (now (memo .entry)) (now (on .entry)) (now (watches .entry))) (now (pages .entry))
         (setsWithin watch west east south north) [])
-        (left r (deskWith parts (now (cells .entry)) (now (waiting .entry)) (now (memo .entry)) (now (on .entry)) (now (watches .exit))) (now (pages .entry)) []) ⌝ }
+        (left r (deskWith parts (now (cells .entry)) (now (waiting .entry)) (now (memo .entry)) (now (on .entry)) (now (watches .exit))) (now (pages .entry))
+        []) ⌝ }
 {
     if pages.len() != BUFFER_BYTES {
         return desk::numbered(WRONG_SIZE);
@@ -178,8 +171,10 @@ pub fn clear_lent<'a>(
 ) -> Answer
     requires { ⌜ DeskArrays (now cells) (now waiting) (now memo) (now on) (now watches) ⌝ }
     ensures { λ r. ⌜ Answers
-        (handed (deskWith parts (now (cells .entry)) (now (waiting .entry)) (now (memo .entry)) (now (on .entry)) (now (watches .entry))) (now (pages .entry)) (clears watch) [])
-        (left r (deskWith parts (now (cells .entry)) (now (waiting .entry)) (now (memo .entry)) (now (on .entry)) (now (watches .exit))) (now (pages .entry)) []) ⌝ }
+        (handed (deskWith parts (now (cells .entry)) (now (waiting .entry)) (now (memo .entry)) (now (on .entry)) (now (watches .entry))) (now (pages .entry))
+        (clears watch) [])
+        (left r (deskWith parts (now (cells .entry)) (now (waiting .entry)) (now (memo .entry)) (now (on .entry)) (now (watches .exit))) (now (pages .entry))
+        []) ⌝ }
 {
     if pages.len() != BUFFER_BYTES {
         return desk::numbered(WRONG_SIZE);

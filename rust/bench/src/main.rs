@@ -5,9 +5,12 @@
 //! percentile and the greatest (`p999`, `most`); the best of the soundness test alone, on the store that the walk leaves
 //! (`test`) and on a made one with more to look at (`test-made`); the greatest time of a report on stores made to be
 //! slow (`worst-..`). The same with sixteen watches set (`..-watched`), what setting and clearing one takes, and a report
-//! with sixteen ranges after it in place of them (`report-and-ranges`). `--smoke` makes a short run; `--worst` also prints all stores that were tried for the worst;
-//! `--calls FILE` also writes the calls, records one after the other.
+//! with sixteen ranges after it in place of them (`report-and-ranges`). A file of the 512 radios, written (`csv-write`) and read
+//! (`csv-read`, and `csv-read-falling` with its lines in the opposite of the order taken), the same sign-ons as single calls without their tests
+//! (`single-sign-ons`), and files of 100,000 lines turned down (`csv-long`, `csv-long-falling`). `--smoke` makes a short run; `--worst` also prints all stores that were tried for the worst; `--calls FILE` also
+//! writes the calls, records one after the other, and `--csv FILE` the file.
 #![forbid(unsafe_code)]
+mod files;
 mod found;
 mod made;
 mod plan;
@@ -47,15 +50,16 @@ const SMOKE: Extent = Extent {
 fn main() -> ExitCode {
     let mut extent = WHOLE;
     let mut all_tried = false;
-    let mut file = None;
+    let (mut file, mut csv) = (None, None);
     let mut arguments = std::env::args().skip(1);
     while let Some(argument) = arguments.next() {
         match argument.as_str() {
             "--smoke" => extent = SMOKE,
             "--worst" => all_tried = true,
             "--calls" => file = arguments.next(),
+            "--csv" => csv = arguments.next(),
             _ => {
-                eprintln!("usage: bench [--smoke] [--worst] [--calls FILE]");
+                eprintln!("usage: bench [--smoke] [--worst] [--calls FILE] [--csv FILE]");
                 return ExitCode::from(2);
             }
         }
@@ -64,8 +68,13 @@ fn main() -> ExitCode {
     if let Some(file) = file {
         std::fs::write(file, walk.journal()).expect("the calls are written");
     }
-    print_walk(&walk, &extent);
+    let store = print_walk(&walk, &extent);
     print_watched(&walk, &extent);
+    let written = files::file_of(&store);
+    print_files(&store, &written, &extent);
+    if let Some(csv) = csv {
+        std::fs::write(csv, &written).expect("the file is written");
+    }
     let mut worst = Worst::new();
     worst.time(extent.worst, empty_timing());
     worst.print();
@@ -75,7 +84,8 @@ fn main() -> ExitCode {
     ExitCode::SUCCESS
 }
 
-fn print_walk(walk: &Walk, extent: &Extent) {
+/// Answers the store that the walk leaves.
+fn print_walk(walk: &Walk, extent: &Extent) -> Store {
     let (desk, store) = time_desk(walk, &[]);
     let plain = time_plain(walk);
     assert_eq!(desk.found, plain.found, "desk and plain list find the same radios");
@@ -87,6 +97,21 @@ fn print_walk(walk: &Walk, extent: &Extent) {
     println!("pages-changed-per-report {:.3}", pages_changed(walk));
     println!("plain-report {}", plain.report);
     println!("plain-range {}", plain.range);
+    store
+}
+
+/// The file of the walk's store, written and read.
+fn print_files(store: &Store, file: &[u8], extent: &Extent) {
+    let times = extent.calls / 200;
+    println!("csv-write {}", files::time_write(store, times).as_nanos());
+    println!("csv-read {}", files::time_read(file, times).as_nanos());
+    let falling = files::falling(file);
+    println!("csv-read-falling {}", files::time_read(&falling, times).as_nanos());
+    println!("single-sign-ons {}", files::time_single(file, times / 10).as_nanos());
+    for (figure, falls) in [("csv-long", false), ("csv-long-falling", true)] {
+        let long = files::long(100_000, falls);
+        println!("{figure} {}", files::time_refusal(&long, 1 + times / 100).as_nanos());
+    }
 }
 
 /// The walk and the test once more, with watches.
@@ -112,10 +137,10 @@ fn print_watched(walk: &Walk, extent: &Extent) {
 struct Times {
     report: u128,
     range: u128,
-    found: usize,
+    found: u64,
 }
 
-fn time_groups(walk: &Walk, mut call: impl FnMut(&[u8]) -> usize) -> Times {
+fn time_groups(walk: &Walk, mut call: impl FnMut(&[u8]) -> u64) -> Times {
     for sign_on in &walk.sign_ons {
         call(sign_on);
     }

@@ -2,7 +2,7 @@
 use crate::list::List;
 use crate::watch::Watches;
 use std::fmt;
-use std::mem::size_of;
+use std::mem::{offset_of, size_of};
 
 /// The answer to one call. It borrows the answer buffer, so that its list is read before the buffer is lent again.
 ///
@@ -19,7 +19,7 @@ use std::mem::size_of;
 #[must_use = "the call may be turned down"]
 #[derive(Clone, Copy, PartialEq, Eq, Debug)]
 pub enum Answer<'b> {
-    /// A sign-on, report or sign-off was carried out, a watch was set or cleared, or a fresh store was made.
+    /// A sign-on, report or sign-off was carried out, a watch was set or cleared, a file was read, or a fresh store was made.
     #[non_exhaustive]
     Accepted {
         /// The watches that gained the radio of a sign-on, report or sign-off; else none.
@@ -29,17 +29,20 @@ pub enum Answer<'b> {
     },
     /// A range was carried out and found these radios.
     Found(List<'b>),
+    /// A file was written: these bytes, at the buffer's start.
+    Written(&'b [u8]),
     /// The call was turned down and kept every byte: there is no list.
     #[non_exhaustive]
     Refused {
         /// Why.
         refusal: Refusal,
-        /// 0, but for [`Refusal::AnswerBuffer`]: there it is the number of radios found.
-        count: usize,
+        /// 0, but for [`Refusal::AnswerBuffer`] and where a file is read. Of a range that finds more than the buffer takes it is the
+        /// number of radios found, of a file that doesn't fit the bytes needed, and of a file that is read the line: [`Answer::line`].
+        count: u64,
     },
 }
 
-/// Why a call was turned down: one of fourteen checks. A later request's number is greater, wherever its check stands: [`Refusal::ALL`] has
+/// Why a call was turned down: one of fifteen checks. A later request's number is greater, wherever its check stands: [`Refusal::ALL`] has
 /// the checking order.
 #[derive(Clone, Copy, PartialEq, Eq, PartialOrd, Ord, Debug)]
 #[repr(u16)]
@@ -58,28 +61,31 @@ pub enum Refusal {
     Radio,
     /// Number 7: a range, or a watch that is set, has west above east or south above north.
     Rectangle,
-    /// Number 8: a sign-on names a radio that is on.
+    /// Number 8: a sign-on, or a line of a file, names a radio that is on.
     AlreadyOn,
     /// Number 9: a report or sign-off names a radio that isn't on.
     NotOn,
-    /// Number 10: a sign-on comes while 512 are on.
+    /// Number 10: a sign-on, or a line of a file, comes while 512 are on.
     Full,
-    /// Number 11: the answer buffer is too small for the radios found.
+    /// Number 11: the answer buffer is too small for the radios found, or for the file.
     AnswerBuffer,
-    /// Number 12: a sign-on or report has the place (0,0), which a handheld without a satellite fix sends. It is checked after 6 and before 7.
+    /// Number 12: a sign-on, a report or a line of a file has the place (0,0), which a handheld without a satellite fix sends. It is checked after 6 and before 7.
     NoFix,
     /// Number 13: a record of any kind has a minute below the store's highest. It is checked after 12 and before 7.
     TooEarly,
     /// Number 14: the number of a watch is above 15, or a watch that isn't set is cleared. It is checked after 2; of a watch that is set, 7 follows.
     NoWatch,
+    /// Number 15: a line of a file isn't four fields of plain digits in range, or its header is wrong. It is checked over the whole file, after 1 and before 12.
+    BadLine,
 }
 
 impl Refusal {
     /// All of them, in checking order.
-    pub const ALL: [Refusal; 14] = [
+    pub const ALL: [Refusal; 15] = [
         Refusal::PageBuffer,
         Refusal::Unsound,
         Refusal::NoWatch,
+        Refusal::BadLine,
         Refusal::Length,
         Refusal::Kind,
         Refusal::LengthOfKind,
@@ -98,7 +104,7 @@ impl Refusal {
         Refusal::ALL.into_iter().find(|refusal| refusal.number() == number)
     }
 
-    /// Its number, 1 to 14.
+    /// Its number, 1 to 15.
     pub fn number(self) -> u16 {
         self as u16
     }
@@ -116,10 +122,11 @@ impl Refusal {
             Refusal::AlreadyOn => "a sign-on names a radio that is on",
             Refusal::NotOn => "a report or sign-off names a radio that isn't on",
             Refusal::Full => "a sign-on comes while 512 are on",
-            Refusal::AnswerBuffer => "the answer buffer is too small for the radios found",
+            Refusal::AnswerBuffer => "the answer buffer is too small for the radios found or the file",
             Refusal::NoFix => "a sign-on or report has the place (0,0): the radio has no fix",
             Refusal::TooEarly => "the minute is below the store's highest",
             Refusal::NoWatch => "a watch number is above 15, or the watch to be cleared isn't set",
+            Refusal::BadLine => "a line of the file isn't four fields of plain digits in range, or its header is wrong",
         }
     }
 }
@@ -132,18 +139,19 @@ impl fmt::Display for Refusal {
 
 impl std::error::Error for Refusal {}
 
-/// What the archive answers: the number of the check that turned the call down, or 0; a count; and the watches that gained, and lost,
-/// the record's radio.
+/// What the archive answers: the number of the check that turned the call down, or 0; the watches that gained, and lost, the record's
+/// radio; and a count.
 #[repr(C)]
 #[derive(Clone, Copy)]
 pub(crate) struct Numbers {
     pub number: u16,
-    pub count: u16,
     pub gained: u16,
     pub lost: u16,
+    pub count: u64,
 }
 
-const _: () = assert!(size_of::<Numbers>() == 2 * 4);
+const _: () = assert!(size_of::<Numbers>() == 16 && offset_of!(Numbers, count) == 8);
+const _: () = assert!(offset_of!(Numbers, gained) == 2 && offset_of!(Numbers, lost) == 4);
 
 impl<'b> Answer<'b> {
     /// The number of the check that turned the call down, or 0.
@@ -151,12 +159,26 @@ impl<'b> Answer<'b> {
         self.refusal().map_or(0, Refusal::number)
     }
 
-    /// The count that the answer carries: the radios found, also where their list did not fit, else 0.
-    pub fn count(&self) -> usize {
+    /// The count that the answer carries: the radios found, also where their list did not fit; the bytes of a file that is written, also
+    /// where it did not fit; the line that turned a file down; else 0.
+    pub fn count(&self) -> u64 {
         match self {
             Answer::Accepted { .. } => 0,
-            Answer::Found(list) => list.len(),
+            Answer::Found(list) => list.len() as u64,
+            Answer::Written(file) => file.len() as u64,
             Answer::Refused { count, .. } => *count,
+        }
+    }
+
+    /// The line that turned a file down that was read, the header being line 1: the first that is bad, or the first in the order taken that
+    /// a sign-on check stops. None for any other answer, number 1 among them.
+    pub fn line(&self) -> Option<u64> {
+        match self {
+            Answer::Refused {
+                refusal: Refusal::BadLine | Refusal::NoFix | Refusal::AlreadyOn | Refusal::Full,
+                count: line @ 1..,
+            } => Some(*line),
+            _ => None,
         }
     }
 
@@ -164,11 +186,11 @@ impl<'b> Answer<'b> {
     pub fn refusal(&self) -> Option<Refusal> {
         match self {
             Answer::Refused { refusal, .. } => Some(*refusal),
-            Answer::Accepted { .. } | Answer::Found(_) => None,
+            Answer::Accepted { .. } | Answer::Found(_) | Answer::Written(_) => None,
         }
     }
 
-    /// Whether a sign-on, report or sign-off was carried out, a watch set or cleared, or a fresh store made.
+    /// Whether a sign-on, report or sign-off was carried out, a watch set or cleared, a file read, or a fresh store made.
     pub fn is_accepted(&self) -> bool {
         matches!(self, Answer::Accepted { .. })
     }
@@ -177,7 +199,7 @@ impl<'b> Answer<'b> {
     pub fn gained(&self) -> Watches {
         match self {
             Answer::Accepted { gained, .. } => *gained,
-            Answer::Found(_) | Answer::Refused { .. } => Watches::NONE,
+            _ => Watches::NONE,
         }
     }
 
@@ -185,7 +207,7 @@ impl<'b> Answer<'b> {
     pub fn lost(&self) -> Watches {
         match self {
             Answer::Accepted { lost, .. } => *lost,
-            Answer::Found(_) | Answer::Refused { .. } => Watches::NONE,
+            _ => Watches::NONE,
         }
     }
 
@@ -193,7 +215,15 @@ impl<'b> Answer<'b> {
     pub fn list(&self) -> Option<List<'b>> {
         match self {
             Answer::Found(list) => Some(*list),
-            Answer::Accepted { .. } | Answer::Refused { .. } => None,
+            _ => None,
+        }
+    }
+
+    /// The file, if one was written.
+    pub fn file(&self) -> Option<&'b [u8]> {
+        match self {
+            Answer::Written(file) => Some(file),
+            _ => None,
         }
     }
 
@@ -204,11 +234,11 @@ impl<'b> Answer<'b> {
                 numbers.expect_no_watch();
                 Answer::Refused {
                     refusal,
-                    count: numbers.count.into(),
+                    count: numbers.count,
                 }
             }
             None => {
-                assert_eq!(numbers.number, 0, "an answer's number is 0 to 14");
+                assert_eq!(numbers.number, 0, "an answer's number is 0 to 15");
                 Answer::Accepted {
                     gained: Watches::from_bits(numbers.gained),
                     lost: Watches::from_bits(numbers.lost),
@@ -222,7 +252,18 @@ impl<'b> Answer<'b> {
         match Answer::without_list(numbers) {
             Answer::Accepted { .. } => {
                 numbers.expect_no_watch();
-                Answer::Found(List::at_start(buffer, numbers.count.into()))
+                Answer::Found(List::at_start(buffer, numbers.size()))
+            }
+            refused => refused,
+        }
+    }
+
+    /// The answer with these numbers to a call that writes a file. Only an accepted one has written to the buffer.
+    pub(crate) fn to_write(numbers: Numbers, buffer: &'b [u8]) -> Answer<'b> {
+        match Answer::without_list(numbers) {
+            Answer::Accepted { .. } => {
+                numbers.expect_no_watch();
+                Answer::Written(&buffer[..numbers.size()])
             }
             refused => refused,
         }
@@ -230,9 +271,14 @@ impl<'b> Answer<'b> {
 }
 
 impl Numbers {
-    /// A range and a refusal move no radio.
+    /// A range, a file that is written and a refusal move no radio.
     fn expect_no_watch(self) {
         assert_eq!((self.gained, self.lost), (0, 0), "no watch gains or loses a radio");
+    }
+
+    /// The count of what stands in a buffer.
+    fn size(self) -> usize {
+        usize::try_from(self.count).expect("a buffer holds what is counted")
     }
 }
 
@@ -240,7 +286,7 @@ impl Numbers {
 mod tests {
     use super::*;
 
-    fn numbers(number: u16, count: u16) -> Numbers {
+    fn numbers(number: u16, count: u64) -> Numbers {
         Numbers {
             number,
             count,
@@ -251,13 +297,43 @@ mod tests {
 
     #[test]
     fn each_number_has_its_refusal_and_words() {
-        for number in 1..=14 {
+        for number in 1..=15 {
             let refusal = Refusal::from_number(number).unwrap();
             assert_eq!(refusal.number(), number);
             assert!(!refusal.to_string().is_empty());
         }
         assert_eq!(Refusal::from_number(0), None);
-        assert_eq!(Refusal::from_number(15), None);
+        assert_eq!(Refusal::from_number(16), None);
+    }
+
+    #[test]
+    fn a_refused_write_has_no_file() {
+        let buffer = *b"radio,east,north,minute\r\n";
+        for refusal in Refusal::ALL {
+            let answer = Answer::to_write(numbers(refusal.number(), 26), &buffer);
+            assert_eq!((answer.refusal(), answer.count()), (Some(refusal), 26));
+            assert_eq!(answer.file(), None);
+        }
+        let written = Answer::to_write(numbers(0, 25), &buffer);
+        assert_eq!((written.file(), written.count()), (Some(&buffer[..]), 25));
+        assert_eq!((written.list(), written.refusal(), written.line()), (None, None, None));
+        assert!(!written.is_accepted() && written.gained().is_empty() && written.lost().is_empty());
+    }
+
+    #[test]
+    fn a_line_comes_with_the_numbers_that_a_file_is_turned_down_under() {
+        let line = |refusal: Refusal, count| Answer::without_list(numbers(refusal.number(), count)).line();
+        for refusal in Refusal::ALL {
+            let of_a_file = matches!(
+                refusal,
+                Refusal::BadLine | Refusal::NoFix | Refusal::AlreadyOn | Refusal::Full
+            );
+            for count in [1, 2, 65536, 1 << 40] {
+                assert_eq!(line(refusal, count), of_a_file.then_some(count), "{refusal:?}");
+            }
+            // of a record
+            assert_eq!(line(refusal, 0), None);
+        }
     }
 
     #[test]

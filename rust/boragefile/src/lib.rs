@@ -1,7 +1,8 @@
 //! The position desk, for Rust.
 //!
 //! A [`Store`] is one desk and its pages. It begins fresh, and every record goes to it through [`Store::call`]. Rectangles that a
-//! controller leaves open are watched: [`Store::watch_set`].
+//! controller leaves open are watched: [`Store::watch_set`]. All radios on go to a spreadsheet's file, and come back from one:
+//! [`Store::csv_write`], [`Store::csv_read`].
 //! The code behind is proved; this crate only lends it memory. It is the one crate here with `unsafe` in it.
 //!
 //! ```
@@ -20,6 +21,7 @@
 //!                 println!("{} {} {}", located.radio, located.east, located.north);
 //!             }
 //!         }
+//!         Answer::Written(file) => println!("{} bytes", file.len()),
 //!         Answer::Refused { refusal, .. } => println!("refused {}: {refusal}", refusal.number()),
 //!     }
 //! }
@@ -55,6 +57,10 @@ pub const PAGE_ENTRY_BYTES: usize = 10;
 pub const ENTRY_BYTES: usize = 6;
 /// The bytes of an answer buffer that takes every radio that may be on.
 pub const LIST_BYTES: usize = 512 * ENTRY_BYTES;
+/// The bytes of a buffer that takes the file of every radio that may be on: the header, and 512 lines of at most 29 bytes.
+pub const CSV_BYTES: usize = CSV_HEADER.len() + 512 * "4095,65535,65535,4294967295\r\n".len();
+/// The first line of a file.
+pub const CSV_HEADER: &str = "radio,east,north,minute\r\n";
 /// A range leaves out a radio whose minute is more than this before its own: twelve hours.
 pub const KEPT_MINUTES: u32 = 720;
 /// No page, or no cell.
@@ -82,6 +88,20 @@ extern "C" {
         north: u16,
     ) -> Numbers;
     fn boragefile_watch_clear(desk: *mut Desk, pages: *const u8, pages_length: usize, watch: u16) -> Numbers;
+    fn boragefile_csv_write(
+        desk: *const Desk,
+        pages: *const u8,
+        pages_length: usize,
+        buffer: *mut u8,
+        buffer_length: usize,
+    ) -> Numbers;
+    fn boragefile_csv_read(
+        desk: *mut Desk,
+        pages: *mut u8,
+        pages_length: usize,
+        file: *const u8,
+        file_length: usize,
+    ) -> Numbers;
     fn boragefile_sound(desk: *const Desk, pages: *const u8, pages_length: usize) -> bool;
 }
 
@@ -131,6 +151,23 @@ pub fn watch_set(desk: &mut Desk, pages: &[u8], watch: u16, rectangle: Rectangle
 pub fn watch_clear(desk: &mut Desk, pages: &[u8], watch: u16) -> Answer<'static> {
     // SAFETY: as in `watch_set`.
     let numbers = unsafe { boragefile_watch_clear(desk, pages.as_ptr(), pages.len(), watch) };
+    Answer::without_list(numbers)
+}
+
+/// Writes all radios on to the buffer's start as a spreadsheet's file, whatever their age. Numbers 1, 2 and 11 can turn it down; with
+/// [`CSV_BYTES`] in the buffer 11 never comes, and else its count is the bytes needed.
+pub fn csv_write<'b>(desk: &Desk, pages: &[u8], buffer: &'b mut [u8]) -> Answer<'b> {
+    // SAFETY: as in `begin`, and desk and pages are only read.
+    let numbers = unsafe { boragefile_csv_write(desk, pages.as_ptr(), pages.len(), buffer.as_mut_ptr(), buffer.len()) };
+    Answer::to_write(numbers, buffer)
+}
+
+/// Makes desk and pages, in whatever condition these are, the store of a spreadsheet's file: a fresh one, to which each line is a sign-on, by
+/// rising minute, then radio, then line. Numbers 1, 15, 12, 8 and 10 can turn it down, the last four with a line: [`Answer::line`]. Number 2
+/// isn't tested.
+pub fn csv_read(desk: &mut Desk, pages: &mut [u8], file: &[u8]) -> Answer<'static> {
+    // SAFETY: as in `call`.
+    let numbers = unsafe { boragefile_csv_read(desk, pages.as_mut_ptr(), pages.len(), file.as_ptr(), file.len()) };
     Answer::without_list(numbers)
 }
 
@@ -230,6 +267,47 @@ impl Store {
     /// ```
     pub fn watch_clear(&mut self, watch: u16) -> Answer<'static> {
         watch_clear(&mut self.desk, &self.pages, watch)
+    }
+
+    /// Writes all radios on to the buffer's start as a spreadsheet's file, by rising number and whatever their age.
+    ///
+    /// ```
+    /// use boragefile::{Record, Refusal, Store, CSV_BYTES};
+    ///
+    /// let mut store = Store::fresh();
+    /// let on = Record::SignOn { radio: 7, east: 100, north: 200, minute: 5 };
+    /// assert!(store.call(&on.to_bytes(), &mut []).is_accepted());
+    /// let mut buffer = [0; CSV_BYTES];
+    /// let file = store.csv_write(&mut buffer).file().expect("the buffer takes every radio");
+    /// assert_eq!(file, b"radio,east,north,minute\r\n7,100,200,5\r\n");
+    ///
+    /// // one that is too short is told what is needed
+    /// let answer = store.csv_write(&mut buffer[..37]);
+    /// assert_eq!((answer.refusal(), answer.count()), (Some(Refusal::AnswerBuffer), 38));
+    /// ```
+    pub fn csv_write<'b>(&self, buffer: &'b mut [u8]) -> Answer<'b> {
+        csv_write(&self.desk, &self.pages, buffer)
+    }
+
+    /// Makes this the store of a spreadsheet's file, whatever it was: a fresh one, with no watch set, to which each line is a sign-on, by
+    /// rising minute, then radio, then line. A file that is turned down changes nothing.
+    ///
+    /// ```
+    /// use boragefile::{Refusal, Store};
+    ///
+    /// let mut store = Store::fresh();
+    /// assert!(store.csv_read(b"radio,east,north,minute\r\n\"7\",100,0200,5\r\n9,1,1,4").is_accepted());
+    /// assert_eq!(store.desk().radios_on(), [7, 9]);
+    ///
+    /// // line 3 is no line; line 2 is taken after line 4, when its radio is on
+    /// let answer = store.csv_read(b"radio,east,north,minute\r\n7,100,200,5\r\n8,,200,5\r\n");
+    /// assert_eq!((answer.refusal(), answer.line()), (Some(Refusal::BadLine), Some(3)));
+    /// let answer = store.csv_read(b"radio,east,north,minute\r\n7,1,1,5\r\n8,1,1,5\r\n7,2,2,4\r\n");
+    /// assert_eq!((answer.refusal(), answer.line()), (Some(Refusal::AlreadyOn), Some(2)));
+    /// assert_eq!(store.desk().radios_on(), [7, 9]);
+    /// ```
+    pub fn csv_read(&mut self, file: &[u8]) -> Answer<'static> {
+        csv_read(&mut self.desk, &mut self.pages, file)
     }
 
     /// Whether this is a sound store. After any run of calls on a fresh one it is; after a change through

@@ -1,8 +1,8 @@
 //! The C header says the same as this crate.
 #![forbid(unsafe_code)]
 use boragefile::{
-    CutList, Desk, Frame, Line, Parts, Refusal, Slot, Waiting, Watch, DESK_BYTES, ENTRY_BYTES, KEPT_MINUTES,
-    LIST_BYTES, PAGES_BYTES, VERSION, WATCHES,
+    CutList, Desk, Frame, Line, Parts, Refusal, Slot, Waiting, Watch, CSV_BYTES, CSV_HEADER, DESK_BYTES, ENTRY_BYTES,
+    KEPT_MINUTES, LIST_BYTES, PAGES_BYTES, VERSION, WATCHES,
 };
 use std::mem::{offset_of, size_of};
 
@@ -32,12 +32,15 @@ fn the_sizes_are_the_same() {
         ("DESK", DESK_BYTES),
         ("ENTRY", ENTRY_BYTES),
         ("LIST", LIST_BYTES),
+        ("CSV", CSV_BYTES),
     ];
     for (name, size) in sizes {
         assert_eq!(defined(&format!("BORAGEFILE_{name}_BYTES")), size.to_string());
     }
     assert_eq!(defined("BORAGEFILE_KEPT_MINUTES"), KEPT_MINUTES.to_string());
     assert_eq!(defined("BORAGEFILE_WATCHES"), WATCHES.to_string());
+    assert_eq!(CSV_BYTES, CSV_HEADER.len() + 512 * (4 + 1 + 5 + 1 + 5 + 1 + 10 + 2));
+    assert!(HEADER.contains(&format!("\"{}\"", CSV_HEADER.trim_end())));
 }
 
 /// What the header asserts of the desk's layout, each fact as it stands there.
@@ -58,6 +61,7 @@ fn the_layout_is_the_same() {
         ("waiting", size_of::<Waiting>()),
         ("line", size_of::<Line>()),
         ("watch", size_of::<Watch>()),
+        ("answer", 16),
     ];
     for (name, size) in sizes {
         let fact = format!("sizeof(boragefile_{name}) == {size}");
@@ -87,13 +91,17 @@ fn the_layout_is_the_same() {
         ("watch, south", offset_of!(Watch, south)),
         ("watch, north", offset_of!(Watch, north)),
         ("watch, members", offset_of!(Watch, members)),
+        // the answer is no part of the desk: 16 bits three times, and its count of 64
+        ("answer, gained", 2),
+        ("answer, lost", 4),
+        ("answer, count", 8),
     ];
     for (field, offset) in offsets {
         let fact = format!("offsetof(boragefile_{field}) == {offset}");
         assert!(asserted().contains(&fact.as_str()), "{fact}");
     }
-    // these, the desk's own size and the answer's are all
-    assert_eq!(asserted().len(), sizes.len() + offsets.len() + 2);
+    // these and the desk's own size are all
+    assert_eq!(asserted().len(), sizes.len() + offsets.len() + 1);
 }
 
 /// `AlreadyOn` as `ALREADY_ON`.

@@ -1,7 +1,7 @@
 //! Desk and plain list side by side.
 use crate::rule::Rule;
-use crate::{Fix, Plain, Told};
-use boragefile::{Answer, Located, Record, Rectangle, Store, Watch, LIST_BYTES, WATCHES};
+use crate::{in_order, lines_of, Fix, Plain, Told};
+use boragefile::{Answer, Located, Record, Rectangle, Store, Watch, CSV_BYTES, LIST_BYTES, WATCHES};
 use std::fmt;
 
 /// What stands in every byte of the answer buffer before a call.
@@ -80,21 +80,13 @@ impl Both {
         compare_numbers(&answer, &told, format_args!("call {call}: {bytes:?}, {room} bytes"));
         let changes = answer.is_accepted();
         if let Some(list) = answer.list() {
-            assert_eq!(list.len(), told.count, "call {call}: the list of {bytes:?}");
+            assert_eq!(list.len() as u64, told.count, "call {call}: the list of {bytes:?}");
             assert!(
                 list.iter().flat_map(bytes_of).eq(told.list.iter().copied()),
                 "call {call}: the list of {bytes:?} is {list:?}"
             );
         }
-        assert_eq!(
-            self.buffer[..told.list.len()],
-            told.list,
-            "call {call}: the list of {bytes:?} in the buffer"
-        );
-        assert!(
-            self.buffer[told.list.len()..].iter().all(|byte| *byte == UNTOUCHED),
-            "call {call}: {bytes:?} writes past its list"
-        );
+        compare_buffer(&self.buffer, &told.list, format_args!("call {call}: {bytes:?}"));
         if changes {
             self.compare_radios(bytes);
             self.compare_moved(bytes, &told);
@@ -134,6 +126,81 @@ impl Both {
             "call {}: watch {watch} alone is changed",
             self.calls
         );
+        told
+    }
+
+    /// Writes all radios on to a file, from both, with a buffer that takes every radio. Answers it.
+    pub fn file(&mut self) -> Vec<u8> {
+        let told = self.csv_write(CSV_BYTES);
+        assert_eq!(told.number, 0, "call {}: the file", self.calls);
+        told.list
+    }
+
+    /// Writes a file from both, with a buffer of `room` bytes, and compares all that can be seen: numbers and file; that nothing else is
+    /// written to the buffer; that desk and pages are as they were. Answers what both answered.
+    pub fn csv_write(&mut self, room: usize) -> Told {
+        self.calls += 1;
+        let call = self.calls;
+        self.before.clone_from(&self.store);
+        self.buffer.clear();
+        self.buffer.resize(room, UNTOUCHED);
+        let told = self.plain.csv_write(room);
+        let answer = self.store.csv_write(&mut self.buffer);
+        compare_numbers(
+            &answer,
+            &told,
+            format_args!("call {call}: a file written to {room} bytes"),
+        );
+        assert_eq!(
+            answer.file().unwrap_or_default(),
+            told.list,
+            "call {call}: a file written to {room} bytes"
+        );
+        compare_buffer(&self.buffer, &told.list, format_args!("call {call}: a file written"));
+        assert!(
+            self.store == self.before,
+            "call {call}: a file written changes the store"
+        );
+        told
+    }
+
+    /// Reads a file on both, and compares all that can be seen: numbers; that a turned-down call keeps desk and pages; that the store is
+    /// then, to the byte, a fresh one after the lines' sign-ons, one by one in the order in which they are taken. The plain rule begins
+    /// anew, and is fed these sign-ons with the cuts that each finds. Answers what both answered.
+    pub fn csv_read(&mut self, file: &[u8]) -> Told {
+        self.compare_read(file, |store, file| store.csv_read(file))
+    }
+
+    /// The same, of whatever call should have read the file.
+    pub fn compare_read(&mut self, file: &[u8], read: impl FnOnce(&mut Store, &[u8]) -> Answer<'static>) -> Told {
+        self.calls += 1;
+        let call = self.calls;
+        self.before.clone_from(&self.store);
+        let told = self.plain.csv_read(file);
+        let answer = read(&mut self.store, file);
+        let text = || String::from_utf8_lossy(&file[..file.len().min(300)]);
+        compare_numbers(&answer, &told, format_args!("call {call}: a file read: {}", text()));
+        if told.number != 0 {
+            assert!(
+                self.store == self.before,
+                "call {call}: a file that is turned down changes the store: {}",
+                text()
+            );
+            return told;
+        }
+        let (mut single, mut rule) = (Store::fresh(), Rule::new());
+        for line in in_order(lines_of(file).expect("the list has read it")) {
+            let record = line.record().to_bytes();
+            rule.carry_out(&record, single.desk());
+            assert!(single.call(&record, &mut []).is_accepted(), "call {call}: {line:?}");
+        }
+        assert!(
+            self.store == single,
+            "call {call}: the store of a file is not that of its sign-ons: {}",
+            text()
+        );
+        self.rule = rule;
+        self.compare_all();
         told
     }
 
@@ -210,10 +277,14 @@ impl Both {
             );
         }
         if self.calls.is_multiple_of(WHOLE_COMPARED_EVERY) {
-            assert!(self.store.is_sound(), "call {}: the store is sound", self.calls);
-            self.rule.compare_pages(&self.store);
-            self.compare_watches();
+            self.compare_all();
         }
+    }
+
+    fn compare_all(&self) {
+        assert!(self.store.is_sound(), "call {}: the store is sound", self.calls);
+        self.rule.compare_pages(&self.store);
+        self.compare_watches();
     }
 }
 
@@ -224,6 +295,15 @@ fn compare_numbers(answer: &Answer, told: &Told, call: fmt::Arguments) {
         (answer.gained().bits(), answer.lost().bits()),
         (told.gained, told.lost),
         "{call}: the watches that gained, and that lost"
+    );
+}
+
+/// What is written stands at the buffer's start, and nothing else is written there.
+fn compare_buffer(buffer: &[u8], written: &[u8], call: fmt::Arguments) {
+    assert_eq!(buffer[..written.len()], *written, "{call}: what stands in the buffer");
+    assert!(
+        buffer[written.len()..].iter().all(|byte| *byte == UNTOUCHED),
+        "{call}: it writes past its answer"
     );
 }
 

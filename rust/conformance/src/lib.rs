@@ -7,10 +7,12 @@
 #![forbid(unsafe_code)]
 
 mod both;
+mod file;
 mod plain;
 mod rule;
 mod xorshift;
 
 pub use both::Both;
+pub use file::{in_order, line_text, lines_of, FileLine};
 pub use plain::{Fix, Plain, Told};
 pub use xorshift::Xorshift;

@@ -1,6 +1,7 @@
 //! The plain list: who is on, where each was last, and at which minute. No grid, no pages, nothing waits. A watch is its rectangle
 //! alone: who is a member follows from the latest places.
-use boragefile::Rectangle;
+use crate::file::{in_order, line_text, lines_of};
+use boragefile::{Rectangle, CSV_HEADER};
 use std::collections::BTreeMap;
 
 /// A range leaves out a radio whose minute is more than this before its own.
@@ -24,11 +25,11 @@ pub struct Plain {
 }
 
 /// What the list answers: number, count, the watches that gained and that lost the record's radio, a bit each, and the bytes that
-/// an accepted range lists.
+/// an accepted range lists, or the file.
 #[derive(PartialEq, Eq, Debug, Default)]
 pub struct Told {
     pub number: u16,
-    pub count: usize,
+    pub count: u64,
     pub gained: u16,
     pub lost: u16,
     pub list: Vec<u8>,
@@ -36,7 +37,7 @@ pub struct Told {
 
 impl Told {
     /// Number and count.
-    pub fn numbers(&self) -> (u16, usize) {
+    pub fn numbers(&self) -> (u16, u64) {
         (self.number, self.count)
     }
 }
@@ -147,6 +148,41 @@ impl Plain {
         }
     }
 
+    /// All radios on as a file, or check 11. `room` is the length of the buffer.
+    pub fn csv_write(&self, room: usize) -> Told {
+        let lines = self
+            .latest()
+            .map(|(radio, fix)| line_text(radio, fix.place, fix.minute));
+        let file: String = std::iter::once(CSV_HEADER.to_string()).chain(lines).collect();
+        let count = file.len() as u64;
+        if room < file.len() {
+            return refused(11, count);
+        }
+        Told {
+            count,
+            list: file.into_bytes(),
+            ..accepted()
+        }
+    }
+
+    /// Check 15, then the lines as sign-ons, in the order in which they are taken, to a list of their own. It takes this one's place if
+    /// none of them is turned down; else the first that is gives its number and its line.
+    pub fn csv_read(&mut self, file: &[u8]) -> Told {
+        let lines = match lines_of(file) {
+            Ok(lines) => in_order(lines),
+            Err(line) => return refused(15, line),
+        };
+        let mut made = Plain::new();
+        for line in lines {
+            let told = made.call(&line.record().to_bytes(), 0);
+            if told.number != 0 {
+                return refused(told.number, line.number);
+            }
+        }
+        *self = made;
+        accepted()
+    }
+
     /// The rectangle that is watched under this number.
     pub fn watched(&self, watch: u16) -> Option<Rectangle> {
         self.watches.get(usize::from(watch)).copied().flatten()
@@ -248,7 +284,7 @@ fn accepted() -> Told {
     Told::default()
 }
 
-fn refused(number: u16, count: usize) -> Told {
+fn refused(number: u16, count: u64) -> Told {
     Told {
         number,
         count,

@@ -31,7 +31,7 @@ fn off(both: &mut Both, radio: u16) {
 }
 
 /// How many are from this east up to that one. `Both` compares the list itself.
-fn between(both: &mut Both, west: u16, east: u16) -> usize {
+fn between(both: &mut Both, west: u16, east: u16) -> u64 {
     let minute = both.clock();
     both.record(Record::Range {
         west,
@@ -129,7 +129,7 @@ fn join_around(who: u16, again: Again, when: u16, gap: u16) {
             report(&mut both, radio, 1000 * radio + i, 100);
         }
         let everyone = between(&mut both, 0, 65535);
-        assert_eq!(everyone, both.plain.on());
+        assert_eq!(everyone, both.plain.on() as u64);
         joined |= both.store.desk().parts.frame.cells == 1;
     }
     assert!(

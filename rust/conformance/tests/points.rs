@@ -41,17 +41,17 @@ fn range(west: u16, east: u16, south: u16, north: u16) -> Record {
 }
 
 /// Number and count of an accepted sign-on, report or sign-off.
-const ACCEPTED: (u16, usize) = (0, 0);
+const ACCEPTED: (u16, u64) = (0, 0);
 
-fn found(count: usize) -> (u16, usize) {
+fn found(count: u64) -> (u16, u64) {
     (0, count)
 }
 
-fn refused(refusal: Refusal) -> (u16, usize) {
+fn refused(refusal: Refusal) -> (u16, u64) {
     (refusal.number(), 0)
 }
 
-fn numbers(answer: Answer) -> (u16, usize) {
+fn numbers(answer: Answer) -> (u16, u64) {
     (answer.number(), answer.count())
 }
 

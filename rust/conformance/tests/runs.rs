@@ -2,10 +2,12 @@
 //! and every range leaving desk and pages as they were; beside the plain rule, who waits after every call, and chains, stale
 //! entries, missed counts and minutes now and then. Minutes rise, some are too early, and ranges ask when a radio is just not
 //! too old, or just too old; two runs come to the last minute there is. Watches are set, set again and cleared in between; those
-//! that gain or lose a radio are compared after every call, and all members now and then. The same runs every time.
+//! that gain or lose a radio are compared after every call, and all members now and then. Files are written, and read, most of them
+//! with something wrong in them; one that is read makes a store in place of the run's, and the list and the rule begin anew with it. The
+//! same runs every time.
 #![forbid(unsafe_code)]
-use boragefile::{Record, Rectangle, LIST_BYTES};
-use conformance::{Both, Fix, Told, Xorshift};
+use boragefile::{Record, Rectangle, CSV_HEADER, LIST_BYTES};
+use conformance::{line_text, Both, Fix, Told, Xorshift};
 
 const RUNS: usize = 9;
 const CALLS: usize = 115_000;
@@ -15,10 +17,11 @@ const _: () = assert!(RUNS * CALLS >= 1_000_000);
 #[derive(Default, Debug)]
 struct Seen {
     /// Answers by number; at 0 the accepted ones.
-    answers: [usize; 15],
-    found: usize,
+    answers: [usize; 16],
+    found: u64,
     ages: Ages,
     watches: Watched,
+    files: Files,
     flushes: usize,
     splits: usize,
     joins: usize,
@@ -41,6 +44,14 @@ struct Watched {
     cleared: usize,
     gained: usize,
     lost: usize,
+}
+
+/// The files that were written, those that did not fit, and those that were read and made a store.
+#[derive(Default, Debug)]
+struct Files {
+    written: usize,
+    too_long: usize,
+    read: usize,
 }
 
 impl Watched {
@@ -90,6 +101,11 @@ fn run(name: &str, seed: u64, first: u32, mut next: impl FnMut(&mut Xorshift, &B
             seen.answers[usize::from(told.number)] += 1;
             continue;
         }
+        if random.once_in(400) {
+            let told = file(&mut random, &mut both, &mut seen.files);
+            seen.answers[usize::from(told.number)] += 1;
+            continue;
+        }
         let (bytes, room) = next(&mut random, &both);
         let before = &both.store.desk().parts;
         let (cells, waiting) = (before.frame.cells, before.waiting);
@@ -112,6 +128,16 @@ fn run(name: &str, seed: u64, first: u32, mut next: impl FnMut(&mut Xorshift, &B
     assert_eq!(seen.answers[2], 0, "{name}: a run's store stays sound");
     assert!(seen.answers[13] > 100, "{name}: some minutes are too early");
     assert!(seen.answers[14] > 100, "{name}: some watches are not there");
+    assert!(seen.answers[15] > 50, "{name}: some files have a bad line");
+    let Files {
+        written,
+        too_long,
+        read,
+    } = seen.files;
+    assert!(
+        written.min(too_long) > 20 && read > 3,
+        "{name}: files are written and read"
+    );
     let Watched {
         set,
         cleared,
@@ -257,6 +283,70 @@ fn watch(random: &mut Xorshift, both: &mut Both, watched: &mut Watched) -> Told 
     let told = both.watch_set(number, area);
     watched.set += usize::from(told.number == 0);
     told
+}
+
+/// Writes a file, some to a buffer that may be too short, or reads one.
+fn file(random: &mut Xorshift, both: &mut Both, files: &mut Files) -> Told {
+    if random.once_in(2) {
+        let needed = both.plain.csv_write(usize::MAX).list.len();
+        let room = match random.below(4) {
+            0 => needed - 1,
+            1 => random.below(needed),
+            2 => needed,
+            _ => needed + random.below(100),
+        };
+        let told = both.csv_write(room);
+        files.written += usize::from(told.number == 0);
+        files.too_long += usize::from(told.number == 11);
+        return told;
+    }
+    let told = both.csv_read(&some_file(random, both));
+    files.read += usize::from(told.number == 0);
+    told
+}
+
+/// The latest places in some order, with quotes and zeros here and there, and mostly with something wrong: a byte, a line cut short, a
+/// radio twice, one without a fix, or more than may be on.
+fn some_file(random: &mut Xorshift, both: &Both) -> Vec<u8> {
+    let mut lines: Vec<String> = both
+        .plain
+        .latest()
+        .map(|(radio, fix)| line_text(radio, fix.place, fix.minute))
+        .collect();
+    // few are whole: each of these begins the run's store anew
+    let wrong = if random.once_in(14) {
+        random.within(8, 9)
+    } else {
+        random.within(0, 7)
+    };
+    let minute = both.plain.highest().saturating_sub(random.below(3) as u32);
+    match wrong {
+        0 => lines.push(line_text(random.within(1, 4095), (0, 0), minute)),
+        1 => lines.extend(lines.first().cloned()),
+        2 => lines.extend((0..600).map(|i| line_text(3000 + i, (5, 5), minute))),
+        3 => lines.push(line_text(4096, (5, 5), minute)),
+        _ => (),
+    }
+    for i in (1..lines.len()).rev() {
+        lines.swap(i, random.below(i + 1));
+    }
+    for line in &mut lines {
+        if random.once_in(5) {
+            let (radio, rest) = line.split_once(',').expect("four fields");
+            *line = format!("\"{}{radio}\",{rest}", "0".repeat(random.below(4)));
+        }
+    }
+    let mut file = (CSV_HEADER.to_string() + &lines.concat()).into_bytes();
+    let at = random.below(file.len());
+    match wrong {
+        4 => file[at] = random.pick(b",\"\r\n -x\0"),
+        5 => file.insert(at, random.pick(b",\"\r\n -x\0")),
+        6 => file.truncate(at.min(CSV_HEADER.len() - 3)),
+        7 => file.extend(b"\r\n"),
+        8 => file.truncate(file.len() - 2),
+        _ => (),
+    }
+    file
 }
 
 fn with_room(record: Record) -> (Vec<u8>, usize) {

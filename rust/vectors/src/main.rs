@@ -3,7 +3,8 @@
 //! `replay FILE...` ends with 0 only if every call of every file agrees in number, count, answer bytes, pages and, where they
 //! are given, the watches that gained or lost a radio and the whole store. It says the first difference of each file. A line
 //! is a record, or names another `call`. It may lend other pages than the store's, for its call only: of another length
-//! (`page_bytes`), or with other bytes in them (`damage`).
+//! (`page_bytes`), or with other bytes in them (`damage`). A call that reads a file does not test these, and where it makes a store, the
+//! run goes on with that.
 #![forbid(unsafe_code)]
 mod call;
 mod json;
@@ -68,13 +69,17 @@ fn replay_call(store: &mut Store, wanted: &Json) -> Result<(), String> {
     let answer = call.hand_to(desk, strange.as_deref_mut().unwrap_or(own), &mut buffer);
     compare_numbers(&answer, wanted)?;
     let refusal = answer.refusal();
-    if strange.is_some() && !matches!(refusal, Some(Refusal::PageBuffer | Refusal::Unsound)) {
+    if refusal.is_none() && call.makes_a_store() {
+        if let Some(made) = &strange {
+            own.copy_from_slice(made);
+        }
+    } else if strange.is_some() && !is_turned_down(&call, refusal) {
         return Err("a call that is lent strange pages is turned down with 1 or 2".to_string());
     }
     if refusal.is_some() && before != *store {
         return Err("a call that is turned down changes the store".to_string());
     }
-    compare_buffer(&buffer, call.list())?;
+    compare_buffer(&buffer, call.written())?;
     let digest = sha256::hex_digest(strange.as_deref().unwrap_or(store.pages()));
     let pages = text(wanted, "pages")?;
     if digest != pages {
@@ -86,10 +91,19 @@ fn replay_call(store: &mut Store, wanted: &Json) -> Result<(), String> {
     }
 }
 
+/// With strange pages: under 1 or 2; but a call that makes a store does not test 2, and may be turned down for what it is handed.
+fn is_turned_down(call: &Call, refusal: Option<Refusal>) -> bool {
+    match refusal {
+        Some(Refusal::PageBuffer) => true,
+        Some(Refusal::Unsound) => !call.makes_a_store(),
+        other => call.makes_a_store() && other.is_some(),
+    }
+}
+
 /// Number and count; and the watches that gained, and that lost, the radio. A journal from before watches does not name these.
 fn compare_numbers(answer: &Answer, wanted: &Json) -> Result<(), String> {
     equal("number", answer.number().into(), number(wanted, "number")?)?;
-    equal("count", answer.count() as u64, number(wanted, "count")?)?;
+    equal("count", answer.count(), number(wanted, "count")?)?;
     for (name, watches) in [("gained", answer.gained()), ("lost", answer.lost())] {
         if wanted.get(name).is_some() {
             equal(name, watches.bits().into(), number(wanted, name)?)?;
@@ -98,12 +112,12 @@ fn compare_numbers(answer: &Answer, wanted: &Json) -> Result<(), String> {
     Ok(())
 }
 
-/// The list stands at the buffer's start, and nothing else is written there.
-fn compare_buffer(buffer: &[u8], list: &[u8]) -> Result<(), String> {
-    if !buffer.starts_with(list) {
-        return Err(format!("the answer's bytes are not {list:?}"));
+/// The list or file stands at the buffer's start, and nothing else is written there.
+fn compare_buffer(buffer: &[u8], written: &[u8]) -> Result<(), String> {
+    if !buffer.starts_with(written) {
+        return Err(format!("the answer's bytes are not {written:?}"));
     }
-    if buffer[list.len()..].iter().any(|byte| *byte != UNTOUCHED) {
+    if buffer[written.len()..].iter().any(|byte| *byte != UNTOUCHED) {
         return Err("the answer buffer is written past the answer".to_string());
     }
     Ok(())

@@ -38,7 +38,8 @@ use denote.Triple.Clauses.{Lasts, ensured, lasts}
 use denote.Triple.End.{lastsOf}
 use denote.Triple.Table.{entered, cited}
 use denote.Triple.Walked.{says, Stays, stay-ref, walkOf, AllGo, goes-ref, Walks, ends-at, walked, walk-meets}
-use Rattle.fresh.specs.Begin.{found, made, Begins}
+use Rattle.desk.specs.Making.{found, made}
+use Rattle.fresh.specs.Begin.{Begins}
 use Rattle.desk.specs.declared.Desk.{Desk}
 use Rattle.fresh.specs.declared.Begun.{Begun}
 use Rattle.boragefile.proofs.Left.{others, stays-left, all-go-left}

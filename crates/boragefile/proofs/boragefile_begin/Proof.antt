@@ -31,7 +31,8 @@ use denote.Triple.Call.{calls-at}
 use denote.Triple.Clauses.{Lasts, ensured, lasts}
 use denote.Triple.Table.{entered, cited}
 use denote.Triple.Walked.{says, Stays, walkOf, Walks, ends-at, walked, walk-meets}
-use Rattle.fresh.specs.Begin.{found, made, Begins}
+use Rattle.desk.specs.Making.{found, made}
+use Rattle.fresh.specs.Begin.{Begins}
 use Rattle.desk.specs.declared.Desk.{Desk}
 use Rattle.desk.specs.declared.Answer.{Answer}
 use Rattle.boragefile.proofs.Left.{stays-left, all-go-left}

@@ -1,5 +1,8 @@
 use borrow.Author.Needs.{needs}
-use Rattle.carry.proofs.CallLaws.{size-answers, unsound-answers, sound-answers, sound-by}
+use Rattle.desk.proofs.CallLaws.{size-answers, unsound-answers, sound-answers, sound-by}
+use Rattle.desk.specs.Held.{deskWith}
+use Rattle.rules.specs.Calls.{hands}
+use Rattle.carry.proofs.CallLaws.{desk-kept, answer-told}
 use Rattle.carry.proofs.carry_lent.Statement.{statement}
 use Rattle.carry.proofs.carry_lent.Tie as tie
 
@@ -7,7 +10,7 @@ answered-requires : tie.Need-answered-requires
 answered-requires c κs = search needs
 
 returns : tie.Need-returns
-returns c = let e = c .before .before .before .before .before in size-answers (e .args .parts) (e .args .cells .now) (e .args .waiting .now) (e .args .memo .now) (e .args .on .now) (e .args .watches .now) (e .args .pages .now) (e .args .bytes .now) (e .args .buffer .now) (search needs) (c .answered .ensures)
+returns c = let e = c .before .before .before .before .before in size-answers (deskWith (e .args .parts) (e .args .cells .now) (e .args .waiting .now) (e .args .memo .now) (e .args .on .now) (e .args .watches .now)) (e .args .pages .now) (hands (e .args .bytes .now)) (e .args .buffer .now) (search needs) (desk-kept (e .args .parts) (e .args .cells .now) (e .args .waiting .now) (e .args .memo .now) (e .args .on .now) (e .args .watches .now) (c .answered .ensures)) (answer-told (c .answered .ensures))
 
 parts-sound-requires : tie.Need-parts-sound-requires
 parts-sound-requires c κs = search needs
@@ -21,7 +24,7 @@ same-length c = search needs
 returns-2 : tie.Need-returns-2
 returns-2 c = let s = c .before .before in
     let e = c .before .before .before .before .before .before .before .before .before .before .before .before .before in
-    unsound-answers (e .args .parts) (e .args .cells .now) (e .args .waiting .now) (e .args .memo .now) (e .args .on .now) (e .args .watches .now) (e .args .pages .now) (e .args .bytes .now) (e .args .buffer .now) (search (needs, c .before .before .before .before .before .before .before .before .before .if1 .left)) (s .parts-sound .ensures .1) (c .before .if2 .taken) (c .answered2 .ensures)
+    unsound-answers (deskWith (e .args .parts) (e .args .cells .now) (e .args .waiting .now) (e .args .memo .now) (e .args .on .now) (e .args .watches .now)) (e .args .pages .now) (hands (e .args .bytes .now)) (e .args .buffer .now) (search (needs, c .before .before .before .before .before .before .before .before .before .if1 .left)) (s .parts-sound .ensures .1) (c .before .if2 .taken) (desk-kept (e .args .parts) (e .args .cells .now) (e .args .waiting .now) (e .args .memo .now) (e .args .on .now) (e .args .watches .now) (c .answered2 .ensures)) (answer-told (c .answered2 .ensures))
 
 carry-sound-requires : tie.Need-carry-sound-requires
 carry-sound-requires c κs = let s = c .before .before .before .before .before .before .before .before in
@@ -36,7 +39,7 @@ same-length-3 c = search needs
 returns-3 : tie.Need-returns-3
 returns-3 c = let s = c .before .before .before .before .before .before .before .before .before .before .before .before .before in
     let e = c .before .before .before .before .before .before .before .before .before .before .before .before .before .before .before .before .before .before .before .before .before .before .before .before in
-    sound-answers (e .args .parts) (e .args .cells .now) (e .args .waiting .now) (e .args .memo .now) (e .args .on .now) (e .args .watches .now) _ _ _ (sound-by (s .parts-sound .result) (s .parts-sound .ensures .0) (c .before .before .before .before .before .before .before .before .before .before .before .before .if2 .left)) (c .before .before .before .before .carry-sound .ensures)
+    sound-answers (deskWith (e .args .parts) (e .args .cells .now) (e .args .waiting .now) (e .args .memo .now) (e .args .on .now) (e .args .watches .now)) _ _ _ (sound-by (s .parts-sound .result) (s .parts-sound .ensures .0) (c .before .before .before .before .before .before .before .before .before .before .before .before .if2 .left)) (c .before .before .before .before .carry-sound .ensures)
 
 pub carry-lent-spec : {M : Type 1} → statement M
 carry-lent-spec =

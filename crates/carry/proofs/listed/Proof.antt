@@ -13,6 +13,9 @@ list-requires c κs =
     let a = range-asks (s .store) _ (ledgerWith (e .args .parts) (e .args .cells .now) (e .args .waiting .now) (e .args .memo .now) (e .args .on .now)) (s .well) (s .laid) (s .held) in
     (record { cell-words = l .0; report-words = l .1; line-words = l .2 }, a .0, l .3, a .2, a .3)
 
+cast-answered : tie.Need-cast-answered
+cast-answered c = search needs
+
 answered-requires : tie.Need-answered-requires
 answered-requires c κs = search needs
 
@@ -21,9 +24,9 @@ same-length c = search needs
 
 returns : tie.Need-returns
 returns c = λ x.
-    let l = c .before .before .before in
+    let l = c .before .before .before .before in
     let e = l .before .before .before .before in
     lists-returns (e .args .parts) (e .args .cells .now) (e .args .waiting .now) (e .args .memo .now) (e .args .on .now) x (e .args .area) (e .args .minute) _ (l .list .ensures) (c .answered .ensures)
 
 pub listed-spec : {M : Type 1} → statement M
-listed-spec = tie.close (tie.spec list-requires answered-requires same-length returns)
+listed-spec = tie.close (tie.spec list-requires cast-answered answered-requires same-length returns)

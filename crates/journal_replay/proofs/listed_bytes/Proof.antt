@@ -6,9 +6,6 @@ use Rattle.journal_replay.proofs.listed_bytes.Tie as tie
 returns : tie.Need-returns
 returns c = search listed-none
 
-cast-result : tie.Need-cast-result
-cast-result c = search needs
-
 mul-result : tie.Need-mul-result
 mul-result c = search needs
 
@@ -16,4 +13,4 @@ returns-2 : tie.Need-returns-2
 returns-2 c = search listed-all
 
 pub listed-bytes-spec : {M : Type 1} → statement M
-listed-bytes-spec = tie.close (tie.spec returns cast-result mul-result returns-2)
+listed-bytes-spec = tie.close (tie.spec returns mul-result returns-2)

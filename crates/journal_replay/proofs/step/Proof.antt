@@ -1,4 +1,5 @@
 use native.Mathlib.Omega.{arith}
+use Rattle.carry.proofs.CountLaws.{record-count}
 use Rattle.journal_replay.proofs.ReplayLaws.{call-at-hand, answer-fits, stepped}
 use borrow.Author.Needs.{needs}
 use Rattle.journal_replay.proofs.step.Statement.{statement}
@@ -29,7 +30,7 @@ carry-requires : tie.Need-carry-requires
 carry-requires c κs = search needs
 
 write-answer-requires : tie.Need-write-answer-requires
-write-answer-requires c κs = search needs
+write-answer-requires c κs = (search needs, record-count (c .before .before .before .before .before .before .carry .ensures))
 
 next-record-requires : tie.Need-next-record-requires
 next-record-requires c κs =
@@ -38,7 +39,7 @@ next-record-requires c κs =
     (search needs, call-at-hand (s .pre .0) (λ i. k .before .before .before .before .before .shared-slice-known .given i .fits) (s .pre .1) (s .pre .2) (k .carry .ensures))
 
 listed-bytes-requires : tie.Need-listed-bytes-requires
-listed-bytes-requires c κs = search needs
+listed-bytes-requires c κs = record-count (c .before .before .before .before .before .before .before .before .before .before .before .carry .ensures)
 
 add-t24 : tie.Need-add-t24
 add-t24 c =

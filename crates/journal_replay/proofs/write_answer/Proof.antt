@@ -9,6 +9,9 @@ write-requires c κs = search needs
 add-write : tie.Need-add-write
 add-write c = search needs
 
+cast-write : tie.Need-cast-write
+cast-write c = search needs
+
 write-requires-2 : tie.Need-write-requires-2
 write-requires-2 c κs = search needs
 
@@ -20,4 +23,4 @@ returns c = search put-answer
 
 pub write-answer-spec : {M : Type 1} → statement M
 write-answer-spec =
-    tie.close (tie.spec write-requires add-write write-requires-2 same-length returns)
+    tie.close (tie.spec write-requires add-write cast-write write-requires-2 same-length returns)

@@ -1,4 +1,5 @@
 use borrow.Author.Needs.{needs}
+use mathlib.Core.Path.{sym, _∙_}
 use Rattle.desk.proofs.UniqueLaws.{sound-ledger}
 use Rattle.desk.specs.Held.{deskWith}
 use Rattle.desk.specs.Views.{rectOf}
@@ -23,10 +24,13 @@ lay-out-requires c κs = let e = c .before .before .before .before .before .befo
     let few = set-few (e .args .watch) (rectOf (e .args .area)) (c .before .before .before .before .before .set-refusal .ensures) (search (needs, c .before .before .before .before .if1 .left)) in
     (e .pre .0 .0, put-long (e .args .watches .now) (e .args .watch) (rectOf (e .args .area)) few (e .pre .0 .1) (c .before .before .put-area .ensures), search needs, sound-ledger (e .pre .1))
 
+slice-aggregate-copy : tie.Need-slice-aggregate-copy
+slice-aggregate-copy c = let e = c .before .before .before .before .before .before .before .before .before in sym (laid-long _ _ (c .before .lay-out .ensures (sound-ledger (e .pre .1))))
+
 copy-requires : tie.Need-copy-requires
 copy-requires c κs = let e = c .before .before .before .before .before .before .before .before .before .before in
     let few = set-few (e .args .watch) (rectOf (e .args .area)) (c .before .before .before .before .before .before .before .before .set-refusal .ensures) (search (needs, c .before .before .before .before .before .before .before .if1 .left)) in
-    (laid-long _ _ (c .before .before .lay-out .ensures (sound-ledger (e .pre .1))), put-long (e .args .watches .now) (e .args .watch) (rectOf (e .args .area)) few (e .pre .0 .1) (c .before .before .before .before .before .put-area .ensures))
+    laid-long _ _ (c .before .before .lay-out .ensures (sound-ledger (e .pre .1))) ∙ sym (put-long (e .args .watches .now) (e .args .watch) (rectOf (e .args .area)) few (e .pre .0 .1) (c .before .before .before .before .before .put-area .ensures))
 
 numbered-requires-2 : tie.Need-numbered-requires-2
 numbered-requires-2 c κs = search needs
@@ -43,6 +47,7 @@ set-sound-spec =
     returns
     put-area-requires
     lay-out-requires
+    slice-aggregate-copy
     copy-requires
     numbered-requires-2
     returns-2)

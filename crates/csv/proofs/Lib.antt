@@ -1,0 +1,4 @@
+pub mod DecimalLaws
+pub mod OrderLaws
+pub mod RangeLaws
+pub mod ReadLaws

@@ -1,0 +1,4 @@
+pub mod OrderLaws
+pub mod TableLaws
+pub mod SortLaws
+pub mod StopLaws

@@ -1,0 +1,4 @@
+pub mod SeatLaws
+pub mod ColumnLaws
+pub mod LatestLaws
+pub mod OnLaws

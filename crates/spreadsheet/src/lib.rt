@@ -1,0 +1,1 @@
+// A spreadsheet's file as a run of sign-ons: definitions and laws, no code.
