@@ -1,5 +1,7 @@
 // The desk's calls on a desk that is lent: thin functions over `carry_lent`, `set_lent`, `clear_lent`, `write_lent`, `read_lent` and `fresh::begin`, and those
 // for programs in Rust or C, with the test of soundness.
+#![tactic(auto)]
+
 ghost use Rattle.std.specs.Prelude.{true, [], ◌≡◌};
 ghost use Rattle.rules.specs.Calls.{hands, clears, writes};
 ghost use Rattle.desk.specs.Call.{handed, left, Answers};

@@ -1,4 +1,6 @@
 // Which memory cell is due to be flushed: how many wait in that of a place, and the fullest of all.
+#![tactic(auto)]
+
 ghost use Rattle.std.specs.Prelude.{cond, ◌≡◌, ◌+◌, ◌*◌, ◌<◌, ◌≤◌, min, max, ltb, length};
 ghost use Rattle.std.proofs.Math.Option.{some};
 ghost use Rattle.lists.specs.Parts.{tab};
@@ -21,7 +23,7 @@ use desk::{CutList, Desk};
 // ---- how far a stripe reaches
 
 // A stripe from its least to its greatest coordinate.
-#[derive(Drop)]
+#[derive(Clone, Copy)]
 struct Reach {
     low: u16,
     high: u16,

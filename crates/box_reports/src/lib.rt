@@ -1,4 +1,6 @@
 // The waiting reports of a memory cell apart from the others: they go into an array of their own, and the others close up in theirs.
+#![tactic(auto)]
+
 ghost use Rattle.std.specs.Prelude.{not, cond, ◌≡◌, ◌-◌, ◌*◌, ◌<◌, ◌≤◌, eqb, length, set, replicate};
 ghost use Rattle.lists.specs.Parts.{put};
 ghost use Rattle.lists.specs.Sums.{filter};

@@ -1,4 +1,6 @@
 // Memory cells: that of a place, those of all waiting reports at once, and a table with a number for each.
+#![tactic(auto)]
+
 ghost use Rattle.std.specs.Prelude.{◌≡◌, ℕ, ◌+◌, ◌*◌, ◌<◌, ◌≤◌, leb, length, get_or};
 ghost use Rattle.lists.specs.Tests.{one_if};
 ghost use Rattle.rules.specs.Limits.{full_memory, max_cuts};
@@ -15,7 +17,7 @@ pub const FULL_MEMORY: usize = Desk::MAX_WAITING + 1;
 // ---- memory cells
 
 // "A memory cell is one stripe-by-stripe box of the cuts": its stripes, counted from 0.
-#[derive(Drop)]
+#[derive(Clone, Copy)]
 pub struct BoxAt {
     pub east: usize,
     pub north: usize,

@@ -1,4 +1,6 @@
 // A record on a store in any condition: carried out, or turned down. The desk comes in its parts, with its arrays, the pages and the answer buffer lent.
+#![tactic(auto)]
+
 ghost use Rattle.std.specs.Prelude.{◌≡◌};
 ghost use Rattle.rules.specs.Calls.{hands};
 ghost use Rattle.desk.specs.Call.{handed, left, CarriedOut, Answers};

@@ -1,4 +1,6 @@
 // A cell is joined with a neighbour: this is swept, and all entries go on the pages of the one that survives.
+#![tactic(auto)]
+
 ghost use Rattle.std.specs.Prelude.{◌≡◌, [], ◌∷◌, ◌++◌, ◌<◌, ◌≤◌, length};
 ghost use Rattle.terms.specs.Terms.{pages};
 ghost use Rattle.lists.specs.Parts.{remove_at};

@@ -1,4 +1,6 @@
 // A cell goes to the end of the round, with the pages that its entries need.
+#![tactic(auto)]
+
 ghost use Rattle.std.specs.Prelude.{◌≡◌, ◌++◌};
 ghost use Rattle.entries.specs.Entries.{table_with, rows_of};
 ghost use Rattle.page.specs.Buffer.{pages_of};

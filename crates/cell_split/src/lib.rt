@@ -1,4 +1,6 @@
 // A cell is split: its two sides go on pages, and the cut among those of its direction.
+#![tactic(auto)]
+
 ghost use Rattle.std.specs.Prelude.{◌≡◌, [], ◌∷◌, ◌++◌, ◌+◌, ◌<◌, ◌≤◌, get_or};
 ghost use Rattle.lists.specs.Parts.{remove_at};
 ghost use Rattle.entries.specs.Entries.{table_with, rows_of};

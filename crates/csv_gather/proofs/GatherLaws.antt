@@ -10,10 +10,10 @@ use lib.Seq.{take_all, drop-cons}
 use lib.ListN.{get_or}
 use Rattle.terms.specs.Terms.{fix_at, max_radio}
 use Rattle.lists.proofs.Cases.{none-some}
-use Rattle.csv.specs.Csv.{Parsed, Listed, File, lines, bad, also_line, line, lines_from, after_header, file_read}
-use Rattle.csv.specs.Order.{sort_in, sort_all}
-use Rattle.csv.proofs.OrderLaws.{take-sort_all}
-use Rattle.csv.proofs.RangeLaws.{line_read, lines_from_turns, after_header_takes}
+use Rattle.csv_grammar.specs.Csv.{Parsed, Listed, File, lines, bad, also_line, line, lines_from, after_header, file_read}
+use Rattle.csv_grammar.specs.Order.{sort_in, sort_all}
+use Rattle.csv_grammar.proofs.OrderLaws.{take-sort_all}
+use Rattle.csv_grammar.proofs.RangeLaws.{line_read, lines_from_turns, after_header_takes}
 use Rattle.csv_reader.specs.declared.Line.TheVariants.{Row, Bad}
 use Rattle.csv_reader.specs.declared.Line.{Line}
 use Rattle.csv_reader.specs.declared.End.{End}

@@ -1,7 +1,7 @@
 -- A file's lines gathered (02, Job 6): "Lines are taken by rising minute, then radio, then line.", and no more than 513 can be.
 use Rattle.std.specs.Prelude.{List, [], ◌≡◌, ℕ, take}
-use Rattle.csv.specs.Csv.{Listed, File, lines, bad, file_read}
-use Rattle.csv.specs.Order.{sort_all}
+use Rattle.csv_grammar.specs.Csv.{Listed, File, lines, bad, file_read}
+use Rattle.csv_grammar.specs.Order.{sort_all}
 use Rattle.csv_order.specs.Table.{table_lines, listed_in, Table}
 use Rattle.csv_gather.specs.declared.Gathered.{Gathered}
 use Rattle.csv_gather.specs.declared.Gathered.TheVariants.{Lines, Bad}

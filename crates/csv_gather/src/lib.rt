@@ -1,6 +1,8 @@
 // A file's lines gathered in the order in which they are taken, in one pass and in fixed memory: the least 513, or the first bad line.
+#![tactic(auto)]
+
 ghost use Rattle.std.specs.Prelude.{◌≡◌, ◌+◌, ◌≤◌, length, drop};
-ghost use Rattle.csv.specs.Csv.{lines_from};
+ghost use Rattle.csv_grammar.specs.Csv.{lines_from};
 ghost use Rattle.csv_order.specs.Table.{table_words};
 ghost use Rattle.csv_gather.specs.Gather.{gather, gather_file, HasGathered};
 

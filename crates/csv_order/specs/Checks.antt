@@ -3,7 +3,7 @@ use Rattle.std.specs.Prelude.{Bool, false, cond, List, [], ◌∷◌, ℕ, suc, 
 use Rattle.std.proofs.Math.Option.{Option, none, some}
 use Rattle.terms.specs.Terms.{max_on}
 use Rattle.lists.specs.Tests.{both, either}
-use Rattle.csv.specs.Csv.{Listed}
+use Rattle.csv_grammar.specs.Csv.{Listed}
 use Rattle.csv_order.specs.declared.Stop.{Stop}
 
 -- the number of the check that stops a line, 0 if none does, on who is on and how many are, in the order of a sign-on's checks: 12, the place is (0,0); 8, the

@@ -10,7 +10,7 @@ use lib.ListN.{length, drop, get_or, drop_of_length-le}
 use lib.Seq.{drop-cons}
 use borrow.Author.Tests.{eq-eqb, ne_eqb}
 use Rattle.lists.specs.Tests.{or_else}
-use Rattle.csv.specs.Csv.{and_then, quote, comma, radio_name, east_name, north_name, minute_name, after_byte, after_bytes, after_line, after_name, after_header}
+use Rattle.csv_grammar.specs.Csv.{and_then, quote, comma, radio_name, east_name, north_name, minute_name, after_byte, after_bytes, after_line, after_name, after_header}
 use Rattle.csv_reader.specs.Reading.{Ends, bytes_after, EndWithin, after_quoted, after_column}
 use Rattle.csv_reader.specs.declared.End.{End}
 use Rattle.csv_reader.specs.declared.End.TheVariants.{At, Missing}

@@ -14,7 +14,7 @@ use denote.Enum.Declared.{tag_of}
 use Rattle.lists.specs.Tests.{both}
 use Rattle.lists.proofs.Cases.{by_cases, option_cases, none-some}
 use Rattle.lists.proofs.TestsLaws.{both_right, both_right_false}
-use Rattle.csv.specs.Csv.{Number, comma, and_then, after_byte, after_bytes, after_line, number, field}
+use Rattle.csv_grammar.specs.Csv.{Number, comma, and_then, after_byte, after_bytes, after_line, number, field}
 use Rattle.csv_reader.specs.Reading.{above, held, held_option, Ends, Valued, Handed, inner, last, wrong, field_in, field_of, FieldWithin, HandsOut, place_behind, value_of, ValueWithin, value_in, inner_value, last_value}
 use Rattle.csv_reader.specs.declared.End.{End}
 use Rattle.csv_reader.specs.declared.End.TheVariants.{At, Missing}

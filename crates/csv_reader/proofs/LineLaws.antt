@@ -5,7 +5,7 @@ use Prim.Native.Nat.{ℕ}
 use native.Mathlib.Omega.{arith}
 use lib.ListN.{drop}
 use Rattle.terms.specs.Terms.{max_radio}
-use Rattle.csv.specs.Csv.{comma, max_metre, max_minute, and_then, after_byte, after_line, field, line}
+use Rattle.csv_grammar.specs.Csv.{comma, max_metre, max_minute, and_then, after_byte, after_line, field, line}
 use Rattle.csv_reader.specs.Reading.{Valued, HandsOut, place_behind, inner_value, last_value, line_from, Tells}
 use Rattle.csv_reader.specs.declared.Value.{Value}
 use Rattle.csv_reader.specs.declared.Value.TheVariants.{Is, Absent}

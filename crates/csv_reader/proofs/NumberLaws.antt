@@ -13,7 +13,7 @@ use borrow.Author.Tests.{le-leb, lt-leb, leb-true}
 use Rattle.lists.specs.Tests.{both, or_else}
 use Rattle.lists.proofs.Cases.{by_cases, option_cases}
 use Rattle.lists.proofs.TestsLaws.{both_left}
-use Rattle.csv.specs.Csv.{Number, quote, digit_zero, and_then, after_byte, is_digit, digits_after, plain_number, quoted_number, number}
+use Rattle.csv_grammar.specs.Csv.{Number, quote, digit_zero, and_then, after_byte, is_digit, digits_after, plain_number, quoted_number, number}
 use Rattle.csv_reader.specs.Reading.{above, held, held_number, held_option, DigitsRead, Ends, value_of, Valued}
 use Rattle.csv_reader.specs.declared.End.{End}
 use Rattle.csv_reader.specs.declared.End.TheVariants.{At, Missing}

@@ -4,7 +4,7 @@ use Rattle.std.specs.Prelude.{Bool, true, false, List, ◌≡◌, ℕ, ◌≤◌
 use Rattle.std.proofs.Math.Option.{Option, none, some}
 use Rattle.terms.specs.Terms.{fix_at, max_radio}
 use Rattle.lists.specs.Tests.{both}
-use Rattle.csv.specs.Csv.{Number, Parsed, and_then, quote, comma, max_metre, max_minute, after_byte, after_bytes, after_line, after_name, digits_after, number}
+use Rattle.csv_grammar.specs.Csv.{Number, Parsed, and_then, quote, comma, max_metre, max_minute, after_byte, after_bytes, after_line, after_name, digits_after, number}
 use Rattle.csv_reader.specs.declared.End.{End}
 use Rattle.csv_reader.specs.declared.End.TheVariants.{At, Missing}
 use Rattle.csv_reader.specs.declared.Digits.{Digits}

@@ -1,6 +1,8 @@
 // A spreadsheet's file, read: its header, and its lines of four fields, which a reader over the file hands out one at a time.
+#![tactic(auto)]
+
 ghost use Rattle.std.specs.Prelude.{◌≡◌, ◌*◌, ◌+◌, ◌-◌, ◌≤◌, ◌<◌, length, drop};
-ghost use Rattle.csv.specs.Csv.{digit_zero, is_digit, after_byte, after_bytes, after_line, after_name, after_header, plain_number, quoted_number, number, line};
+ghost use Rattle.csv_grammar.specs.Csv.{digit_zero, is_digit, after_byte, after_bytes, after_line, after_name, after_header, plain_number, quoted_number, number, line};
 ghost use Rattle.csv_reader.specs.Reading.{Ends, after_quoted, after_column, above, held, held_option, DigitsRead, Valued, HandsOut, place_behind, inner_value, last_value, line_from, Tells};
 
 // The ends of the fields' ranges, and the least number above them all.
@@ -209,7 +211,7 @@ fn number_at(file: &[u8], at: usize) -> Value
 // ---- fields
 
 // A field: its number, with a comma or the line's end behind it, and the place behind that; or no field.
-#[derive(Drop)]
+#[derive(Clone, Copy)]
 pub enum Field {
     Inner(u64, usize),
     Last(u64, usize),
@@ -243,7 +245,7 @@ fn place_behind(f: Field, at: usize) -> usize
 }
 
 // A reader over the file: the slice that it is lent, and the place that it stands at.
-#[derive(Drop)]
+#[derive(Clone, Copy)]
 pub struct Reader<'a> {
     pub file: &'a [u8],
     pub at: usize,

@@ -11,7 +11,7 @@ use Rattle.terms.specs.Terms.{Fix}
 use Rattle.lists.specs.Parts.{put, tab}
 use Rattle.lists.specs.Rows.{Row, Rows}
 use Rattle.lists.proofs.PartsLaws.{tab_suc, put-nil, put_then, put_snoc}
-use Rattle.csv.specs.Csv.{header_line, line_with, line_of, lines_of, file_of}
+use Rattle.csv_grammar.specs.Csv.{header_line, line_with, line_of, lines_of, file_of}
 use Rattle.csv_text.specs.Text.{row_at, rows_in}
 use Rattle.csv_text.proofs.LineLaws.{length-line_of-le}
 

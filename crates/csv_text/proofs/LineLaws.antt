@@ -7,7 +7,7 @@ use lib.ListN.{length, set, length-append}
 use Rattle.terms.specs.Terms.{fix_at}
 use Rattle.lists.specs.Parts.{put}
 use Rattle.lists.proofs.PartsLaws.{put_snoc, put_then}
-use Rattle.csv.specs.Csv.{comma, carriage_return, line_feed, decimal, line_with, line_of}
+use Rattle.csv_grammar.specs.Csv.{comma, carriage_return, line_feed, decimal, line_with, line_of}
 use Rattle.csv_text.proofs.NumberLaws.{length-decimal-le}
 
 -- ---- lengths

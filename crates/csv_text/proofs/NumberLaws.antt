@@ -12,7 +12,7 @@ use borrow.Author.Tests.{lt-ltb, le-ltb, ltb-true, ltb-false}
 use Rattle.lists.specs.Parts.{put}
 use Rattle.lists.proofs.Cases.{by_cases}
 use Rattle.lists.proofs.PartsLaws.{length-put, take-put-le, drop_into, put_def, put-nil}
-use Rattle.csv.specs.Csv.{digit_zero, max_minute, digits_in, decimal}
+use Rattle.csv_grammar.specs.Csv.{digit_zero, max_minute, digits_in, decimal}
 
 -- ---- the digits
 

@@ -1,8 +1,10 @@
 // A spreadsheet's file written: numbers, lines and the whole file in a lent buffer, and how many bytes they take.
+#![tactic(auto)]
+
 ghost use Rattle.std.specs.Prelude.{[], ◌∷◌, ◌++◌, ◌≡◌, ◌+◌, ◌%◌, ◌≤◌, length};
 ghost use Rattle.terms.specs.Terms.{max_on, fix_at};
 ghost use Rattle.lists.specs.Parts.{put};
-ghost use Rattle.csv.specs.Csv.{decimal, digit_zero, comma, carriage_return, line_feed, header_line, line_of, file_of};
+ghost use Rattle.csv_grammar.specs.Csv.{decimal, digit_zero, comma, carriage_return, line_feed, header_line, line_of, file_of};
 ghost use Rattle.csv_text.specs.Text.{rows_in};
 
 use terms::MAX_ON;

@@ -13,7 +13,7 @@ use Rattle.lists.specs.Rows.{Rows}
 use Rattle.lists.specs.Tests.{either, is_some}
 use Rattle.lists.specs.Words.{Bytes}
 use Rattle.lists.proofs.Cases.{by_cases}
-use Rattle.csv.specs.Csv.{file_of}
+use Rattle.csv_grammar.specs.Csv.{file_of}
 use Rattle.rules.specs.Everyone.{everyone, plain_everyone}
 use Rattle.rules.specs.Grid.{Rect, is_reversed}
 use Rattle.rules.specs.Store.{Store, fresh}

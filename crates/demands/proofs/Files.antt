@@ -17,10 +17,10 @@ use Rattle.lists.proofs.Cases.{by_cases, false-true}
 use Rattle.lists.proofs.PartsLaws.{take-put}
 use Rattle.lists.proofs.RowsLaws.{Rising_above}
 use Rattle.lists.proofs.TestsLaws.{Each_zip, Each_every}
-use Rattle.csv.specs.Csv.{Listed, File, lines, bad, file_read, file_of, Fits}
-use Rattle.csv.specs.Order.{in_order}
-use Rattle.csv.proofs.OrderLaws.{Each-in_order}
-use Rattle.csv.proofs.RangeLaws.{read_Fits}
+use Rattle.csv_grammar.specs.Csv.{Listed, File, lines, bad, file_read, file_of, Fits}
+use Rattle.csv_grammar.specs.Order.{in_order}
+use Rattle.csv_grammar.proofs.OrderLaws.{Each-in_order}
+use Rattle.csv_grammar.proofs.RangeLaws.{read_Fits}
 use Rattle.page.specs.Buffer.{buffer_bytes}
 use Rattle.rules.specs.Grid.{Cuts}
 use Rattle.rules.specs.Store.{Store}

@@ -18,7 +18,7 @@ use Rattle.lists.specs.Words.{Bytes}
 use Rattle.lists.proofs.BitsLaws.{bit-bits, bits_same}
 use Rattle.lists.proofs.Cases.{by_cases}
 use Rattle.lists.proofs.PartsLaws.{length-part, get_or-part, tab_ext}
-use Rattle.csv.specs.Csv.{file_of}
+use Rattle.csv_grammar.specs.Csv.{file_of}
 use Rattle.rules.specs.Everyone.{everyone}
 use Rattle.rules.specs.Store.{Store}
 use Rattle.rules.specs.Records.{request_of, refusal, kind_field, kind_sign_on, kind_report, kind_sign_off, radio_field}

@@ -7,7 +7,7 @@ use Rattle.lists.specs.Rows.{Row}
 use Rattle.lists.specs.Sums.{sum_by, sum_to, concat, count}
 use Rattle.lists.specs.Tests.{one_if, both, either}
 use Rattle.lists.specs.Words.{wide}
-use Rattle.csv.specs.Csv.{file_of}
+use Rattle.csv_grammar.specs.Csv.{file_of}
 use Rattle.page.specs.Page.{next, entries}
 use Rattle.page.specs.Buffer.{page_at}
 use Rattle.rules.specs.Records.{kind_field, kind_sign_on, kind_report}

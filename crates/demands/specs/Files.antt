@@ -3,8 +3,8 @@ use Rattle.std.specs.Prelude.{false, List, [], ◌∷◌, ◌≡◌, ℕ, ◌≤
 use Rattle.std.proofs.Math.Option.{Option, some}
 use Rattle.terms.specs.Terms.{Fix}
 use Rattle.lists.specs.Tests.{both}
-use Rattle.csv.specs.Csv.{Listed, lines, file_read, max_minute}
-use Rattle.csv.specs.Order.{in_order}
+use Rattle.csv_grammar.specs.Csv.{Listed, lines, file_read, max_minute}
+use Rattle.csv_grammar.specs.Order.{in_order}
 use Rattle.page.specs.Buffer.{buffer_bytes}
 use Rattle.rules.specs.Calls.{hands, writes}
 use Rattle.rules.specs.Carry.{latest}

@@ -1,4 +1,6 @@
 // The desk as the serving program holds it, and a fresh one. What its arrays hold past the counts is zero.
+#![tactic(auto)]
+
 ghost use Rattle.std.specs.Prelude.{◌≡◌, ◌*◌, ◌<◌, length, get_or, set};
 ghost use Rattle.rules.specs.Limits.{max_cells, full_memory};
 ghost use Rattle.rules.specs.Watches.{fresh_watched};
@@ -7,14 +9,14 @@ ghost use Rattle.desk.specs.Views.{every_slot, every_report, lines_in};
 
 // The cuts of one direction, rising.
 #[repr(C)]
-#[derive(Drop)]
+#[derive(Clone, Copy)]
 pub struct CutList {
     pub n: u16,
     pub at: [u16; Desk::MAX_CUTS],
 }
 
 // A cell of the directory: its number, its edges and the first page of its chain.
-#[derive(Drop)]
+#[derive(Clone, Copy)]
 pub struct Slot {
     pub number: u16,
     pub west: u16,
@@ -25,7 +27,7 @@ pub struct Slot {
 }
 
 // A waiting report; `new` is 1 where it is marked new, else 0; `low` and `high` are the halves of its minute.
-#[derive(Drop)]
+#[derive(Clone, Copy)]
 pub struct Report {
     pub radio: u16,
     pub east: u16,
@@ -36,7 +38,7 @@ pub struct Report {
 }
 
 // A memo line; `placed` is 1 where it has a place, and 0, with the place zero, where it has none.
-#[derive(Drop)]
+#[derive(Clone, Copy)]
 pub struct Line {
     pub radio: u16,
     pub missed: u16,
@@ -47,7 +49,7 @@ pub struct Line {
 
 // The grid but for the directory's array: the cuts, how many cells there are, and the front of the free chain.
 #[repr(C)]
-#[derive(Drop)]
+#[derive(Clone, Copy)]
 pub struct Frame {
     pub easts: CutList,
     pub norths: CutList,
@@ -58,7 +60,7 @@ pub struct Frame {
 // The desk but for its arrays: the grid's frame, how many reports wait, memo lines there are and radios are on, the tally, and the highest minute of an accepted
 // sign-on, report or sign-off.
 #[repr(C)]
-#[derive(Drop)]
+#[derive(Clone, Copy)]
 pub struct Parts {
     pub frame: Frame,
     pub waiting: u16,
@@ -70,7 +72,7 @@ pub struct Parts {
 
 // Whoever gets a struct by value copies it, and an array of structs cannot be lent: so what is small goes by value, and the rest is arrays of numbers.
 #[repr(C)]
-#[derive(Drop)]
+#[derive(Clone, Copy)]
 pub struct Desk {
     pub parts: Parts,
     // the directory, in the order of the round, its front first: the fields of one cell after the other
@@ -89,7 +91,7 @@ pub struct Desk {
 // What a call answers: 0 or the number of the check that turned it down, the watches that gained, or lost, the radio of an accepted record, a bit for each,
 // and what it counted: a file may have any number of lines.
 #[repr(C)]
-#[derive(Drop)]
+#[derive(Clone, Copy)]
 pub struct Answer {
     pub number: u16,
     pub gained: u16,
@@ -117,7 +119,7 @@ pub fn counted(number: u16, count: u64) -> Answer
 }
 
 // The rectangle of a range or a watch.
-#[derive(Drop)]
+#[derive(Clone, Copy)]
 pub struct Rectangle {
     pub west: u16,
     pub east: u16,

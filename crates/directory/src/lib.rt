@@ -1,5 +1,7 @@
 // The directory and the cuts as the desk holds them: in their order, unused slots zero. The directory's array is lent, with the number of cells beside it; the
 // cuts go by value.
+#![tactic(auto)]
+
 ghost use Rattle.std.specs.Prelude.{[], ◌∷◌, ◌++◌, ◌≡◌, ◌+◌, ◌-◌, ◌*◌, ◌<◌, ◌≤◌, length};
 ghost use Rattle.lists.specs.Parts.{insert_at, remove_at};
 ghost use Rattle.rules.specs.Limits.{max_cells, max_cuts};

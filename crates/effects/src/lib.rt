@@ -1,4 +1,6 @@
 // A sign-on, a report and a sign-off on a sound store: its own effect, and what follows. The desk comes in its parts, with its arrays and the pages lent.
+#![tactic(auto)]
+
 ghost use Rattle.terms.specs.Terms.{fix_at};
 ghost use Rattle.rules.specs.Sweep.{tick};
 ghost use Rattle.rules.specs.Records.{sign_on, report, sign_off};

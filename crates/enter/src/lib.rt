@@ -1,5 +1,7 @@
 // Enter the waiting reports of a memory cell: each goes into the swept cell's table, and the memo takes its place, with a miss more where an older entry lies
 // elsewhere.
+#![tactic(auto)]
+
 ghost use Rattle.std.specs.Prelude.{false, [], ◌∷◌, ◌≡◌, ◌*◌, ◌≤◌, length};
 ghost use Rattle.std.proofs.Math.Option.{none, some};
 ghost use Rattle.lists.specs.Rows.{alter};

@@ -1,4 +1,6 @@
 // A field: sixteen bits in a slice of bytes, the lower byte first. A wide field: thirty-two bits, as two fields, the lower one first.
+#![tactic(auto)]
+
 ghost use Rattle.std.specs.Prelude.{◌≡◌, ◌+◌, ◌*◌, ◌≤◌, length};
 ghost use Rattle.lists.specs.Parts.{put};
 ghost use Rattle.lists.specs.Words.{le, word, wide, low_half, high_half};

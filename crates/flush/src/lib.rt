@@ -1,4 +1,6 @@
 // What follows the own effect of a sign-on or report, before the tally counts it: the memory cell that is due is flushed, if one is.
+#![tactic(auto)]
+
 ghost use Rattle.std.specs.Prelude.{◌≡◌, ◌*◌, ◌≤◌, length};
 ghost use Rattle.entries.specs.Entries.{table_words};
 ghost use Rattle.rules.specs.Limits.{max_cells};

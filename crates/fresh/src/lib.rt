@@ -1,4 +1,6 @@
 // Making a fresh store: the desk and the pages that every list of calls begins with.
+#![tactic(auto)]
+
 ghost use Rattle.std.specs.Prelude.{cond, ◌≡◌, ◌+◌, ◌<◌, eqb, length, drop};
 ghost use Rattle.terms.specs.Terms.{pages, no_page};
 ghost use Rattle.lists.specs.Parts.{put};

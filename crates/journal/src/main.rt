@@ -1,4 +1,6 @@
 // The journal printer on standard input and output, from a fresh store.
+#![tactic(auto)]
+
 use desk::Desk;
 use journal_input::WINDOW_BYTES;
 use journal_printer::{LIST_BYTES, Stage};

@@ -1,4 +1,6 @@
 // The input as the journal printer reads it: a window over it, what of the window is at hand, and what the last read said of the input.
+#![tactic(auto)]
+
 ghost use Rattle.std.specs.Prelude.{true, false, ◌≡◌, ◌+◌, ◌≤◌, ◌<◌, length, take, drop};
 ghost use Rattle.rules.specs.Records.{length_field};
 ghost use Rattle.journal_input.specs.Input.{source_of, is_open, has_failed, window_bytes, at_hand, InWindow, Fills, Reaches};
@@ -19,7 +21,7 @@ pub struct Hand {
 }
 
 // What the last read said of the input: more may come, it has ended, or it cannot be read.
-#[derive(Drop)]
+#[derive(Clone, Copy)]
 pub enum Source {
     Open,
     Ended,

@@ -1,4 +1,6 @@
 // The journal printer: carries the records of its input, one after the other, and prints what each is answered.
+#![tactic(auto)]
+
 ghost use Rattle.std.specs.Prelude.{◌≡◌, ◌+◌, ◌*◌, ◌≤◌, ◌<◌, length, drop};
 ghost use Rattle.desk.specs.Layout.{fresh_pages};
 ghost use Rattle.demands.specs.Trace.{fresh_desk};
@@ -19,7 +21,7 @@ const NOT_AT_HAND: u16 = 3;
 const KIND_RANGE: u16 = 4;
 
 // Whether a record may follow, and why none does.
-#[derive(Drop)]
+#[derive(Clone, Copy)]
 pub enum Stage {
     GoesOn,
     InputEnded,

@@ -1,4 +1,6 @@
 // A whole journal carried from a fresh store, with all its answers.
+#![tactic(auto)]
+
 ghost use Rattle.std.specs.Prelude.{cond, false, ◌++◌, ◌≡◌, ◌+◌, ◌≤◌, ◌<◌, eqb, length, drop};
 ghost use Rattle.terms.specs.Terms.{field_bytes, max_on};
 ghost use Rattle.lists.specs.Parts.{put};

@@ -1,5 +1,7 @@
 // What the latest report of each radio on told, place and minute, in three columns beside the radios on: for writing all of them into a file. Neither desk nor
 // pages are altered. A table by radio says where each radio on stands, so no column has more slots than there may be radios on.
+#![tactic(auto)]
+
 ghost use Rattle.std.specs.Prelude.{true, ◌≡◌, ◌-◌, ◌*◌, ◌≤◌, ◌<◌, length, get_or};
 ghost use Rattle.terms.specs.Terms.{fix_at, max_radio, max_on};
 ghost use Rattle.lists.specs.Rows.{Rising, UpTo};

@@ -1,5 +1,7 @@
 // The latest place of each radio on, in a table by radio, of a sound ledger. No entry is judged: a radio without a memo line has one entry, and that of a
 // radio with a line, which isn't stale, has the line's place. So the lines' places lie over the entries', and the waiting reports' over these.
+#![tactic(auto)]
+
 ghost use Rattle.std.specs.Prelude.{true, List, ◌≡◌, ℕ, ◌*◌, ◌≤◌, length, take};
 ghost use Rattle.std.proofs.Math.Option.{some};
 ghost use Rattle.terms.specs.Terms.{max_radio};

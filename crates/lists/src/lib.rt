@@ -1,4 +1,6 @@
 // List theory: specs/ has the definitions, proofs/ their laws. Of code only what every layer may ask: a test counted, numbers copied.
+#![tactic(auto)]
+
 ghost use Rattle.std.specs.Prelude.{◌≡◌, ◌≤◌, length};
 ghost use Rattle.lists.specs.Tests.{one_if};
 

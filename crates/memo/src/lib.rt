@@ -1,4 +1,6 @@
 // The memo in the desk's array: lines by rising radio, unused slots zero. The array is lent, with the number of lines beside it: no call copies a memo.
+#![tactic(auto)]
+
 ghost use Rattle.std.proofs.Math.Option.{none, some};
 ghost use Rattle.std.specs.Prelude.{◌≡◌, ◌+◌, ◌*◌, ◌<◌, ◌≤◌, length};
 ghost use Rattle.lists.specs.Parts.{insert_at};

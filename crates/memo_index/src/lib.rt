@@ -1,4 +1,6 @@
 // Where each radio's memo line stands, in a table by radio, and an entry judged by the line that the table names: the memo is not searched for it.
+#![tactic(auto)]
+
 ghost use Rattle.std.specs.Prelude.{not, ◌≡◌, ◌+◌, ◌-◌, ◌*◌, ◌<◌, ◌≤◌, length};
 ghost use Rattle.terms.specs.Terms.{max_radio};
 ghost use Rattle.lists.specs.Rows.{Rising, UpTo};

@@ -1,4 +1,6 @@
 // Lines lowered: each line of the memo whose radio has lost a stale entry has one miss less, and goes at 0.
+#![tactic(auto)]
+
 ghost use Rattle.std.specs.Prelude.{true, ◌≡◌, ◌-◌, ◌*◌, ◌≤◌, length, replicate};
 ghost use Rattle.lists.specs.Parts.{put};
 ghost use Rattle.lists.specs.Tests.{is_some};

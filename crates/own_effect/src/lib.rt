@@ -1,5 +1,7 @@
 // A record's own effect on what the desk holds, before any flush: what waits, who is on, and the memo, whose arrays are lent. Their counts go by value, and the
 // new ones are answered.
+#![tactic(auto)]
+
 ghost use Rattle.std.specs.Prelude.{true, cond, ◌≡◌};
 ghost use Rattle.std.proofs.Math.Option.{none, some};
 ghost use Rattle.terms.specs.Terms.{fix_at};

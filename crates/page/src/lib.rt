@@ -1,4 +1,6 @@
 // Pages: their bytes in the lent buffer, read.
+#![tactic(auto)]
+
 ghost use Rattle.std.specs.Prelude.{true, ◌≡◌, ◌+◌, ◌*◌, ◌<◌, ◌≤◌, length};
 ghost use Rattle.terms.specs.Terms.{pages, page_entries};
 ghost use Rattle.entries.specs.Entries.{row_of};
@@ -99,7 +101,7 @@ pub fn read_entry(page: &[u8], i: usize) -> Entry
 // ---- chains
 
 // How a chain ends: at none, past its bound, or at a page that is not there.
-#[derive(Drop)]
+#[derive(Clone, Copy)]
 pub enum ChainEnd {
     Ended,
     PastBound,
@@ -107,7 +109,7 @@ pub enum ChainEnd {
 }
 
 // The first n of `pages`, in the chain's order.
-#[derive(Drop)]
+#[derive(Clone, Copy)]
 pub struct Chain {
     pub end: ChainEnd,
     pub n: usize,

@@ -1,4 +1,6 @@
 // Chains read: the pages from a first page on, by next page.
+#![tactic(auto)]
+
 ghost use Rattle.std.specs.Prelude.{◌≡◌, ◌≤◌};
 ghost use Rattle.terms.specs.Terms.{pages};
 ghost use Rattle.page.specs.Buffer.{pages_of, chain_from, end_of, bound_end, end_from};

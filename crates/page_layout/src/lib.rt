@@ -1,4 +1,6 @@
 // The test of a page's layout: whether its bytes are those of a page with some entries.
+#![tactic(auto)]
+
 ghost use Rattle.std.specs.Prelude.{◌≡◌, ◌+◌, ◌*◌, ◌≤◌, max, length, drop};
 ghost use Rattle.terms.specs.Terms.{page_entries};
 ghost use Rattle.lists.specs.Parts.{tab};

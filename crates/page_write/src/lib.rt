@@ -1,4 +1,6 @@
 // Pages written: one page of the lent buffer anew, from a table's entries or as a free page.
+#![tactic(auto)]
+
 ghost use Rattle.std.specs.Prelude.{◌≡◌, ◌+◌, ◌-◌, ◌<◌, ◌≤◌, length, replicate};
 ghost use Rattle.terms.specs.Terms.{max_on, pages, page_entries};
 ghost use Rattle.lists.specs.Parts.{part, put};

@@ -1,4 +1,6 @@
 // Range: the list of those radios on whose place, as a table by radio has it, lies in a rectangle. Neither desk nor pages are altered.
+#![tactic(auto)]
+
 ghost use Rattle.std.specs.Prelude.{[], ◌∷◌, ◌≡◌, ◌+◌, ◌*◌, ◌≤◌, length};
 ghost use Rattle.terms.specs.Terms.{max_radio, max_on};
 ghost use Rattle.lists.specs.Parts.{put};

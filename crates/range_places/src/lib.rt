@@ -1,5 +1,7 @@
 // A place for each radio in a table by radio: that of its entry that isn't stale, as far as cells that a rectangle touches have it, over it a waiting report's,
 // each marked if it lies in the rectangle and is not too old. Neither desk nor pages are altered.
+#![tactic(auto)]
+
 ghost use Rattle.std.specs.Prelude.{true, cond, ◌≡◌, ◌-◌, ◌*◌, ◌≤◌, length};
 ghost use Rattle.std.proofs.Math.Option.{none, some};
 ghost use Rattle.terms.specs.Terms.{fix_at, max_radio};
@@ -47,7 +49,7 @@ fn is_touched(area: Rectangle, cell: Slot) -> bool
 const KEPT_MINUTES: u32 = 720;
 
 // The rectangle, and the earliest minute that is listed.
-#[derive(Drop)]
+#[derive(Clone, Copy)]
 pub struct Search {
     pub area: Rectangle,
     pub since: u32,

@@ -1,4 +1,6 @@
 // A record's bytes: what they ask, or the number under which they are turned down. No byte past the slice is read.
+#![tactic(auto)]
+
 ghost use Rattle.std.specs.Prelude.{◌≡◌, ◌≤◌, length};
 ghost use Rattle.terms.specs.Terms.{max_on};
 ghost use Rattle.lists.specs.Rows.{Rising};

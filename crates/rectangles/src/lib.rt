@@ -1,4 +1,6 @@
 // The rectangle of a range or a watch: what it takes in.
+#![tactic(auto)]
+
 ghost use Rattle.std.specs.Prelude.{◌≡◌};
 ghost use Rattle.rules.specs.Grid.{takes_in, covers, is_reversed};
 ghost use Rattle.desk.specs.Views.{rect_of};

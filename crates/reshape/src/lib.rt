@@ -1,5 +1,7 @@
 // What follows once the reports of a flush are in d: it is split, or joined with a neighbour, or its chain takes or gives up pages; and it goes to the end of
 // the round.
+#![tactic(auto)]
+
 ghost use Rattle.std.specs.Prelude.{◌≡◌, ◌<◌, ◌≤◌, length};
 ghost use Rattle.terms.specs.Terms.{max_on, pages, page_entries};
 ghost use Rattle.entries.specs.Entries.{table_with, table_words, rows_of};

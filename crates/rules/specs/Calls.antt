@@ -2,7 +2,7 @@
 use Rattle.std.specs.Prelude.{not, cond, List, ℕ, eqb, leb, set}
 use Rattle.std.proofs.Math.Option.{none, some}
 use Rattle.lists.specs.Tests.{either, is_some}
-use Rattle.csv.specs.Csv.{file_of}
+use Rattle.csv_grammar.specs.Csv.{file_of}
 use Rattle.rules.specs.Grid.{Rect, Cuts, is_reversed}
 use Rattle.rules.specs.Records.{radio_field}
 use Rattle.rules.specs.Carry.{carry}

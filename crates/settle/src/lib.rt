@@ -1,5 +1,7 @@
 // A cell's chain is settled: its entries are written to the pages that they need, pages that it has too many go to the front of the free chain, and pages that
 // it has too few come from there.
+#![tactic(auto)]
+
 ghost use Rattle.std.specs.Prelude.{◌≡◌, ◌+◌, ◌-◌, ◌<◌, ◌≤◌, min, length, drop, take};
 ghost use Rattle.terms.specs.Terms.{max_on, pages, page_entries, no_page};
 ghost use Rattle.lists.specs.Chains.{chain_head, settled_chain};

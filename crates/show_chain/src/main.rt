@@ -1,4 +1,6 @@
 // Writes a cell's chain of three pages and a free page into a page buffer, reads the chain back and prints what it found.
+#![tactic(auto)]
+
 ghost use Rattle.std.specs.Prelude.{◌≡◌, ◌<◌, ◌≤◌, length};
 ghost use Rattle.terms.specs.Terms.{pages, page_entries, max_on};
 ghost use Rattle.entries.specs.Entries.{table_words};

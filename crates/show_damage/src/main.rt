@@ -1,4 +1,6 @@
 // Damages a good page buffer in one place at a time, mends it again, and prints what reading a chain and the test of a page's layout answer.
+#![tactic(auto)]
+
 ghost use Rattle.std.specs.Prelude.{◌≡◌, ◌+◌, ◌<◌, ◌≤◌, length};
 ghost use Rattle.terms.specs.Terms.{pages, max_on, field_bytes};
 ghost use Rattle.entries.specs.Entries.{table_words};

@@ -1,4 +1,6 @@
 // A store as programs print it: the desk, and each cell's pages beside the cell.
+#![tactic(auto)]
+
 ghost use Rattle.std.specs.Prelude.{◌≡◌, ◌≤◌, length};
 ghost use Rattle.terms.specs.Terms.{pages as page_count, page_entries};
 ghost use Rattle.page.specs.Page.{page_bytes};

@@ -1,5 +1,7 @@
 // Carries records from a fresh store on, one by one, and prints desk and pages before and after those whose flush splits a cell, joins two and lets a chain
 // grow, and the one whose tally sweeps.
+#![tactic(auto)]
+
 ghost use Rattle.std.specs.Prelude.{◌≡◌, ◌≤◌, length};
 ghost use Rattle.page.specs.Buffer.{buffer_bytes};
 

@@ -30,13 +30,13 @@ pub const HIGHEST: u32 = 70000;
 
 // ---- the desk's parts, as they are made: slots in use first
 
-#[derive(Drop)]
+#[derive(Clone, Copy)]
 pub struct Directory {
     pub n: u16,
     pub slots: [Slot; Desk::MAX_CELLS],
 }
 
-#[derive(Drop)]
+#[derive(Clone, Copy)]
 pub struct Waiting {
     pub n: u16,
     pub rows: [Report; Desk::WAITING_SLOTS],
@@ -48,7 +48,7 @@ pub struct Memo {
     pub words: [u16; Desk::MEMO_WORDS],
 }
 
-#[derive(Drop)]
+#[derive(Clone, Copy)]
 pub struct On {
     pub n: u16,
     pub radios: [u16; Desk::MAX_ON],

@@ -1,5 +1,7 @@
 // Builds a sound store by hand, breaks its desk in one clause of "A sound store" at a time, and prints what the test of number 2 says of each.
 // `show_sound_pages` breaks its pages.
+#![tactic(auto)]
+
 mod desk_clauses;
 mod limits;
 mod radio_clauses;

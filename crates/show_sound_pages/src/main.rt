@@ -1,4 +1,6 @@
 // Builds a sound store by hand, breaks its pages and chains in one clause of "A sound store" at a time, and prints what the test of number 2 says of each.
+#![tactic(auto)]
+
 mod flips;
 mod page_clauses;
 

@@ -1,4 +1,6 @@
 // The test of number 2: whether desk and pages are those of a sound store.
+#![tactic(auto)]
+
 ghost use Rattle.std.specs.Prelude.{true, ◌≡◌};
 ghost use Rattle.desk.specs.Held.{ledger_with, desk_with};
 ghost use Rattle.desk.specs.Sizes.{LedgerArrays, DeskArrays};

@@ -1,5 +1,7 @@
 // What is due and what is found of each radio, in one table by radio: what is due is taken off a radio's number, and what is found is added. Each must come to
 // 0 again.
+#![tactic(auto)]
+
 ghost use Rattle.std.specs.Prelude.{◌≡◌, ◌+◌, ◌-◌, ◌*◌, ◌%◌, ◌<◌, ◌≤◌, min, not, length, ◌==◌};
 ghost use Rattle.terms.specs.Terms.{max_radio, max_on};
 ghost use Rattle.lists.specs.Rows.{Rising, UpTo};

@@ -1,5 +1,7 @@
 // The test of soundness as far as it looks at the desk alone: with what each of its parts says by itself, how many wait in a memory cell. The desk may be in
 // any condition: a count is tested before a slot is looked at.
+#![tactic(auto)]
+
 ghost use Rattle.std.specs.Prelude.{◌≡◌, ◌*◌, ◌≤◌, length};
 ghost use Rattle.rules.specs.Limits.{max_cells, max_cuts, full_memory};
 ghost use Rattle.terms.specs.Terms.{max_on};

@@ -1,5 +1,7 @@
 // The test of soundness as far as it looks at the cuts of one direction or at the directory's numbers alone. They may be in any condition: a count is tested
 // before a slot is looked at.
+#![tactic(auto)]
+
 ghost use Rattle.std.specs.Prelude.{true, ◌≡◌, ◌*◌, ◌≤◌, eqb, leb, ltb, length, take};
 ghost use Rattle.lists.specs.Tests.{both};
 ghost use Rattle.rules.specs.Limits.{max_cells};

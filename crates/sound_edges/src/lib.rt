@@ -1,4 +1,6 @@
 // The edges of a cell on cuts that rise: which stripe each bounds, and which stripes lie between two of them.
+#![tactic(auto)]
+
 ghost use Rattle.std.specs.Prelude.{true, ◌≡◌, ◌-◌, ◌≤◌, ltb, length, take};
 ghost use Rattle.lists.specs.Sums.{count};
 ghost use Rattle.rules.specs.Grid.{stripe};

@@ -1,4 +1,6 @@
 // The walk over the entries of all cells: each is judged by its radio's memo line, and added to its radio's number.
+#![tactic(auto)]
+
 ghost use Rattle.std.specs.Prelude.{map, ◌≡◌, ◌+◌, ◌-◌, ◌*◌, ◌<◌, ◌≤◌, length, take};
 ghost use Rattle.terms.specs.Terms.{max_radio, page_entries};
 ghost use Rattle.lists.specs.Rows.{UpTo};

@@ -1,5 +1,7 @@
 // The test of soundness as far as it looks at cuts and directory alone: with what each of them says by itself, the edges of each cell, and that the cells tile
 // the area. They may be in any condition: a count is tested before a slot is looked at.
+#![tactic(auto)]
+
 ghost use Rattle.std.specs.Prelude.{true, ◌≡◌, [], ◌∷◌, ◌+◌, ◌*◌, ◌<◌, ◌≤◌, min, length};
 ghost use Rattle.lists.specs.Tests.{both};
 ghost use Rattle.rules.specs.Limits.{max_cells, max_cuts};

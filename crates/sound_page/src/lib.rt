@@ -1,4 +1,6 @@
 // The test of one page by itself, on any bytes whatever: a page of a cell's chain, or a free page.
+#![tactic(auto)]
+
 ghost use Rattle.std.specs.Prelude.{◌≡◌, ◌≤◌, length};
 ghost use Rattle.terms.specs.Terms.{page_entries, no_cell};
 ghost use Rattle.lists.specs.Parts.{tab};

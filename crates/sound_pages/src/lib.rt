@@ -1,4 +1,6 @@
 // The test of soundness, its part that looks at pages, chains and the directory: on any bytes and any directory whatever.
+#![tactic(auto)]
+
 ghost use Rattle.std.specs.Prelude.{true, ◌≡◌, ◌*◌, ◌≤◌, ◌<◌, length, take};
 ghost use Rattle.terms.specs.Terms.{no_page};
 ghost use Rattle.lists.specs.Tests.{both, all};

@@ -1,5 +1,7 @@
 // The test of soundness as far as it judges entries: by memo, marks and who is on, and the round's inequality; and unmarked reports, by who is on. Desk and
 // pages have passed the tests of their own.
+#![tactic(auto)]
+
 ghost use Rattle.std.specs.Prelude.{true, ◌≡◌, ◌+◌, ◌-◌, ◌*◌, ◌<◌, ◌≤◌, length, take};
 ghost use Rattle.terms.specs.Terms.{max_on};
 ghost use Rattle.rules.specs.Limits.{max_cells, full_memory, sweep_every};

@@ -1,5 +1,7 @@
 // The test of soundness as far as it looks at radios on, at waiting reports or at memo lines, each by itself. They may be in any condition: a count is tested
 // before a slot is looked at.
+#![tactic(auto)]
+
 ghost use Rattle.std.specs.Prelude.{◌≡◌, ◌*◌, ◌<◌, ◌≤◌, eqb, length, take};
 ghost use Rattle.terms.specs.Terms.{max_on};
 ghost use Rattle.lists.specs.Parts.{part};

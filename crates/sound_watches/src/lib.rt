@@ -1,4 +1,6 @@
 // The test of soundness as far as it looks at the watches. The ledger has passed the tests of its own.
+#![tactic(auto)]
+
 ghost use Rattle.std.specs.Prelude.{true, false, ◌≡◌, ℕ, ◌*◌, ◌<◌, length};
 ghost use Rattle.rules.specs.Grid.{is_reversed};
 ghost use Rattle.rules.specs.Watches.{max_watches};

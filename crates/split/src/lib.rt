@@ -1,4 +1,6 @@
 // What a split makes of a cell: the entries on each side of the cut, and the directory's slots of the two cells.
+#![tactic(auto)]
+
 ghost use Rattle.std.specs.Prelude.{not, ◌≡◌, ◌≤◌, length};
 ghost use Rattle.terms.specs.Terms.{max_on};
 ghost use Rattle.lists.specs.Sums.{filter};

@@ -15,10 +15,10 @@ use Rattle.lists.specs.Tests.{one_if, both, either, is_some, Each}
 use Rattle.lists.proofs.Cases.{by_cases, option_cases}
 use Rattle.lists.proofs.RowsLaws.{sum_at_key, find_head, find_tail}
 use Rattle.lists.proofs.TestsLaws.{Each_map}
-use Rattle.csv.specs.Csv.{Listed, lines, file_read, file_of, Fits, numbered}
-use Rattle.csv.specs.Order.{in_order}
-use Rattle.csv.proofs.OrderLaws.{sum-in_order, length-in_order, Each-in_order, minutes_rise}
-use Rattle.csv.proofs.ReadLaws.{read_written}
+use Rattle.csv_grammar.specs.Csv.{Listed, lines, file_read, file_of, Fits, numbered}
+use Rattle.csv_grammar.specs.Order.{in_order}
+use Rattle.csv_grammar.proofs.OrderLaws.{sum-in_order, length-in_order, Each-in_order, minutes_rise}
+use Rattle.csv_grammar.proofs.ReadLaws.{read_written}
 use Rattle.rules.specs.Plain.{plain_fresh, put_at}
 use Rattle.rules.specs.Watches.{Watched, fresh_watched}
 use Rattle.csv_order.specs.Checks.{stop_of, also_on, first_stop}

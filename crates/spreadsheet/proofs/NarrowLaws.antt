@@ -14,7 +14,7 @@ use Rattle.lists.proofs.Cases.{by_cases, option_cases, none-some, some_injective
 use Rattle.lists.proofs.RowsLaws.{Each-find, passed-true}
 use Rattle.lists.proofs.TestsLaws.{Each_zip}
 use Rattle.lists.proofs.WordsLaws.{word_small}
-use Rattle.csv.specs.Csv.{max_metre, max_minute}
+use Rattle.csv_grammar.specs.Csv.{max_metre, max_minute}
 use Rattle.rules.specs.Grid.{Cuts}
 use Rattle.rules.specs.Store.{Line, Cell, Store}
 use Rattle.rules.specs.Carry.{live_in, stored_in, fix_of, latest}

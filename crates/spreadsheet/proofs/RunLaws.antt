@@ -16,8 +16,8 @@ use Rattle.lists.specs.Sums.{sum_to}
 use Rattle.lists.specs.Tests.{one_if, both, either, is_some, Each}
 use Rattle.lists.proofs.Cases.{by_cases, option_cases, none-some}
 use Rattle.lists.proofs.SumsLaws.{sum_to_but, sum_to_zero}
-use Rattle.csv.specs.Csv.{Listed, Fits}
-use Rattle.csv.specs.Order.{MinutesRise}
+use Rattle.csv_grammar.specs.Csv.{Listed, Fits}
+use Rattle.csv_grammar.specs.Order.{MinutesRise}
 use Rattle.rules.specs.Grid.{Cuts, Box}
 use Rattle.rules.specs.Records.{sign_on, request_of, refusal}
 use Rattle.rules.specs.Store.{Store}

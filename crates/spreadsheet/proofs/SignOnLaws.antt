@@ -11,7 +11,7 @@ use Rattle.terms.specs.Terms.{Fix, max_radio, max_on}
 use Rattle.lists.specs.Rows.{Row}
 use Rattle.lists.specs.Tests.{both, either, Each}
 use Rattle.lists.specs.Words.{le, word, Bytes}
-use Rattle.csv.specs.Csv.{Fits}
+use Rattle.csv_grammar.specs.Csv.{Fits}
 use Rattle.rules.specs.Records.{length_field, kind_field, radio_field, place_field, minute_field, fix_field, sign_on, request_of, length_of, not_at_hand, unknown_kind, wrong_length, no_radio, no_fix, too_early, reversed, on_already, not_on, no_room, refusal}
 use Rattle.spreadsheet.specs.Read.{sign_on_of}
 use Rattle.csv_order.specs.Checks.{stop_of}

@@ -4,8 +4,8 @@ use Rattle.std.proofs.Math.Option.{Option, none, some}
 use Rattle.terms.specs.Terms.{Fix, field_bytes, minute_bytes}
 use Rattle.lists.specs.Rows.{Row}
 use Rattle.lists.specs.Words.{le}
-use Rattle.csv.specs.Csv.{Listed, File, lines, bad, file_read}
-use Rattle.csv.specs.Order.{in_order}
+use Rattle.csv_grammar.specs.Csv.{Listed, File, lines, bad, file_read}
+use Rattle.csv_grammar.specs.Order.{in_order}
 use Rattle.csv_order.specs.declared.Stop.{Stop}
 use Rattle.rules.specs.Records.{kind_sign_on}
 use Rattle.rules.specs.Plain.{Plain, plain_fresh, plain_step}

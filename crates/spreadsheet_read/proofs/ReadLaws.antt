@@ -12,10 +12,10 @@ use borrow.Author.Tests.{eqb-true, eqb-false}
 use Rattle.terms.specs.Terms.{max_on}
 use Rattle.lists.specs.Tests.{Each}
 use Rattle.lists.proofs.Cases.{by_cases, option_cases, none-some}
-use Rattle.csv.specs.Csv.{Listed, File, lines, bad, file_read, Fits}
-use Rattle.csv.specs.Order.{in_order, sort_all}
-use Rattle.csv.proofs.OrderLaws.{Each-in_order, minutes_rise}
-use Rattle.csv.proofs.RangeLaws.{read_Fits}
+use Rattle.csv_grammar.specs.Csv.{Listed, File, lines, bad, file_read, Fits}
+use Rattle.csv_grammar.specs.Order.{in_order, sort_all}
+use Rattle.csv_grammar.proofs.OrderLaws.{Each-in_order, minutes_rise}
+use Rattle.csv_grammar.proofs.RangeLaws.{read_Fits}
 use Rattle.csv_order.specs.declared.Stop.{Stop}
 use Rattle.csv_order.specs.Checks.{stop_of, first_stop, stop_in, answered}
 use Rattle.csv_order.specs.Table.{table_lines, listed_in, Table}

@@ -10,7 +10,7 @@ use Rattle.lists.specs.Parts.{put}
 use Rattle.lists.specs.Sums.{concat}
 use Rattle.lists.specs.Words.{le}
 use Rattle.lists.proofs.PartsLaws.{put_then, put_whole}
-use Rattle.csv.specs.Csv.{Listed, Fits}
+use Rattle.csv_grammar.specs.Csv.{Listed, Fits}
 use Rattle.csv_order.specs.Table.{no_listed, every_line, listed_in, Table, Stands}
 use Rattle.csv_order.proofs.TableLaws.{length_listed, get_or_listed, range_at, Table_Stands}
 use Rattle.rules.specs.Limits.{max_cells, full_memory}

@@ -1,6 +1,6 @@
 -- Lines signed on one after the other, in desk and pages (02, Job 6).
 use Rattle.std.specs.Prelude.{List, [], ◌≡◌, ℕ}
-use Rattle.csv.specs.Csv.{Listed}
+use Rattle.csv_grammar.specs.Csv.{Listed}
 use Rattle.rules.specs.Calls.{carry_record}
 use Rattle.rules.specs.Watches.{Watched, RightWatches}
 use Rattle.rules.specs.WellFormed.{WellFormed}

@@ -1,12 +1,14 @@
 // Reading a file into a store of its own making, whatever desk and pages hold: all checks come before the first byte is written, then the lines are signed on
 // one after the other.
+#![tactic(auto)]
+
 ghost use Rattle.std.specs.Prelude.{◌≡◌, length};
 ghost use Rattle.page.specs.Buffer.{buffer_bytes};
 ghost use Rattle.desk.specs.Held.{desk_with};
 ghost use Rattle.desk.specs.Making.{found, made};
 ghost use Rattle.desk.specs.Sizes.{DeskArrays};
 ghost use Rattle.desk.specs.Sound.{Sound};
-ghost use Rattle.csv.specs.Csv.{Fits};
+ghost use Rattle.csv_grammar.specs.Csv.{Fits};
 ghost use Rattle.csv_order.specs.Checks.{stop_in};
 ghost use Rattle.csv_order.specs.Table.{listed_of, listed_in, Table};
 ghost use Rattle.rules.specs.Watches.{Watched, fresh_watched};

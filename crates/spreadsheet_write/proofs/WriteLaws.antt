@@ -9,7 +9,7 @@ use borrow.Author.Tests.{lt-ltb, le-ltb}
 use Rattle.terms.specs.Terms.{Fix, max_on}
 use Rattle.lists.specs.Parts.{put}
 use Rattle.lists.specs.Rows.{Rows}
-use Rattle.csv.specs.Csv.{file_of}
+use Rattle.csv_grammar.specs.Csv.{file_of}
 use Rattle.csv_text.specs.Text.{rows_in}
 use Rattle.rules.specs.Calls.{writes, carry_call}
 use Rattle.rules.specs.Everyone.{everyone}

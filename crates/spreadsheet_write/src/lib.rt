@@ -1,7 +1,9 @@
 // Writing all radios on into a file, from a store in any condition. Desk and pages are only read.
+#![tactic(auto)]
+
 ghost use Rattle.std.specs.Prelude.{◌≤◌};
 ghost use Rattle.terms.specs.Terms.{max_on};
-ghost use Rattle.csv.specs.Csv.{file_of};
+ghost use Rattle.csv_grammar.specs.Csv.{file_of};
 ghost use Rattle.csv_text.specs.Text.{rows_in};
 ghost use Rattle.rules.specs.Calls.{writes};
 ghost use Rattle.rules.specs.Everyone.{everyone};

@@ -1,6 +1,8 @@
 // Sweep a cell: its pages are read one after the other, and each entry is judged by the memo's line at its radio's rank. Entries and lines both rise by radio,
 // so that both are walked at once and no line is looked for anew. What stays goes straight to the table that is lent, and at the end each line that has lost an
 // entry is lowered. No page is written.
+#![tactic(auto)]
+
 ghost use Rattle.std.specs.Prelude.{true, not, ◌≡◌, ◌≤◌, length, set};
 ghost use Rattle.terms.specs.Terms.{max_on, pages};
 ghost use Rattle.lists.specs.Rows.{Rising, rank};

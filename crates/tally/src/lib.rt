@@ -1,4 +1,6 @@
 // The tally counts each accepted sign-on, report and sign-off, and at the 16th the cell at the front of the round is swept and goes last.
+#![tactic(auto)]
+
 ghost use Rattle.std.specs.Prelude.{◌≡◌, length};
 ghost use Rattle.entries.specs.Entries.{table_words};
 ghost use Rattle.rules.specs.Sweep.{swept, swept_memo, sweep_front};

@@ -1,5 +1,7 @@
 // Numbers of the contract with the user that the rules and the page format share. specs/Terms.antt has the same for the definitions; every proof that
 // meets both fails where they differ.
+#![tactic(auto)]
+
 pub const MAX_RADIO: u16 = 4095;
 
 pub const MAX_ON: usize = 512;

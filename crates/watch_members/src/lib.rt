@@ -1,5 +1,7 @@
 // The members of each watch, found anew from the latest places of a sound ledger: the array of the watches is laid out once more, from its rectangles alone.
 // The test of soundness compares, and a watch that is set takes what is laid out.
+#![tactic(auto)]
+
 ghost use Rattle.std.specs.Prelude.{◌≡◌, ℕ, ◌+◌, ◌*◌, ◌<◌, ◌≤◌, false, List, length, set, replicate, slice_index, slice_set};
 ghost use Rattle.std.proofs.Math.Option.{Option, none};
 ghost use Rattle.terms.specs.Terms.{Place, max_radio, max_on};

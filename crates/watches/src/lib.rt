@@ -1,4 +1,6 @@
 // The watches in their array: the rectangle of each, and a bit for each radio.
+#![tactic(auto)]
+
 ghost use Rattle.std.specs.Prelude.{cond, List, ◌≡◌, ℕ, ◌+◌, ◌*◌, ◌/◌, ◌≤◌, ◌<◌, length};
 ghost use Rattle.std.proofs.Math.Option.{Option, none, some};
 ghost use Rattle.terms.specs.Terms.{Place, max_radio};

@@ -1,5 +1,7 @@
 // Setting and clearing a watch on a store in any condition: the calls that aren't records. The desk comes in its parts, with its arrays lent; the watches alone
 // are altered, and the pages are only read.
+#![tactic(auto)]
+
 ghost use Rattle.std.specs.Prelude.{List, [], ◌≡◌, ℕ, ◌*◌, ◌<◌, length, replicate};
 ghost use Rattle.lists.specs.Parts.{put};
 ghost use Rattle.rules.specs.Watches.{max_watches};

@@ -3,7 +3,7 @@ use mathlib.Core.Path.{◌≡◌, refl}
 use Prim.Native.Nat.{◌≤◌, ◌-◌}
 use lib.ListN.{length, drop}
 use borrow.Author.Rules.{rules}
-use Rattle.csv.specs.Csv.{after_bytes}
+use Rattle.csv_grammar.specs.Csv.{after_bytes}
 use Rattle.csv_reader.proofs.EndLaws.{left_behind, left_inside, bytes_all, bytes_none, bytes_turn}
 use Rattle.csv_reader.proofs.bytes_end.Statement.{statement}
 use Rattle.csv_reader.proofs.bytes_end.Tie as tie

@@ -3,7 +3,7 @@ use mathlib.Core.Path.{◌≡◌, refl}
 use Prim.Native.Nat.{◌≤◌, ◌-◌}
 use lib.ListN.{length, drop}
 use borrow.Author.Rules.{rules}
-use Rattle.csv.specs.Csv.{digits_after}
+use Rattle.csv_grammar.specs.Csv.{digits_after}
 use Rattle.csv_reader.specs.Reading.{above, held_number}
 use Rattle.csv_reader.proofs.NumberLaws.{digit_above, digits_end, digits_stop, digits_turn}
 use Rattle.csv_reader.proofs.digits_at.Statement.{statement}

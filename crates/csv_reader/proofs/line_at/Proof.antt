@@ -11,7 +11,7 @@ use lib.ListN.{drop as drop_n}
 use types.Kit.{use0, use3}
 use denote.Enum.Laws as EL
 use denote.Struct.Laws as LL
-use Rattle.csv.specs.Csv.{line}
+use Rattle.csv_grammar.specs.Csv.{line}
 use Rattle.csv_reader.specs.Reading.{HandsOut, place_behind, line_from, Tells}
 use Rattle.csv_reader.specs.declared.Reader.{Reader}
 use Rattle.csv_reader.specs.declared.Field.{Field}

@@ -1,5 +1,5 @@
 use borrow.Author.Rules.{rules}
-use Rattle.csv.specs.Csv.{after_name}
+use Rattle.csv_grammar.specs.Csv.{after_name}
 use Rattle.csv_reader.specs.Reading.{after_quoted}
 use Rattle.csv_reader.proofs.EndLaws.{else_none, else_some}
 use Rattle.csv_reader.proofs.name_end.Statement.{statement}

@@ -1,4 +1,4 @@
-use Rattle.csv.specs.Csv.{header_line, line_with}
+use Rattle.csv_grammar.specs.Csv.{header_line, line_with}
 use borrow.Author.Rules.{rules}
 use Rattle.csv_text.proofs.put_header.Statement.{statement}
 use Rattle.csv_text.proofs.put_header.Tie as tie

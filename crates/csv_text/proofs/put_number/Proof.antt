@@ -3,7 +3,7 @@ use mathlib.Core.Path.{◌≡◌}
 use Prim.Native.Nat.{◌≤◌, ◌<◌}
 use native.Mathlib.Omega.{arith}
 use lib.ListN.{length}
-use Rattle.csv.specs.Csv.{max_minute}
+use Rattle.csv_grammar.specs.Csv.{max_minute}
 use borrow.Author.Rules.{rules}
 use Rattle.csv_text.proofs.NumberLaws.{Going, digits_end, Going_start, Going_within, Going_more, Going_turn, Going_end}
 use Rattle.csv_text.proofs.put_number.Statement.{statement}

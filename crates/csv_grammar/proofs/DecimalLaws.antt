@@ -10,7 +10,7 @@ use lib.ListN.{length, get_or, length-append}
 use borrow.Author.Tests.{le-leb, ltb-true, ltb-false}
 use Rattle.lists.proofs.Cases.{by_cases}
 use Rattle.lists.proofs.TestsLaws.{both_intro}
-use Rattle.csv.specs.Csv.{digit_zero, max_minute, digits_in, decimal, is_digit, digits_after, plain_number}
+use Rattle.csv_grammar.specs.Csv.{digit_zero, max_minute, digits_in, decimal, is_digit, digits_after, plain_number}
 
 -- the least number that d digits cannot hold
 abbrev ten_to : ℕ → ℕ

@@ -12,8 +12,8 @@ use Rattle.lists.specs.Rows.{Row, Rows}
 use Rattle.lists.specs.Tests.{Each, both}
 use Rattle.lists.proofs.Cases.{none-some}
 use Rattle.lists.proofs.TestsLaws.{both_intro}
-use Rattle.csv.specs.Csv.{line_feed, carriage_return, quote, comma, digit_zero, radio_name, east_name, north_name, minute_name, max_metre, max_minute, decimal, line_with, header_line, line_of, lines_of, file_of, and_then, after_byte, after_bytes, is_digit, digits_after, plain_number, quoted_number, number, after_name, after_line, field, Parsed, line, after_header, lines, also_line, lines_from, file_read, Fits, numbered}
-use Rattle.csv.proofs.DecimalLaws.{digits_after-decimal, plain_number-decimal, length-decimal_pos}
+use Rattle.csv_grammar.specs.Csv.{line_feed, carriage_return, quote, comma, digit_zero, radio_name, east_name, north_name, minute_name, max_metre, max_minute, decimal, line_with, header_line, line_of, lines_of, file_of, and_then, after_byte, after_bytes, is_digit, digits_after, plain_number, quoted_number, number, after_name, after_line, field, Parsed, line, after_header, lines, also_line, lines_from, file_read, Fits, numbered}
+use Rattle.csv_grammar.proofs.DecimalLaws.{digits_after-decimal, plain_number-decimal, length-decimal_pos}
 
 -- ---- a field as written is read back
 

@@ -11,7 +11,7 @@ use borrow.Author.Tests.{leb-true}
 use Rattle.lists.specs.Tests.{Each, both}
 use Rattle.lists.proofs.Cases.{by_cases, none-some, some_injective, option_cases, or_else_cases}
 use Rattle.lists.proofs.TestsLaws.{both_left, both_right}
-use Rattle.csv.specs.Csv.{comma, digit_zero, and_then, after_byte, after_bytes, Number, is_digit, digits_after, plain_number, quoted_number, number, after_name, after_line, field, Parsed, line, after_header, Listed, File, lines, bad, also_line, lines_from, file_read, Fits, numbered}
+use Rattle.csv_grammar.specs.Csv.{comma, digit_zero, and_then, after_byte, after_bytes, Number, is_digit, digits_after, plain_number, quoted_number, number, after_name, after_line, field, Parsed, line, after_header, Listed, File, lines, bad, also_line, lines_from, file_read, Fits, numbered}
 
 -- ---- what is read takes bytes
 
