@@ -42,6 +42,7 @@ module _ {Val : Type 0} where
 
   pub Rising_order : (b : ℕ) (l : Rows Val) (i k : ℕ) (d : Row Val) → Rising b l → i < k → k < length l → (get_or l i d).key < (get_or l k d).key
   Rising_order b [] i k d a h f = absurd (not-suc-le-zero f)
+  Rising_order b (x ∷ []) i zero d a h f = elim h [ ]
   Rising_order b (x ∷ []) i (suc k) d a h f = absurd (not-suc-le-zero (le_of_suc-le-suc f))
   Rising_order b (x ∷ y ∷ ys) i zero d a h f = absurd (not-suc-le-zero h)
   Rising_order b (x ∷ y ∷ ys) zero (suc zero) d a h f = a.1.0

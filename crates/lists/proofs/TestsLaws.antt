@@ -1,5 +1,5 @@
 -- Laws of tests as Bools, and of what they pick.
-use mathlib.Core.Path.{◌≡◌, refl, sym, ap}
+use mathlib.Core.Path.{◌≡◌, refl, sym, ap, subst}
 use mathlib.Core.Bool.{Bool, true, false, cond, ◌&&◌, ◌||◌}
 use mathlib.Core.List.{List, [], ◌∷◌, ◌++◌, map}
 use mathlib.Core.Option.{Option, none, some}
@@ -280,9 +280,10 @@ module _ {A : Type 0} where
   unfolding best
   best_none_better better asym trans x [] = (by_cases (better x x) (asym x x) (λ t. t), tt)
   best_none_better better asym trans x (y ∷ ys) =
+      let P : Bool → Type 0 = λ b. Each (λ z. better z (best better (cond b y x) ys) ≡ false) (x ∷ y ∷ ys) in
       by_cases (better y x)
-      (λ t. let e = best_none_better better asym trans y ys in rw t (trans (best better y ys) y x e.0 (asym y x t), e))
-      (λ t. let e = best_none_better better asym trans x ys in rw t (e.0, (trans (best better x ys) x y e.0 t, e.1)))
+      (λ t. let e = best_none_better better asym trans y ys in subst P (sym t) (trans (best better y ys) y x e.0 (asym y x t), e))
+      (λ t. let e = best_none_better better asym trans x ys in subst P (sym t) (e.0, (trans (best better x ys) x y e.0 t, e.1)))
 
 -- ---- Each of a map, and of the lists that it makes
 

@@ -635,7 +635,7 @@ Enters-Each d rest b clean a [] r e = record { books = b; clean = clean; stale =
 Enters-Each {memo} {new} {on} d rest b clean a (w ∷ ws) r e =
     let pos : 0 < w.key = omega arith in
     let k = enter w (work_of memo d) in
-    let ih = Enters-Each (with_entries k.entries d) rest (Books-enter d rest b clean w pos e.0) (Clean-enter d rest b clean w pos e.0) w.key ws r.1
+    let ih = Enters-Each {memo = (enter w (work_of memo d)).memo} (with_entries k.entries d) rest (Books-enter d rest b clean w pos e.0) (Clean-enter d rest b clean w pos e.0) w.key ws r.1
     (Each_zip _ _ _ ws (λ x f h. Enters_after w.key d.edges new on x f h) e.1 (Rising_above w.key ws r.1)) in
     record {
       books = Books_ext (marks_after w ws new) (λ _. refl) ih.books;

@@ -158,12 +158,14 @@ module _ (s : Store) (x : Plain) (k : Link s x) (m : Box) (d : Cell) (c : Core s
       rw (find-filter (λ w. not (in_box s.cuts m w)) 0 r s.waiting rises) (option_cases (find s.waiting r)
       (λ n. rw (n, report_out s x k m r n) (never (plain_in s.cuts x m r) _))
       (λ w n. let i = report_in s x k m r w n in rw (n, i.2) (by_cases (in_box s.cuts m (record { key = r; val = w }))
-      (λ t. unfold both in rw t)
+      (λ t. rw t (gone _))
       (λ t. rw t (sym (ap was_new n) ∙ k.marked r)))))
     where
       never : (b c : Bool) → false ≡ both (cond b false false) c
       never true c = unfold both in refl
       never false c = unfold both in refl
+      gone : (c : Bool) → false ≡ both false c
+      gone c = unfold both in refl
 
   -- ---- the entries and the lines
 
