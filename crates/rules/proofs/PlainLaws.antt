@@ -165,7 +165,8 @@ module _ (s : Store) (x : Plain) (k : Link s x) (m : Box) (d : Cell) (c : Core s
       never true c = unfold both in refl
       never false c = unfold both in refl
       gone : (c : Bool) → false ≡ both false c
-      gone c = unfold both in refl
+      gone true = unfold both in refl
+      gone false = unfold both in refl
 
   -- ---- the entries and the lines
 
