@@ -1,5 +1,4 @@
 use borrow.Author.Rules.{rules}
-use Prim.Native.Nat.{◌-◌}
 use Rattle.lists.proofs.CopyLaws.{copy_start, copy_turn, copy_end}
 use Rattle.lists.proofs.copy.Goals as goal
 

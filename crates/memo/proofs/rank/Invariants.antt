@@ -1,0 +1,12 @@
+use Prim.Native.Nat.{◌-◌, ◌≤◌}
+use Rattle.lists.proofs.SearchLaws.{Between}
+use Rattle.desk.specs.Held.{memo_in}
+use Rattle.memo.specs.Memo.{lines_of, no_row}
+use Rattle.memo.proofs.rank.Given as goal
+
+-- Radios before low are below, those from high on are not (`Between`): where the two meet is the rank.
+abbrev pub invariant-loop-low : goal.invariant-loop-low
+invariant-loop-low l = (l.low ≤ l.high) × (l.high ≤ l.n) × Between (lines_of (memo_in l.n l.words)) l.radio no_row l.low l.high
+
+abbrev pub decreases-loop-low : goal.decreases-loop-low
+decreases-loop-low l = l.high - l.low
