@@ -1,5 +1,5 @@
-// The desk's calls on a desk that is lent: thin functions over `carry_lent`, `set_lent`, `clear_lent`, `write_lent`, `read_lent` and `fresh::begin`, and those
-// for programs in Rust or C, with the test of soundness.
+// The desk's calls on a desk that is lent: thin functions over `carry_lent`, `set_lent`, `clear_lent`, `write_lent`, `read_lent` and `fresh::begin`, and the test
+// of soundness. `boragefile_c` exports them to programs in Rust or C.
 #![tactic(auto)]
 
 ghost use Rattle.std.specs.Prelude.{true, [], ◌≡◌};
@@ -35,26 +35,10 @@ pub fn call(desk: &mut Desk, pages: &mut [u8], bytes: &[u8], buffer: &mut [u8]) 
     told.answer
 }
 
-// `call`, for a serving program in Rust or C.
-#[unsafe(no_mangle)]
-pub extern "C" fn boragefile_call(
-    desk: &mut Desk,
-    pages: &mut [u8],
-    bytes: &[u8],
-    buffer: &mut [u8],
-) -> Answer
-    ensures { Answers
-        (handed desk.old pages.old (hands bytes.now) buffer.old)
-        (left result desk.new pages.new buffer.new) }
-{
-    call(desk, pages, bytes, buffer)
-}
-
 // ---- watches
 
-// `set_lent` on a desk that is lent: its watches are altered there. For a serving program in Rust or C.
-#[unsafe(no_mangle)]
-pub extern "C" fn boragefile_watch_set(
+// `set_lent` on a desk that is lent: its watches are altered there.
+pub fn watch_set(
     desk: &mut Desk,
     pages: &[u8],
     watch: u16,
@@ -84,9 +68,8 @@ pub extern "C" fn boragefile_watch_set(
     )
 }
 
-// `clear_lent` on a desk that is lent: its watches are altered there. For a serving program in Rust or C.
-#[unsafe(no_mangle)]
-pub extern "C" fn boragefile_watch_clear(desk: &mut Desk, pages: &[u8], watch: u16) -> Answer
+// `clear_lent` on a desk that is lent: its watches are altered there.
+pub fn watch_clear(desk: &mut Desk, pages: &[u8], watch: u16) -> Answer
     ensures { Answers
         (handed desk.old pages.now (clears watch) [])
         (left result desk.new pages.now []) }
@@ -106,9 +89,8 @@ pub extern "C" fn boragefile_watch_clear(desk: &mut Desk, pages: &[u8], watch: u
 
 // ---- files
 
-// `write_lent` on a desk that is lent: neither desk nor pages change. For a serving program in Rust or C.
-#[unsafe(no_mangle)]
-pub extern "C" fn boragefile_csv_write(desk: &Desk, pages: &[u8], buffer: &mut [u8]) -> Answer
+// `write_lent` on a desk that is lent: neither desk nor pages change.
+pub fn csv_write(desk: &Desk, pages: &[u8], buffer: &mut [u8]) -> Answer
     ensures { Answers
         (handed desk.now pages.now writes buffer.old)
         (left result desk.now pages.now buffer.new) }
@@ -126,9 +108,8 @@ pub extern "C" fn boragefile_csv_write(desk: &Desk, pages: &[u8], buffer: &mut [
     )
 }
 
-// `read_lent` on a desk that is lent and altered there: its parts are copied out and stored back, as in `call`. For a serving program in Rust or C.
-#[unsafe(no_mangle)]
-pub extern "C" fn boragefile_csv_read(desk: &mut Desk, pages: &mut [u8], file: &[u8]) -> Answer
+// `read_lent` on a desk that is lent and altered there: its parts are copied out and stored back, as in `call`.
+pub fn csv_read(desk: &mut Desk, pages: &mut [u8], file: &[u8]) -> Answer
     ensures { Reads file.now
         (found desk.old pages.old)
         (made result desk.new pages.new) }
@@ -152,9 +133,7 @@ pub extern "C" fn boragefile_csv_read(desk: &mut Desk, pages: &mut [u8], file: &
 
 // A fresh store on a desk that is lent and altered there.
 pub fn begin(desk: &mut Desk, pages: &mut [u8]) -> Answer
-    ensures { Begins
-        (found desk.old pages.old)
-        (made result desk.new pages.new) }
+    ensures { Begins (found desk.old pages.old) (made result desk.new pages.new) }
 {
     let d = *desk;
     let c = fresh::begin(d, pages);
@@ -162,20 +141,8 @@ pub fn begin(desk: &mut Desk, pages: &mut [u8]) -> Answer
     c.answer
 }
 
-// `begin`, for a serving program in Rust or C.
-#[unsafe(no_mangle)]
-pub extern "C" fn boragefile_begin(desk: &mut Desk, pages: &mut [u8]) -> Answer
-    ensures { Begins
-        (found desk.old pages.old)
-        (made result desk.new pages.new) }
-{
-    begin(desk, pages)
-}
-
-// Whether desk and pages are those of a sound store: the test that each call makes first, for a serving program in Rust or C. The desk is taken apart as in
-// `call`.
-#[unsafe(no_mangle)]
-pub extern "C" fn boragefile_sound(desk: &Desk, pages: &[u8]) -> bool
+// Whether desk and pages are those of a sound store: the test that each call makes first. The desk is taken apart as in `call`.
+pub fn sound(desk: &Desk, pages: &[u8]) -> bool
     ensures { (result ≡ true → Sound desk.now pages.now) × (Sound desk.now pages.now → result ≡ true) }
 {
     let parts = desk.parts;
