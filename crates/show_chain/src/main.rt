@@ -8,22 +8,22 @@ ghost use Rattle.page.specs.Page.{page_bytes};
 ghost use Rattle.page.specs.Buffer.{buffer_bytes};
 
 use entries::{Entry, TABLE_WORDS};
-use libc::STDOUT_FILENO;
 use page::{BUFFER_BYTES, Chain, ChainEnd, Header};
+use std::io;
 use terms::{NO_PAGE, PAGE_ENTRIES, PAGES};
 
 const CELL: u16 = 4;
 
 const ENTRIES: usize = 70;
 
-fn main() {
+fn main(rt: HostRuntime) -> io::Result<()> {
     let mut buffer = [0u8; BUFFER_BYTES];
     let mut table = [0u16; TABLE_WORDS];
     fill_table(&mut table);
     write_chain(&mut buffer, &table);
     page_write::free_page(&mut buffer, 7, 11);
-    print_chain(&buffer, page_chain::read_chain(&buffer, 5));
-    print_page(&buffer, 7);
+    print_chain(&rt, &buffer, page_chain::read_chain(&buffer, 5))?;
+    print_page(&rt, &buffer, 7)
 }
 
 // ---- writing
@@ -79,102 +79,73 @@ fn write_chain(buffer: &mut [u8], table: &[u16; TABLE_WORDS])
 
 // ---- printing
 
-fn print(text: &[u8]) {
-    io::write_all(STDOUT_FILENO, text);
-}
-
-fn print_field(name: &[u8], value: u16) {
-    print(name);
-    io::print_decimal(STDOUT_FILENO, value as u64);
-}
-
-fn print_end(end: ChainEnd) {
-    match end {
-        ChainEnd::Ended => print(b"chain ended pages"),
-        ChainEnd::PastBound => print(b"chain past its bound pages"),
-        ChainEnd::NotThere(p) => print_not_there(p),
-    }
-}
-
-fn print_not_there(p: u16) {
-    print_field(b"chain at page ", p);
-    print(b" which is not there pages");
-}
-
-fn print_chain(buffer: &[u8], chain: Chain)
+fn print_chain(rt: &impl Print, buffer: &[u8], chain: Chain) -> io::Result<()>
     requires { (length buffer.now ≡ buffer_bytes) × (chain.n ≤ pages) }
 {
-    let end = chain.end;
-    print_end(end);
-    let n = chain.n;
-    print_numbers(chain, n);
-    print_pages(buffer, chain, n);
+    print_end(rt, chain.end)?;
+    print_numbers(rt, chain, chain.n)?;
+    print_pages(rt, buffer, chain, chain.n)
 }
 
-fn print_numbers(chain: Chain, n: usize)
+fn print_end(rt: &impl Print, end: ChainEnd) -> io::Result<()> {
+    match end {
+        ChainEnd::Ended => print!(rt; "chain ended pages"),
+        ChainEnd::PastBound => print!(rt; "chain past its bound pages"),
+        ChainEnd::NotThere(p) => print!(rt; "chain at page {p} which is not there pages"),
+    }
+}
+
+fn print_numbers(rt: &impl Print, chain: Chain, n: usize) -> io::Result<()>
     requires { n ≤ pages }
 {
-    let mut i: usize = 0;
-    while i < n {
-        print_field(b" ", chain.pages[i]);
-        i += 1;
+    for page in &chain.pages[..n] {
+        print!(rt; " {page}")?;
     }
-    print(b"\n");
+    println!(rt; "")
 }
 
-fn print_pages(buffer: &[u8], chain: Chain, n: usize)
+fn print_pages(rt: &impl Print, buffer: &[u8], chain: Chain, n: usize) -> io::Result<()>
     requires { (length buffer.now ≡ buffer_bytes) × (n ≤ pages) }
 {
-    let mut i: usize = 0;
-    while i < n {
-        print_page(buffer, chain.pages[i]);
-        i += 1;
+    for page in &chain.pages[..n] {
+        print_page(rt, buffer, *page)?;
     }
+    Ok(())
 }
 
-fn print_page(buffer: &[u8], p: u16)
+fn print_page(rt: &impl Print, buffer: &[u8], p: u16) -> io::Result<()>
     requires { length buffer.now ≡ buffer_bytes }
 {
     if PAGES <= p as usize {
-        return;
+        return Ok(());
     }
     let page = page::page_at(buffer, p as usize);
-    print_header(p, page::read_header(page));
-    print_layout(page_layout::laid_out(page));
-    print_entries(page, page::entry_count(page));
+    print_header(rt, p, page::read_header(page))?;
+    print_layout(rt, page_layout::laid_out(page))?;
+    print_entries(rt, page, page::entry_count(page))
 }
 
-fn print_header(p: u16, h: Header) {
-    print_field(b"page ", p);
-    print_field(b" used ", h.used);
-    print_field(b" kind ", h.kind);
-    print_field(b" next ", h.next);
-    print_field(b" cell ", h.cell);
+fn print_header(rt: &impl Print, p: u16, h: Header) -> io::Result<()> {
+    print!(rt;
+        "page {p} used {} kind {} next {} cell {}",
+        h.used, h.kind, h.next, h.cell
+    )
 }
 
-fn print_layout(good: bool) {
-    if good {
-        print(b" laid out\n");
-    } else {
-        print(b" not laid out\n");
-    }
+fn print_layout(rt: &impl Print, good: bool) -> io::Result<()> {
+    let word = if good { "laid out" } else { "not laid out" };
+    println!(rt; " {word}")
 }
 
-fn print_entries(page: &[u8], n: usize)
+fn print_entries(rt: &impl Print, page: &[u8], n: usize) -> io::Result<()>
     requires { (length page.now ≡ page_bytes) × (n ≤ page_entries) }
 {
-    let mut i: usize = 0;
-    while i < n {
-        print_entry(page::read_entry(page, i));
-        i += 1;
+    for i in 0..n {
+        print_entry(rt, page::read_entry(page, i))?;
     }
+    Ok(())
 }
 
-fn print_entry(e: Entry) {
-    print_field(b"", e.radio);
-    print_field(b" ", e.east);
-    print_field(b" ", e.north);
-    print(b" ");
-    io::print_decimal(STDOUT_FILENO, e.minute as u64);
-    print(b"\n");
+fn print_entry(rt: &impl Print, e: Entry) -> io::Result<()> {
+    println!(rt; "{} {} {} {}", e.radio, e.east, e.north, e.minute)
 }

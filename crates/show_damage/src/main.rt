@@ -8,8 +8,8 @@ ghost use Rattle.page.specs.Page.{page_bytes};
 ghost use Rattle.page.specs.Buffer.{buffer_bytes};
 
 use entries::{Entry, TABLE_WORDS};
-use libc::STDOUT_FILENO;
 use page::{BUFFER_BYTES, Chain, ChainEnd, PAGE_BYTES};
+use std::io;
 use terms::{NO_PAGE, PAGE_ENTRIES, PAGES};
 
 // The good buffer: a cell's 34 entries on pages 3 and 127, and page 7 free.
@@ -38,13 +38,13 @@ const UNUSED_AT: usize = 28;
 
 const LAST_AT: usize = 326;
 
-fn main() {
+fn main(rt: HostRuntime) -> io::Result<()> {
     let mut buffer = [0u8; BUFFER_BYTES];
     let mut table = [0u16; TABLE_WORDS];
     fill_table(&mut table);
     write_pages(&mut buffer, &table);
-    show_chains(&mut buffer);
-    show_pages(&mut buffer);
+    show_chains(&rt, &mut buffer)?;
+    show_pages(&rt, &mut buffer)
 }
 
 // ---- the good buffer
@@ -109,23 +109,32 @@ fn exchange(buffer: &mut [u8], at: usize, v: u16) -> u16
 }
 
 // The chain from the first page on, with another page after that one.
-fn try_next(buffer: &mut [u8], name: &[u8], next: u16)
+fn try_next(rt: &impl Print, buffer: &mut [u8], name: &str, next: u16) -> io::Result<()>
     requires { length buffer.old ≡ buffer_bytes }
 {
     let at = PAGE_BYTES * FIRST + NEXT_AT;
     let was = exchange(buffer, at, next);
-    print_chain(name, page_chain::read_chain(buffer, FIRST as u16));
+    let chain = page_chain::read_chain(buffer, FIRST as u16);
     exchange(buffer, at, was);
+    print_chain(rt, name, chain)
 }
 
 // The test of page p, with another value of the field at `at` in it.
-fn try_page(buffer: &mut [u8], name: &[u8], p: usize, at: usize, v: u16)
+fn try_page(
+    rt: &impl Print,
+    buffer: &mut [u8],
+    name: &str,
+    p: usize,
+    at: usize,
+    v: u16,
+) -> io::Result<()>
     requires { (length buffer.old ≡ buffer_bytes) × (p < pages) × (at + field_bytes ≤ page_bytes) }
 {
     let place = PAGE_BYTES * p + at;
     let was = exchange(buffer, place, v);
-    print_layout(name, page_layout::laid_out(page::page_at(buffer, p)));
+    let good = page_layout::laid_out(page::page_at(buffer, p));
     exchange(buffer, place, was);
+    print_layout(rt, name, good)
 }
 
 // The first n bytes.
@@ -137,51 +146,61 @@ fn front(s: &[u8], n: usize) -> &[u8]
 
 // ---- chains
 
-fn show_chains(buffer: &mut [u8])
+fn show_chains(rt: &impl Print, buffer: &mut [u8]) -> io::Result<()>
     requires { length buffer.old ≡ buffer_bytes }
 {
-    show_next(buffer);
-    show_first(buffer);
-    show_cut(buffer);
-    show_all();
+    show_next(rt, buffer)?;
+    show_first(rt, buffer)?;
+    show_cut(rt, buffer)?;
+    show_all(rt)
 }
 
-fn show_next(buffer: &mut [u8])
+fn show_next(rt: &impl Print, buffer: &mut [u8]) -> io::Result<()>
     requires { length buffer.old ≡ buffer_bytes }
 {
-    try_next(buffer, b"good chain", FURTHER as u16);
-    try_next(buffer, b"next page is itself", FIRST as u16);
-    try_next(buffer, b"next page 128", 128);
-    try_next(buffer, b"next page 130", 130);
-    try_next(buffer, b"next page 60000", 60000);
+    try_next(rt, buffer, "good chain", FURTHER as u16)?;
+    try_next(rt, buffer, "next page is itself", FIRST as u16)?;
+    try_next(rt, buffer, "next page 128", 128)?;
+    try_next(rt, buffer, "next page 130", 130)?;
+    try_next(rt, buffer, "next page 60000", 60000)
 }
 
-fn show_first(buffer: &[u8]) {
-    print_chain(b"first page 65535", page_chain::read_chain(buffer, NO_PAGE));
-    print_chain(b"first page 200", page_chain::read_chain(buffer, 200));
+fn show_first(rt: &impl Print, buffer: &[u8]) -> io::Result<()> {
+    print_chain(
+        rt,
+        "first page 65535",
+        page_chain::read_chain(buffer, NO_PAGE),
+    )?;
+    print_chain(rt, "first page 200", page_chain::read_chain(buffer, 200))
 }
 
-fn show_cut(buffer: &[u8])
+fn show_cut(rt: &impl Print, buffer: &[u8]) -> io::Result<()>
     requires { length buffer.now ≡ buffer_bytes }
 {
     print_chain(
-        b"one byte short",
+        rt,
+        "one byte short",
         page_chain::read_chain(front(buffer, BUFFER_BYTES - 1), FIRST as u16),
-    );
+    )?;
     print_chain(
-        b"empty buffer",
+        rt,
+        "empty buffer",
         page_chain::read_chain(front(buffer, 0), FIRST as u16),
-    );
+    )
 }
 
 // The longest chain: each of the 128 pages once, then none or the first again.
-fn show_all() {
+fn show_all(rt: &impl Print) -> io::Result<()> {
     let mut buffer = [0u8; BUFFER_BYTES];
     link_all(&mut buffer);
     page_write::free_page(&mut buffer, 127, NO_PAGE);
-    print_chain(b"all pages in a row", page_chain::read_chain(&buffer, 0));
+    print_chain(rt, "all pages in a row", page_chain::read_chain(&buffer, 0))?;
     page_write::free_page(&mut buffer, 127, 0);
-    print_chain(b"all pages in a ring", page_chain::read_chain(&buffer, 0));
+    print_chain(
+        rt,
+        "all pages in a ring",
+        page_chain::read_chain(&buffer, 0),
+    )
 }
 
 fn link_all(buffer: &mut [u8])
@@ -196,128 +215,132 @@ fn link_all(buffer: &mut [u8])
 
 // ---- layout
 
-fn show_pages(buffer: &mut [u8])
+fn show_pages(rt: &impl Print, buffer: &mut [u8]) -> io::Result<()>
     requires { length buffer.old ≡ buffer_bytes }
 {
-    show_good(buffer);
-    show_size(buffer);
-    show_used(buffer);
-    show_kinds(buffer);
-    show_unused(buffer);
-    show_radios(buffer);
+    show_good(rt, buffer)?;
+    show_size(rt, buffer)?;
+    show_used(rt, buffer)?;
+    show_kinds(rt, buffer)?;
+    show_unused(rt, buffer)?;
+    show_radios(rt, buffer)
 }
 
-fn show_good(buffer: &mut [u8])
+fn show_good(rt: &impl Print, buffer: &mut [u8]) -> io::Result<()>
     requires { length buffer.old ≡ buffer_bytes }
 {
-    try_page(buffer, b"first page", FIRST, KIND_AT, page::KIND_FIRST);
+    try_page(rt, buffer, "first page", FIRST, KIND_AT, page::KIND_FIRST)?;
     try_page(
+        rt,
         buffer,
-        b"further page",
+        "further page",
         FURTHER,
         KIND_AT,
         page::KIND_FURTHER,
-    );
-    try_page(buffer, b"free page", FREE, KIND_AT, page::KIND_FREE);
+    )?;
+    try_page(rt, buffer, "free page", FREE, KIND_AT, page::KIND_FREE)
 }
 
-fn show_size(buffer: &[u8])
+fn show_size(rt: &impl Print, buffer: &[u8]) -> io::Result<()>
     requires { length buffer.now ≡ buffer_bytes }
 {
     let page = page::page_at(buffer, FIRST);
     print_layout(
-        b"page of 327 bytes",
+        rt,
+        "page of 327 bytes",
         page_layout::laid_out(front(page, PAGE_BYTES - 1)),
-    );
+    )
 }
 
-fn show_used(buffer: &mut [u8])
+fn show_used(rt: &impl Print, buffer: &mut [u8]) -> io::Result<()>
     requires { length buffer.old ≡ buffer_bytes }
 {
-    try_page(buffer, b"used bytes 7", FREE, USED_AT, 7);
-    try_page(buffer, b"used bytes 27", FURTHER, USED_AT, 27);
-    try_page(buffer, b"used bytes 338", FIRST, USED_AT, 338);
+    try_page(rt, buffer, "used bytes 7", FREE, USED_AT, 7)?;
+    try_page(rt, buffer, "used bytes 27", FURTHER, USED_AT, 27)?;
+    try_page(rt, buffer, "used bytes 338", FIRST, USED_AT, 338)
 }
 
-fn show_kinds(buffer: &mut [u8])
+fn show_kinds(rt: &impl Print, buffer: &mut [u8]) -> io::Result<()>
     requires { length buffer.old ≡ buffer_bytes }
 {
-    try_page(buffer, b"kind 0", FIRST, KIND_AT, 0);
-    try_page(buffer, b"kind 4", FIRST, KIND_AT, 4);
+    try_page(rt, buffer, "kind 0", FIRST, KIND_AT, 0)?;
+    try_page(rt, buffer, "kind 4", FIRST, KIND_AT, 4)?;
     try_page(
+        rt,
         buffer,
-        b"free page with an entry",
+        "free page with an entry",
         FURTHER,
         KIND_AT,
         page::KIND_FREE,
-    );
+    )?;
     try_page(
+        rt,
         buffer,
-        b"first page without an entry",
+        "first page without an entry",
         FREE,
         KIND_AT,
         page::KIND_FIRST,
-    );
+    )?;
     try_page(
+        rt,
         buffer,
-        b"further page without an entry",
+        "further page without an entry",
         FREE,
         KIND_AT,
         page::KIND_FURTHER,
-    );
+    )
 }
 
-fn show_unused(buffer: &mut [u8])
+fn show_unused(rt: &impl Print, buffer: &mut [u8]) -> io::Result<()>
     requires { length buffer.old ≡ buffer_bytes }
 {
-    try_page(buffer, b"first unused byte 1", FURTHER, UNUSED_AT, 1);
-    try_page(buffer, b"last unused byte 1", FURTHER, LAST_AT, 256);
+    try_page(rt, buffer, "first unused byte 1", FURTHER, UNUSED_AT, 1)?;
+    try_page(rt, buffer, "last unused byte 1", FURTHER, LAST_AT, 256)
 }
 
-fn show_radios(buffer: &mut [u8])
+fn show_radios(rt: &impl Print, buffer: &mut [u8]) -> io::Result<()>
     requires { length buffer.old ≡ buffer_bytes }
 {
-    try_page(buffer, b"first radio 0", FURTHER, RADIO_AT, 0);
-    try_page(buffer, b"last radio 4095", FURTHER, SECOND_RADIO_AT, 4095);
-    try_page(buffer, b"last radio 4096", FURTHER, SECOND_RADIO_AT, 4096);
-    try_page(buffer, b"two radios equal", FURTHER, SECOND_RADIO_AT, 3300);
-    try_page(buffer, b"radios falling", FURTHER, SECOND_RADIO_AT, 3299);
+    try_page(rt, buffer, "first radio 0", FURTHER, RADIO_AT, 0)?;
+    try_page(
+        rt,
+        buffer,
+        "last radio 4095",
+        FURTHER,
+        SECOND_RADIO_AT,
+        4095,
+    )?;
+    try_page(
+        rt,
+        buffer,
+        "last radio 4096",
+        FURTHER,
+        SECOND_RADIO_AT,
+        4096,
+    )?;
+    try_page(
+        rt,
+        buffer,
+        "two radios equal",
+        FURTHER,
+        SECOND_RADIO_AT,
+        3300,
+    )?;
+    try_page(rt, buffer, "radios falling", FURTHER, SECOND_RADIO_AT, 3299)
 }
 
 // ---- printing
 
-fn print(text: &[u8]) {
-    io::write_all(STDOUT_FILENO, text);
+fn print_layout(rt: &impl Print, name: &str, good: bool) -> io::Result<()> {
+    let word = if good { "laid out" } else { "not laid out" };
+    println!(rt; "{name}: {word}")
 }
 
-fn print_layout(name: &[u8], good: bool) {
-    print(name);
-    if good {
-        print(b": laid out\n");
-    } else {
-        print(b": not laid out\n");
+fn print_chain(rt: &impl Print, name: &str, chain: Chain) -> io::Result<()> {
+    let n = chain.n;
+    match chain.end {
+        ChainEnd::Ended => println!(rt; "{name}: ended, pages {n}"),
+        ChainEnd::PastBound => println!(rt; "{name}: past its bound, pages {n}"),
+        ChainEnd::NotThere(p) => println!(rt; "{name}: page {p} is not there, pages {n}"),
     }
-}
-
-fn print_chain(name: &[u8], chain: Chain) {
-    print(name);
-    let end = chain.end;
-    print_end(end);
-    print(b", pages ");
-    io::print_decimal(STDOUT_FILENO, chain.n as u64);
-    print(b"\n");
-}
-
-fn print_end(end: ChainEnd) {
-    match end {
-        ChainEnd::Ended => print(b": ended"),
-        ChainEnd::PastBound => print(b": past its bound"),
-        ChainEnd::NotThere(p) => print_not_there(p),
-    }
-}
-
-fn print_not_there(p: u16) {
-    print(b": page ");
-    io::print_decimal(STDOUT_FILENO, p as u64);
-    print(b" is not there");
 }

@@ -8,14 +8,15 @@ mod radio_clauses;
 
 use page::BUFFER_BYTES;
 use show_made::{damage, small};
+use std::io;
 
-fn main() {
+fn main(rt: HostRuntime) -> io::Result<()> {
     let mut buffer = [0u8; BUFFER_BYTES];
     small::write_pages(&mut buffer);
     let desk = small::small_desk();
-    damage::try_desk(b"as built", desk, &buffer);
-    desk_clauses::show_desk(desk, &mut buffer);
-    radio_clauses::show_radios(desk, &buffer);
-    limits::show_crowds();
-    limits::show_bound();
+    damage::try_desk(&rt, b"as built", desk, &buffer)?;
+    desk_clauses::show_desk(&rt, desk, &mut buffer)?;
+    radio_clauses::show_radios(&rt, desk, &buffer)?;
+    limits::show_crowds(&rt)?;
+    limits::show_bound(&rt)
 }

@@ -7,6 +7,7 @@ use desk::Desk;
 use page::PAGE_BYTES;
 use show_made::damage::say_count;
 use show_made::small;
+use std::io;
 
 fn flip(buffer: &mut [u8], at: usize, bit: u8)
     requires { at < length buffer.old }
@@ -64,16 +65,22 @@ fn flips_of(desk: Desk, buffer: &mut [u8], p: usize) -> usize
 
 // None is: the used bytes follow from the entries, for every entry has a radio and the bytes past them are zero; kind and cell follow from the chain; and with
 // another next page some page is in no chain or in two.
-pub fn show_flips(desk: Desk, buffer: &mut [u8])
+pub fn show_flips(rt: &impl Print, desk: Desk, buffer: &mut [u8]) -> io::Result<()>
     requires { length buffer.old ≡ buffer_bytes }
 {
     say_count(
+        rt,
         b"flips of a first page's header",
         flips_of(desk, buffer, small::LOW_FIRST),
-    );
+    )?;
     say_count(
+        rt,
         b"flips of a further page's header",
         flips_of(desk, buffer, small::LOW_FURTHER),
-    );
-    say_count(b"flips of a free page's header", flips_of(desk, buffer, 64));
+    )?;
+    say_count(
+        rt,
+        b"flips of a free page's header",
+        flips_of(desk, buffer, 64),
+    )
 }

@@ -6,12 +6,13 @@ mod page_clauses;
 
 use page::BUFFER_BYTES;
 use show_made::{damage, small};
+use std::io;
 
-fn main() {
+fn main(rt: HostRuntime) -> io::Result<()> {
     let mut buffer = [0u8; BUFFER_BYTES];
     small::write_pages(&mut buffer);
     let desk = small::small_desk();
-    damage::try_desk(b"as built", desk, &buffer);
-    page_clauses::show_pages(desk, &mut buffer);
-    flips::show_flips(desk, &mut buffer);
+    damage::try_desk(&rt, b"as built", desk, &buffer)?;
+    page_clauses::show_pages(&rt, desk, &mut buffer)?;
+    flips::show_flips(&rt, desk, &mut buffer)
 }
