@@ -1,0 +1,4 @@
+use Rattle.enter.proofs.entry_of.Goals as goal
+
+pub returns : goal.returns
+returns c = cc
