@@ -1,0 +1,4 @@
+use Rattle.cell_split.proofs.cut_east.Goals as goal
+
+pub returns : goal.returns
+returns c = cc

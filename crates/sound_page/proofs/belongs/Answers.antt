@@ -1,0 +1,5 @@
+use Rattle.lists.proofs.TestsLaws.{both_tell}
+use Rattle.sound_page.proofs.belongs.Goals as goal
+
+pub returns : goal.returns
+returns c = search both_tell
