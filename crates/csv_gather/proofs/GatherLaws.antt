@@ -1,15 +1,12 @@
 -- The lines of a file, one after the other: those that are gathered, followed by what the file still says of the rest, are the whole.
-use mathlib.Core.Bool.{true, false}
 use mathlib.Core.List.{List, [], ◌∷◌}
-use mathlib.Core.Option.{Option, none, some}
+use mathlib.Core.Option.{none, some}
 use mathlib.Core.Path.{◌≡◌, refl, sym, ap, ◌∙◌, subst}
 use Prim.Native.Nat.{ℕ, suc, ◌+◌, ◌-◌, ◌≤◌, ◌<◌}
 use native.Mathlib.Omega.{arith}
 use lib.ListN.{length, take, drop, length-drop, length-take, drop_of_length-le}
-use lib.Seq.{take_all, drop-cons}
-use lib.ListN.{get_or}
+use lib.Seq.{take_all}
 use Rattle.terms.specs.Terms.{fix_at, max_radio}
-use Rattle.lists.proofs.Cases.{none-some}
 use Rattle.csv_grammar.specs.Csv.{Parsed, Listed, File, lines, bad, also_line, line, lines_from, after_header, file_read}
 use Rattle.csv_grammar.specs.Order.{sort_in, sort_all}
 use Rattle.csv_grammar.proofs.OrderLaws.{take-sort_all}
@@ -22,7 +19,7 @@ use Rattle.csv_reader.specs.Reading.{bytes_after, EndWithin, Ends, parsed, LineW
 use Rattle.csv_order.specs.Table.{table_lines, table_words, every_line, listed_in, Table}
 use Rattle.csv_gather.specs.declared.Gathered.{Gathered}
 use Rattle.csv_gather.specs.declared.Gathered.TheVariants.{Lines}
-use Rattle.csv_gather.specs.Gather.{Taken, least, wrong, gather_among, gather, gather_file, HasGathered}
+use Rattle.csv_gather.specs.Gather.{least, wrong, gather_among, gather, gather_file, HasGathered}
 
 -- what the file says of the lines from `at` on, the first of them under this number
 abbrev pub lines_at : List ℕ → ℕ → ℕ → File

@@ -1,6 +1,5 @@
 -- Fields, in the words of the code's tests, and that a field whose number is held is in range where its own is.
 use mathlib.Core.Bool.{Bool, true, false, cond}
-use mathlib.Core.Logic.{⊎_elim}
 use mathlib.Core.List.{List, [], ◌∷◌}
 use mathlib.Core.Option.{Option, none, some}
 use mathlib.Core.Path.{◌≡◌, refl, sym, ap, ◌∙◌}
@@ -9,8 +8,6 @@ use native.Mathlib.Omega.{arith}
 use lib.Dec.{eqb, leb}
 use lib.ListN.{length, drop}
 use borrow.Author.Tests.{le-leb, lt-leb, leb-true, leb-false, eqb-true}
-use types.Run.{OneOf}
-use denote.Enum.Declared.{tag_of}
 use Rattle.lists.specs.Tests.{both}
 use Rattle.lists.proofs.Cases.{by_cases, option_cases, none-some}
 use Rattle.lists.proofs.TestsLaws.{both_right, both_right_false}
@@ -22,7 +19,6 @@ use Rattle.csv_reader.specs.declared.Value.{Value}
 use Rattle.csv_reader.specs.declared.Value.TheVariants.{Is, Absent}
 use Rattle.csv_reader.specs.declared.Field.{Field}
 use Rattle.csv_reader.specs.declared.Field.TheVariants.{Inner, Last, Wrong}
-use Rattle.csv_reader.specs.contracts.Field as F
 use Rattle.csv_reader.proofs.EndLaws.{left_none, left_some, left_behind, left_inside}
 use Rattle.csv_reader.proofs.NumberLaws.{value_none, value-some, value_ahead}
 
@@ -108,18 +104,18 @@ module _ (least most : ℕ) (h : most < above) (l : List ℕ) where
       (λ u. option_cases (after_line n.rest) (λ w. rw (u, w) (cond-none (in_range least most n.value))) (λ rest w. rw (u, w) (ranged-held least most n.value rest h)))
       (λ rest u. rw (u, comma_inside n.rest u) (cond-none (in_range least most n.value)))))
 
--- ---- a field's value in range, in the words of the code's tests; a `let .. else` on three variants knows the tag only
+-- ---- a field's value in range, in the words of the code's tests
 
-pub inner_else : (least most : ℕ) (f : Field) → OneOf (1 ∷ 2 ∷ []) (tag_of F.the_type f) → Absent ≡ inner_value least most f
+pub inner_else : (least most : ℕ) (f : Field) → ((v n : ℕ) → f ≡ Inner v n → ⊥) → Absent ≡ inner_value least most f
 unfolding inner_value
-inner_else least most (Inner v n) h = absurd (⊎_elim (λ e. omega arith) (λ e. omega arith) h)
+inner_else least most (Inner v n) h = absurd (h v n refl)
 inner_else least most (Last v n) h = refl
 inner_else least most Wrong h = refl
 
-pub last_else : (most : ℕ) (f : Field) → OneOf (0 ∷ 2 ∷ []) (tag_of F.the_type f) → Absent ≡ last_value most f
+pub last_else : (most : ℕ) (f : Field) → ((v n : ℕ) → f ≡ Last v n → ⊥) → Absent ≡ last_value most f
 unfolding last_value
 last_else most (Inner v n) h = refl
-last_else most (Last v n) h = absurd (⊎_elim (λ e. omega arith) (λ e. omega arith) h)
+last_else most (Last v n) h = absurd (h v n refl)
 last_else most Wrong h = refl
 
 value_low : (least most v next : ℕ) → v < least → Absent ≡ value_in least most v next

@@ -2,4 +2,3 @@ pub mod EndLaws
 pub mod NumberLaws
 pub mod FieldLaws
 pub mod LineLaws
-pub mod Walking
