@@ -89,7 +89,7 @@ module _ (highest : ℕ) (b : List ℕ) (small : Bytes b) (whole : length b ≡ 
   Slots_passed m [] l = rw (Slots_none highest b m) (λ h. Slots_end highest b m l)
   Slots_passed m (s ∷ ss) l =
       by_cases (slot_test highest b m s).ok
-      (λ t. let c = slot_passed m s l t in rw (Slots_more highest b m s ss t) (λ h. Slots-cons highest b m s ss _ _ c (Slots_passed _ ss c.marked.size h)))
+      (λ t. let c = slot_passed m s l t in rw (Slots_more highest b m s ss t) (λ h. Slots-cons highest b m s ss _ _ c (Slots_passed (slot_test highest b m s).marks ss c.marked.size h)))
       (λ t. rw (Slots_out highest b m s ss t) (λ h. failed_not (slot_test highest b m s).marks h))
 
 -- ---- cells pass

@@ -1,5 +1,5 @@
 -- What reports tell fits into a line of a file: each came in a record's 16 and 32 bits, and a well-formed store holds places in the square and no minute above its highest.
-use mathlib.Core.Bool.{Bool, true, false, cond}
+use mathlib.Core.Bool.{Bool, true, false, not, cond}
 use mathlib.Core.List.{List, [], ◌∷◌}
 use mathlib.Core.Option.{Option, none, some}
 use mathlib.Core.Path.{◌≡◌, refl, sym, ap, ◌∙◌, subst}
@@ -17,6 +17,7 @@ use Rattle.lists.proofs.WordsLaws.{word_small}
 use Rattle.csv_grammar.specs.Csv.{max_metre, max_minute}
 use Rattle.rules.specs.Grid.{Cuts}
 use Rattle.rules.specs.Store.{Line, Cell, Store}
+use Rattle.rules.specs.Sweep.{stale}
 use Rattle.rules.specs.Carry.{live_in, stored_in, fix_of, latest}
 use Rattle.rules.specs.Records.{Request, sign_on, report, sign_off, range, request_of, kind_field, kind_sign_on, kind_report, kind_sign_off, place_field, minute_field, fix_field}
 use Rattle.rules.specs.Plain.{Plain, put_at, plain_at, plain_place, plain_off, plain_done, plain_refusal, plain_step}
@@ -87,7 +88,7 @@ module _ (cuts : Cuts) (x : Plain) (narrow : (q : ℕ) → NarrowIf (x.latest q)
 module _ (P : Fix → Type 0) (memo : Rows Line) (r : ℕ) (f : Fix) where
   live_Each : (c : Cell) → Each (λ e. P e.val) c.entries → live_in memo r c ≡ some f → P f
   unfolding live_in
-  live_Each c a e = Each-find (λ _. P) r f c.entries a (passed-true _ r (find c.entries r) f e).0
+  live_Each c a e = Each-find (λ _. P) r f c.entries a (passed-true (λ v. not (stale memo v)) r (find c.entries r) f e).0
 
   -- what holds of every entry holds of the one that is stored of a radio
   stored_Each : (cells : List Cell) → Each (λ c. Each (λ e. P e.val) c.entries) cells → stored_in memo r cells ≡ some f → P f

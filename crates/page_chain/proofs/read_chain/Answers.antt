@@ -1,4 +1,3 @@
-use Prim.Native.Nat.{◌-◌}
 use Rattle.page.proofs.ChainLaws.{was_there}
 use Rattle.page_chain.proofs.WalkLaws.{Walking_start, Walking_turn, Walking_ended, Walking_not_there, Walking_out}
 use borrow.Author.Rules.{rules}

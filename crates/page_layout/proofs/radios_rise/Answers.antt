@@ -1,4 +1,3 @@
-use Prim.Native.Nat.{◌-◌}
 use borrow.Author.Rules.{rules}
 use Rattle.page_layout.proofs.TestLaws.{on_start, climb_empty, climb_turn, climb_low, climb_high, climb_end}
 use Rattle.page_layout.proofs.radios_rise.Goals as goal

@@ -1,5 +1,4 @@
 use borrow.Author.Rules.{rules}
-use Prim.Native.Nat.{◌-◌}
 use Rattle.page_write.proofs.WriteLaws.{Writing_start, Writing_turn, Writing_end}
 use Rattle.page_write.proofs.fill_page.Goals as goal
 

@@ -1,0 +1,24 @@
+use Rattle.page.proofs.ChainLaws.{was_there}
+use Rattle.range_places.proofs.TableLaws.{Walking_start, Walking_out, Walking_radios, Walking_turn}
+use Rattle.latest_places.proofs.TellLaws.{Walking_left}
+use borrow.Author.Rules.{rules}
+use Rattle.latest_places.proofs.hold_cell.Goals as goal
+
+pub loop-fuel-init : goal.loop-fuel-init
+loop-fuel-init c = search Walking_start
+
+pub returns-then-not-is_there : goal.returns-then-not-is_there
+returns-then-not-is_there c = search Walking_left
+
+pub hold_page-requires : goal.hold_page-requires
+hold_page-requires c = let there = c.is_there.ensures in
+    (search rules, was_there _ _ there c.if-not-is_there.false-raw, Walking_radios c.loop-fuel.invariant c.loop-fuel-test.true there c.if-not-is_there.false-raw)
+
+pub next_page-p-requires : goal.next_page-p-requires
+next_page-p-requires c = was_there _ _ c.is_there.ensures c.if-not-is_there.false-raw
+
+pub loop-fuel-preserved : goal.loop-fuel-preserved
+loop-fuel-preserved c = search Walking_turn
+
+pub returns : goal.returns
+returns c = search Walking_out

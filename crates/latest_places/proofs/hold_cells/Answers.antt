@@ -1,0 +1,18 @@
+use Prim.Native.Nat.{◌-◌}
+use Rattle.desk.specs.Held.{directory_in}
+use Rattle.range_places.proofs.TableLaws.{cells_start, cells_radios, cells_end}
+use Rattle.latest_places.proofs.TellLaws.{told_cells}
+use borrow.Author.Rules.{rules}
+use Rattle.latest_places.proofs.hold_cells.Goals as goal
+
+pub loop-i-init : goal.loop-i-init
+loop-i-init c = (search rules, search cells_start)
+
+pub hold_cell-requires : goal.hold_cell-requires
+hold_cell-requires c = (search rules, search cells_radios)
+
+pub loop-i-preserved : goal.loop-i-preserved
+loop-i-preserved c = (search rules, told_cells (directory_in c.args.n c.args.cells.now) c.requires.1 c.requires.2 _ c.loop-i-test.true c.slot_at-cell.ensures _ _ c.loop-i.invariant.1 c.hold_cell.ensures)
+
+pub returns : goal.returns
+returns c = search cells_end

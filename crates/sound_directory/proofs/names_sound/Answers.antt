@@ -1,0 +1,19 @@
+use Prim.Native.Nat.{◌-◌}
+use Rattle.sound_directory.proofs.DirectoryLaws.{mark_start, mark_beyond, mark_twice, mark_turn, mark_end}
+use borrow.Author.Rules.{rules}
+use Rattle.sound_directory.proofs.names_sound.Goals as goal
+
+pub loop-i-init : goal.loop-i-init
+loop-i-init c = (search rules, search mark_start)
+
+pub returns-then-k-ge-MAX_CELLS : goal.returns-then-k-ge-MAX_CELLS
+returns-then-k-ge-MAX_CELLS c = search mark_beyond
+
+pub returns-then-marks-k : goal.returns-then-marks-k
+returns-then-marks-k c = search mark_twice
+
+pub loop-i-preserved : goal.loop-i-preserved
+loop-i-preserved c = (search rules, search mark_turn)
+
+pub returns : goal.returns
+returns c = search mark_end

@@ -1,0 +1,10 @@
+use Rattle.lists.specs.Tests.{both}
+use Rattle.sound_pages.proofs.and.Goals as goal
+
+pub returns-then-a : goal.returns-then-a
+unfolding both
+returns-then-a c = rw c.if-a.true
+
+pub returns-else-a : goal.returns-else-a
+unfolding both
+returns-else-a c = rw c.if-a.false
