@@ -3,7 +3,7 @@ use mathlib.Core.Bool.{Bool, true, not}
 use Rattle.desk.specs.Views.{every_report}
 use mathlib.Core.List.{List, [], ◌∷◌, ◌++◌, map}
 use mathlib.Core.Option.{Option, none, some}
-use mathlib.Core.Path.{◌≡◌, refl, sym, ap, ap₂, ◌∙◌}
+use mathlib.Core.Path.{◌≡◌, refl, sym, ap, ap₂, ◌∙◌, subst}
 use Prim.Native.Nat.{ℕ, suc, ◌+◌, ◌≤◌}
 use native.Mathlib.Omega.{arith}
 use lib.Dec.{eqb}
@@ -11,9 +11,9 @@ use lib.ListN.{length, take}
 use borrow.Author.Tests.{eq-eqb, ne_eqb, lt-ltb}
 use Rattle.terms.specs.Terms.{Place, Fix, max_radio, pages, no_page}
 use Rattle.lists.specs.Chains.{chain_head}
-use Rattle.lists.specs.Rows.{Row, Rows, Rising, find, count_found}
+use Rattle.lists.specs.Rows.{Row, Rows, Rising, find, count_found, passed}
 use Rattle.lists.specs.Sums.{sum_by, sum_to, concat, count}
-use Rattle.lists.specs.Tests.{one_if, both, is_some, Each}
+use Rattle.lists.specs.Tests.{one_if, both, is_some, Each, or_else}
 use Rattle.lists.proofs.Cases.{by_cases, option_cases}
 use Rattle.lists.proofs.ChainsLaws.{walk-Linked}
 use Rattle.lists.proofs.RowsLaws.{sum_at_key, find_within}
@@ -24,7 +24,7 @@ use Rattle.page.specs.Page.{entries}
 use Rattle.page.specs.Buffer.{page_at}
 use Rattle.page.proofs.ChainLaws.{following}
 use Rattle.rules.specs.Store.{Store, Cell, Report as StoreReport, Line as StoreLine, missed_of}
-use Rattle.rules.specs.Sweep.{is_at}
+use Rattle.rules.specs.Sweep.{is_at, stale}
 use Rattle.rules.specs.Carry.{is_on, fix_of, live_in, stored_in}
 use Rattle.rules.specs.Plain.{Plain, place_of}
 use Rattle.rules.specs.Watches.{Watch}
@@ -195,9 +195,11 @@ module _ (memo : Rows StoreLine) (r : ℕ) (n : find memo r ≡ none) where
   unfolding sum_by stale_of stored_in live_in
   only_stored [] h = refl
   only_stored (c ∷ cs) h =
+      let P : Option Fix → Type 0 = λ o. let last = place_of (or_else (passed (λ v. not (stale memo v)) r o) (stored_in memo r cs)) in
+        count_if (λ f. not (is_at last f.place)) o + stale_of last r cs ≡ 0 in
       option_cases (find c.entries r)
-      (λ e. rw e (omega (arith, only_stored cs (omega (arith, rw e at h)))))
-      (λ v e. rw (e, n, same_place_refl v.place) (omega (arith, stale_le (some v.place) r cs, rw e at h)))
+      (λ e. subst P (sym e) (omega (arith, only_stored cs (omega (arith, rw e at h)))))
+      (λ v e. subst P (sym e) (rw (n, same_place_refl v.place) (omega (arith, stale_le (some v.place) r cs, rw e at h))))
 
 pub stale_flushed : (s : Store) (x : Plain) → WellFormed s → Link s x → (r : ℕ) → stale_of (x.flushed r) r s.cells ≡ missed_of (find s.memo r)
 stale_flushed s x w k r =

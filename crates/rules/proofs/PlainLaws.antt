@@ -164,6 +164,7 @@ module _ (s : Store) (x : Plain) (k : Link s x) (m : Box) (d : Cell) (c : Core s
       never : (b c : Bool) → false ≡ both (cond b false false) c
       never true c = unfold both in refl
       never false c = unfold both in refl
+
       gone : (c : Bool) → false ≡ both false c
       gone true = unfold both in refl
       gone false = unfold both in refl
