@@ -1,5 +1,5 @@
 -- A file that is read is a run of sign-ons from a fresh store, so it begins a list of calls; and a file that was written is read back.
-use mathlib.Core.Bool.{true, false}
+use mathlib.Core.Bool.{false}
 use mathlib.Core.List.{List, [], ◌∷◌}
 use mathlib.Core.Option.{Option, none, some}
 use mathlib.Core.Path.{◌≡◌, refl, sym, ap, ap₂, ◌∙◌, subst, fun_ext}
@@ -30,19 +30,19 @@ use Rattle.rules.specs.Everyone.{everyone}
 use Rattle.rules.specs.Plain.{Plain, plain_fresh, plain_step}
 use Rattle.rules.specs.WellFormed.{WellFormed}
 use Rattle.rules.specs.Watches.{Watched, RightWatches, fresh_watched}
-use Rattle.rules.specs.Calls.{hands, sets, clears, writes, carry_record, carry_call, plain_call}
+use Rattle.rules.specs.Calls.{hands, sets, clears, writes, carry_record, carry_call}
 use Rattle.rules.proofs.LinkLaws.{latest_same}
 use Rattle.rules.proofs.StepLaws.{step_well}
 use Rattle.rules.proofs.WatchesLaws.{latest_on}
 use Rattle.desk.specs.declared.Desk.{Desk}
-use Rattle.desk.specs.Layout.{ledger_of, desk_of, pages_of, fresh_pages}
+use Rattle.desk.specs.Layout.{ledger_of, desk_of, pages_of}
 use Rattle.desk.specs.Call.{After, carried, laid_out}
 use Rattle.desk.specs.Making.{Found, Made}
 use Rattle.desk.specs.Sound.{Sound}
 use Rattle.desk.proofs.CallLaws.{answers_Sound}
 use Rattle.desk.proofs.PagesLaws.{Laid_pages}
 use Rattle.desk.proofs.FreshLaws.{fresh_pages_lem, fresh_well, fresh_right}
-use Rattle.spreadsheet.specs.Read.{sign_on_of, Read, made, stopped, sign_ons, signed_all, read_lines, read_file, plain_sign_ons, plain_lines, plain_read}
+use Rattle.spreadsheet.specs.Read.{sign_on_of, Read, sign_ons, signed_all, read_lines, read_file, plain_sign_ons, plain_lines, plain_read}
 use Rattle.spreadsheet.specs.Call.{laid_out as laid, Reads}
 use Rattle.spreadsheet.proofs.BackLaws.{HasFix, back_made, back_latest}
 use Rattle.spreadsheet.proofs.EveryoneLaws.{Rising-rows_of, find-rows_of, Each-rows_of, length-rows_of}
@@ -50,9 +50,9 @@ use Rattle.spreadsheet.proofs.NarrowLaws.{Narrow, NarrowIf, step_Narrow, well_Na
 use Rattle.spreadsheet.proofs.SignOnLaws.{sign_on_Bytes}
 use Rattle.spreadsheet.proofs.RunLaws.{read_cases, made_all, stopped_not_0}
 use Rattle.demands.specs.Same.{Fed, calls_of}
-use Rattle.demands.specs.Trace.{Trace, begun, called, desk_cuts, watches_set}
+use Rattle.demands.specs.Trace.{Trace, begun, called, desk_cuts}
 use Rattle.demands.specs.Files.{fed_lines, ReadList, ReadBegins, Latest, NoneAtOrigin, CameBack, ComesBack, RoundTrip, RoundTripOfCalls}
-use Rattle.demands.proofs.Demands.{Beside, beside, sound as beside_sound}
+use Rattle.demands.proofs.Demands.{beside, sound as beside_sound}
 use Rattle.demands.proofs.KeptLaws.{desk_cuts_lem}
 
 -- ---- a run of sign-ons is a list of calls

@@ -196,7 +196,7 @@ module _ (memo : Rows StoreLine) (r : ℕ) (n : find memo r ≡ none) where
   only_stored [] h = refl
   only_stored (c ∷ cs) h =
       let P : Option Fix → Type 0 = λ o. let last = place_of (or_else (passed (λ v. not (stale memo v)) r o) (stored_in memo r cs)) in
-        count_if (λ f. not (is_at last f.place)) o + stale_of last r cs ≡ 0 in
+      count_if (λ f. not (is_at last f.place)) o + stale_of last r cs ≡ 0 in
       option_cases (find c.entries r)
       (λ e. subst P (sym e) (omega (arith, only_stored cs (omega (arith, rw e at h)))))
       (λ v e. subst P (sym e) (rw (n, same_place_refl v.place) (omega (arith, stale_le (some v.place) r cs, rw e at h))))

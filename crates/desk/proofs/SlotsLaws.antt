@@ -1,5 +1,5 @@
 -- The directory's array as slots: what is read of it, what a slot written in it makes of the others, and the array from its slots.
-use mathlib.Core.List.{List, [], ◌∷◌, ◌++◌, map, append_assoc}
+use mathlib.Core.List.{List, [], ◌∷◌, map, append_assoc}
 use mathlib.Core.Path.{◌≡◌, refl, sym, ap, ◌∙◌}
 use Prim.Native.Nat.{ℕ, zero, suc, ◌+◌, ◌*◌, ◌/◌, ◌<◌, ◌≤◌}
 use native.Mathlib.Omega.{arith}
@@ -10,7 +10,7 @@ use borrow.Author.Tests.{ltb-true, ltb-false}
 use Rattle.lists.specs.Parts.{part, put, tab}
 use Rattle.lists.specs.Sums.{concat}
 use Rattle.lists.proofs.Cases.{by_cases}
-use Rattle.lists.proofs.PartsLaws.{length-tab, get_or-tab, tab_of, tab_ext, tab-cons, set-tab, length-put, get_or-part, part-put, part-put_before, part-put_after, part-cons, part_zero, pieces_of, put_def}
+use Rattle.lists.proofs.PartsLaws.{length-tab, get_or-tab, tab_of, tab_ext, set-tab, length-put, get_or-part, part-put, part-put_before, part-put_after, part-cons, part_zero, pieces_of, put_def}
 use Rattle.rules.specs.Limits.{max_cells}
 use Rattle.desk.specs.declared.Slot.{Slot}
 use Rattle.desk.specs.Held.{directory_in}

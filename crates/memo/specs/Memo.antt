@@ -1,5 +1,5 @@
 -- The memo in the desk's array as rows by rising radio (01, "A sound store": "Memo lines by rising radio").
-use Rattle.std.specs.Prelude.{Bool, true, false, cond, List, map, ◌≡◌, ℕ, ◌≤◌, ◌<◌, eqb, take}
+use Rattle.std.specs.Prelude.{Bool, true, false, cond, map, ◌≡◌, ℕ, ◌≤◌, ◌<◌, eqb, take}
 use Rattle.std.proofs.Math.Option.{Option, none, some}
 use Rattle.terms.specs.Terms.{Place}
 use Rattle.lists.specs.Rows.{Row, Rows, Rising, find, rank}

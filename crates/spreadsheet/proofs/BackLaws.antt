@@ -5,7 +5,7 @@ use mathlib.Core.Option.{Option, none, some}
 use mathlib.Core.Path.{◌≡◌, refl, sym, ap, ◌∙◌}
 use Prim.Native.Nat.{ℕ, suc, ◌+◌, ◌≤◌}
 use native.Mathlib.Omega.{arith}
-use lib.Dec.{eqb, leb}
+use lib.Dec.{eqb}
 use lib.ListN.{length}
 use borrow.Author.Tests.{eqb-true, eqb-false, eq-eqb, ne_eqb, lt-leb}
 use Rattle.terms.specs.Terms.{Fix, max_on}
@@ -15,14 +15,14 @@ use Rattle.lists.specs.Tests.{one_if, both, either, is_some, Each}
 use Rattle.lists.proofs.Cases.{by_cases, option_cases}
 use Rattle.lists.proofs.RowsLaws.{sum_at_key, find_head, find_tail}
 use Rattle.lists.proofs.TestsLaws.{Each_map}
-use Rattle.csv_grammar.specs.Csv.{Listed, lines, file_read, file_of, Fits, numbered}
+use Rattle.csv_grammar.specs.Csv.{Listed, file_of, Fits, numbered}
 use Rattle.csv_grammar.specs.Order.{in_order}
 use Rattle.csv_grammar.proofs.OrderLaws.{sum-in_order, length-in_order, Each-in_order, minutes_rise}
 use Rattle.csv_grammar.proofs.ReadLaws.{read_written}
 use Rattle.rules.specs.Plain.{plain_fresh, put_at}
-use Rattle.rules.specs.Watches.{Watched, fresh_watched}
+use Rattle.rules.specs.Watches.{fresh_watched}
 use Rattle.csv_order.specs.Checks.{stop_of, also_on, first_stop}
-use Rattle.spreadsheet.specs.Read.{Read, made, sign_ons, signed_all, verdict, read_file, plain_sign_ons, plain_lines, plain_read}
+use Rattle.spreadsheet.specs.Read.{made, signed_all, verdict, read_file, plain_read}
 use Rattle.spreadsheet.proofs.RunLaws.{sign_ons-verdict, latest_all, run_latest, fresh_Beside}
 
 -- the place is not (0,0)

@@ -2,15 +2,12 @@
 use mathlib.Core.List.{List}
 use mathlib.Core.Path.{◌≡◌, refl, sym, ap, ◌∙◌}
 use Prim.Native.Nat.{ℕ}
-use native.Mathlib.Omega.{arith}
 use lib.Dec.{eqb}
 use lib.ListN.{length}
 use borrow.Author.Tests.{eqb-true, eqb-false}
 use Rattle.lists.proofs.Cases.{by_cases}
 use Rattle.page.specs.Buffer.{buffer_bytes}
-use Rattle.rules.specs.Watches.{Watched}
-use Rattle.desk.specs.declared.Desk.{Desk}
-use Rattle.desk.specs.Making.{Found, Made, made as makes}
+use Rattle.desk.specs.Making.{Found, Made}
 use Rattle.spreadsheet.specs.Read.{Read, made, stopped, read_file}
 use Rattle.spreadsheet.specs.Call.{laid_out, Reads}
 

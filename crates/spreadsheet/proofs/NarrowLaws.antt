@@ -1,14 +1,14 @@
 -- What reports tell fits into a line of a file: each came in a record's 16 and 32 bits, and a well-formed store holds places in the square and no minute above its highest.
-use mathlib.Core.Bool.{Bool, true, false, not, cond}
+use mathlib.Core.Bool.{not}
 use mathlib.Core.List.{List, [], ◌∷◌}
 use mathlib.Core.Option.{Option, none, some}
-use mathlib.Core.Path.{◌≡◌, refl, sym, ap, ◌∙◌, subst}
-use Prim.Native.Nat.{ℕ, ◌+◌, ◌*◌, ◌<◌, ◌≤◌}
+use mathlib.Core.Path.{◌≡◌, sym, ◌∙◌, subst}
+use Prim.Native.Nat.{ℕ, ◌+◌, ◌≤◌}
 use native.Mathlib.Omega.{arith}
 use lib.Dec.{eqb}
 use Rattle.terms.specs.Terms.{Fix}
 use Rattle.lists.specs.Rows.{Rows, find}
-use Rattle.lists.specs.Tests.{Each, or_else}
+use Rattle.lists.specs.Tests.{Each}
 use Rattle.lists.specs.Words.{word, Bytes}
 use Rattle.lists.proofs.Cases.{by_cases, option_cases, none-some, some_injective}
 use Rattle.lists.proofs.RowsLaws.{Each-find, passed-true}
@@ -18,7 +18,7 @@ use Rattle.csv_grammar.specs.Csv.{max_metre, max_minute}
 use Rattle.rules.specs.Grid.{Cuts}
 use Rattle.rules.specs.Store.{Line, Cell, Store}
 use Rattle.rules.specs.Sweep.{stale}
-use Rattle.rules.specs.Carry.{live_in, stored_in, fix_of, latest}
+use Rattle.rules.specs.Carry.{live_in, stored_in, latest}
 use Rattle.rules.specs.Records.{Request, sign_on, report, sign_off, range, request_of, kind_field, kind_sign_on, kind_report, kind_sign_off, place_field, minute_field, fix_field}
 use Rattle.rules.specs.Plain.{Plain, put_at, plain_at, plain_place, plain_off, plain_done, plain_refusal, plain_step}
 use Rattle.rules.specs.WellFormed.{GoodCell, WellFormed}

@@ -1,5 +1,5 @@
 -- A run of sign-ons (02, Job 6): beside it goes the plain rule, which says of each line whether a check stops it and which radios are on after it.
-use mathlib.Core.Bool.{Bool, true, false, cond}
+use mathlib.Core.Bool.{Bool, false}
 use mathlib.Core.List.{List, [], ◌∷◌}
 use mathlib.Core.Option.{Option, none, some}
 use mathlib.Core.Path.{◌≡◌, refl, sym, ap, ap₂, ◌∙◌, subst, fun_ext}
@@ -11,28 +11,26 @@ use lib.ListN.{length, take}
 use lib.Seq.{take-nil}
 use borrow.Author.Tests.{eqb-true, eqb-false, eq-eqb, ne_eqb, leb-false}
 use Rattle.terms.specs.Terms.{Place, Fix, max_radio, max_on}
-use Rattle.lists.specs.Rows.{Row}
 use Rattle.lists.specs.Sums.{sum_to}
 use Rattle.lists.specs.Tests.{one_if, both, either, is_some, Each}
 use Rattle.lists.proofs.Cases.{by_cases, option_cases, none-some}
 use Rattle.lists.proofs.SumsLaws.{sum_to_but, sum_to_zero}
 use Rattle.csv_grammar.specs.Csv.{Listed, Fits}
 use Rattle.csv_grammar.specs.Order.{MinutesRise}
-use Rattle.rules.specs.Grid.{Cuts, Box}
-use Rattle.rules.specs.Records.{sign_on, request_of, refusal}
+use Rattle.rules.specs.Grid.{Cuts}
+use Rattle.rules.specs.Records.{refusal}
 use Rattle.rules.specs.Store.{Store}
 use Rattle.rules.specs.Carry.{is_on, on_count, carried_out, carry}
-use Rattle.rules.specs.Plain.{Plain, plain_fresh, put_at, plain_on, plain_on_count, plain_due, plain_flush, plain_at, plain_place, plain_after, plain_done, plain_refusal, plain_step}
+use Rattle.rules.specs.Plain.{Plain, plain_fresh, put_at, plain_on, plain_on_count, plain_due, plain_at, plain_place, plain_after, plain_done, plain_refusal, plain_step}
 use Rattle.rules.specs.WellFormed.{WellFormed}
 use Rattle.rules.specs.Watches.{Watched, fresh_watched}
-use Rattle.rules.specs.Calls.{Result, carry_record}
+use Rattle.rules.specs.Calls.{carry_record}
 use Rattle.rules.proofs.LinkLaws.{Link, fresh-Link, refusal_same}
 use Rattle.rules.proofs.PlainLaws.{step_Link}
 use Rattle.rules.proofs.StepLaws.{step_well}
 use Rattle.rules.proofs.WellLaws.{well_Core}
 use Rattle.desk.proofs.FreshLaws.{fresh_well}
-use Rattle.csv_order.specs.declared.Stop.{Stop}
-use Rattle.csv_order.specs.Checks.{stop_of, also_on, stop_at, first_stop}
+use Rattle.csv_order.specs.Checks.{stop_of, also_on, first_stop}
 use Rattle.spreadsheet.specs.Read.{sign_on_of, Read, made, stopped, sign_ons, signed_all, verdict, plain_sign_ons}
 use Rattle.spreadsheet.proofs.SignOnLaws.{sign_on_request, refusal_sign_on, sign_on_Bytes}
 

@@ -1,12 +1,12 @@
 -- The record of a line (02, Job 6): its fields are the line's, and which checks it can fail.
-use mathlib.Core.Bool.{Bool, true, false, cond}
+use mathlib.Core.Bool.{Bool, false}
 use mathlib.Core.List.{List, [], ◌∷◌}
-use mathlib.Core.Path.{◌≡◌, refl, sym, ap, ◌∙◌}
+use mathlib.Core.Path.{◌≡◌, refl}
 use Prim.Native.Nat.{ℕ, zero, suc, ◌+◌, ◌*◌, ◌/◌, ◌%◌, ◌<◌, ◌≤◌}
 use native.Mathlib.Omega.{arith}
-use lib.Dec.{eqb, leb, ltb}
-use lib.ListN.{length, get_or}
-use borrow.Author.Tests.{le-leb, le-ltb, ne_eqb, eq-eqb, lt-ltb}
+use lib.Dec.{eqb, leb}
+use lib.ListN.{length}
+use borrow.Author.Tests.{le-ltb, ne_eqb}
 use Rattle.terms.specs.Terms.{Fix, max_radio, max_on}
 use Rattle.lists.specs.Rows.{Row}
 use Rattle.lists.specs.Tests.{both, either, Each}

@@ -1,5 +1,5 @@
 -- Who is on, in the desk, as rows by rising radio (01, "What the desk holds").
-use Rattle.std.specs.Prelude.{List, ◌≡◌, ℕ, ◌≤◌, ◌<◌}
+use Rattle.std.specs.Prelude.{◌≡◌, ◌≤◌, ◌<◌}
 use Rattle.terms.specs.Terms.{max_on}
 use Rattle.lists.specs.Rows.{Rising}
 use Rattle.desk.specs.Layout.{on_of}

@@ -1,4 +1,3 @@
-use Prim.Native.Nat.{◌-◌}
 use native.Mathlib.Omega.{arith}
 use Rattle.boxes.proofs.StripesLaws.{Passing_start, Passing_here, Passing_turn, Passing_end}
 use borrow.Author.Rules.{rules}

@@ -1,4 +1,3 @@
-use Prim.Native.Nat.{◌-◌}
 use borrow.Author.Rules.{rules}
 use Rattle.boxes.proofs.BoxLaws.{Passed_start, Passed_turn, Passed_end}
 use Rattle.boxes.proofs.stripe_of.Goals as goal

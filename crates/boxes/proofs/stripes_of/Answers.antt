@@ -1,4 +1,3 @@
-use Prim.Native.Nat.{◌-◌}
 use Rattle.boxes.proofs.StripesLaws.{Striped_start, Striped_low, Striped_turn, Striped_end}
 use borrow.Author.Rules.{rules}
 use Rattle.boxes.proofs.stripes_of.Goals as goal

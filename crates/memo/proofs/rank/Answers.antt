@@ -1,6 +1,5 @@
 use borrow.Author.Rules.{rules}
 use mathlib.Core.Path.{sym}
-use Prim.Native.Nat.{◌-◌}
 use Rattle.lists.proofs.SearchLaws.{rank-Between}
 use Rattle.memo.proofs.MemoLaws.{search_start, search_up, search_down}
 use Rattle.memo.proofs.rank.Goals as goal

@@ -1,4 +1,3 @@
-use Prim.Native.Nat.{◌-◌}
 use Rattle.memo_index.proofs.IndexLaws.{index_start, index_radio, index_turn, index_end}
 use borrow.Author.Rules.{rules}
 use Rattle.memo_index.proofs.index_lines.Goals as goal
