@@ -1,11 +1,13 @@
-// The input as the journal printer reads it: a window over it, what of the window is at hand, and what the last read said of the input.
+// The input as the journal printer reads it: a window over a reader, what of the window is at hand, and what the last read said of the input.
 #![tactic(auto)]
 
-ghost use Rattle.std.specs.Prelude.{true, false, ◌≡◌, ◌+◌, ◌≤◌, ◌<◌, length, take, drop};
+ghost use Rattle.std.specs.Prelude.{◌≡◌, ◌+◌, ◌≤◌, ◌<◌, length, take, IfOk, OnErr};
+ghost use Rattle.std.specs.Io.KnownBytes.{IsAtEnd};
 ghost use Rattle.rules.specs.Records.{length_field};
-ghost use Rattle.journal_input.specs.Input.{source_of, is_open, has_failed, window_bytes, at_hand, InWindow, Fills, Reaches};
+ghost use Rattle.journal_input.specs.Input.{window_bytes, at_hand, InWindow, Brings, WholeRecord};
 
-use libc::STDIN_FILENO;
+use std::io;
+use std::io::Read;
 
 // A record's length is below this, so a record that a full window has not whole is not there at all.
 pub const WINDOW_BYTES: usize = 65536;
@@ -14,179 +16,110 @@ pub const WINDOW_BYTES: usize = 65536;
 pub const LEAST_BYTES: usize = 4;
 
 // What is at hand of the input: the window's bytes from `at` up to `end`.
-#[derive(Drop)]
+#[derive(Clone, Copy)]
 pub struct Hand {
     pub at: usize,
     pub end: usize,
 }
 
-// What the last read said of the input: more may come, it has ended, or it cannot be read.
-#[derive(Clone, Copy)]
+// What the last read said of the input: more may come, or it has ended. That it cannot be read is an `Err`.
+#[derive(Clone, Copy, PartialEq, Eq)]
 pub enum Source {
     Open,
     Ended,
-    Failed,
 }
 
-// What is at hand after reading.
-#[derive(Drop)]
-pub struct Filling {
-    pub hand: Hand,
-    pub source: Source,
-}
-
-// Where the bytes end after reading.
-#[derive(Drop)]
-struct Reached {
-    end: usize,
-    source: Source,
-}
-
-// What one read brought.
-#[derive(Drop)]
-struct Came {
-    n: usize,
-    source: Source,
-}
-
-// The window's next record is at hand, or all that is left of the input, or a read has failed; what was at hand is kept.
-pub fn record_at_hand(window: &mut [u8], hand: Hand) -> Filling
-    requires { InWindow hand window.old }
-    ensures { Reaches (at_hand window.old hand) result.source (at_hand window.new result.hand)
-        × InWindow result.hand window.new }
+// The window's next record is at hand, or all that is left of the input, or a read has failed; what was at hand is kept, after an `Err` too.
+pub fn record_at_hand<R: Read>(
+    reader: &mut R,
+    window: &mut [u8],
+    hand: &mut Hand,
+) -> io::Result<Source>
+    requires { InWindow hand.old window.old }
+    ensures inside { InWindow hand.new window.new }
+    ensures brings { Brings (R.remaining reader.old) (R.remaining reader.new)
+        (at_hand window.old hand.old) (at_hand window.new hand.new) }
+    ensures whole { IfOk result (λ source. source ≡ Source.Open → WholeRecord (at_hand window.new hand.new)) }
+    ensures ended { IfOk result (λ source. source ≡ Source.Ended → IsAtEnd (R.remaining reader.new)) }
 {
-    let first = filled(window, hand, LEAST_BYTES);
-    let source = first.source;
-    if !is_open(source) {
-        return first;
+    if filled(reader, window, hand, LEAST_BYTES)? == Source::Ended {
+        return Ok(Source::Ended);
     }
-    let held = first.hand;
-    let at = held.at;
-    let end = held.end;
-    let length = record_length(&window[at..end]);
-    filled(window, held, length)
+    let length = record_length(&window[hand.at..hand.end]);
+    filled(reader, window, hand, length)
 }
 
 // The length that a record's bytes name.
+#[tactic(auto, unfolding(rules::specs::Records::length_field))]
 fn record_length(bytes: &[u8]) -> usize
     requires { 4 ≤ length bytes.now }
-    ensures { (result ≡ length_field bytes.now) × (result < window_bytes) }
+    ensures value { result ≡ length_field bytes.now }
+    ensures small { result < window_bytes }
 {
     fields::read(bytes, 0) as usize
 }
 
 // So many bytes are at hand, unless the input has ended or cannot be read; what was at hand is kept.
-fn filled(window: &mut [u8], hand: Hand, need: usize) -> Filling
-    requires { InWindow hand window.old × (need < window_bytes) }
-    ensures { Fills need (at_hand window.old hand) result.source (at_hand window.new result.hand)
-        × InWindow result.hand window.new }
+fn filled<R: Read>(
+    reader: &mut R,
+    window: &mut [u8],
+    hand: &mut Hand,
+    need: usize,
+) -> io::Result<Source>
+    requires inside { InWindow hand.old window.old }
+    requires need { need < window_bytes }
+    ensures inside { InWindow hand.new window.new }
+    ensures brings { Brings (R.remaining reader.old) (R.remaining reader.new)
+        (at_hand window.old hand.old) (at_hand window.new hand.new) }
+    ensures enough { IfOk result (λ source. source ≡ Source.Open → need ≤ length (at_hand window.new hand.new)) }
+    ensures ended { IfOk result (λ source. source ≡ Source.Ended → IsAtEnd (R.remaining reader.new)) }
 {
     let n = hand.end - hand.at;
     if need <= n {
-        return Filling {
-            hand,
-            source: Source::Open,
-        };
+        return Ok(Source::Open);
     }
-    shift(window, hand.at, n);
-    let reached = read_up_to(window, n, need);
-    let end = reached.end;
-    let source = reached.source;
-    Filling {
-        hand: Hand { at: 0, end },
-        source,
-    }
+    window.copy_within(hand.at..hand.end, 0);
+    hand.at = 0;
+    hand.end = n;
+    read_up_to(reader, window, &mut hand.end, need)
 }
 
-// The n bytes from `at` on go to the window's front.
-fn shift(window: &mut [u8], at: usize, n: usize)
-    requires { at + n ≤ length window.old }
-    ensures { take n window.new ≡ take n (drop at window.old) }
+// Reads on from `end` until there are `need` bytes, or the input has ended or cannot be read.
+fn read_up_to<R: Read>(
+    reader: &mut R,
+    window: &mut [u8],
+    end: &mut usize,
+    need: usize,
+) -> io::Result<Source>
+    requires start { end.old ≤ length window.old }
+    requires room { need ≤ length window.old }
+    ensures low { end.old ≤ end.new }
+    ensures high { end.new ≤ length window.old }
+    ensures brings { Brings (R.remaining reader.old) (R.remaining reader.new)
+        (take end.old window.old) (take end.new window.new) }
+    ensures enough { IfOk result (λ source. source ≡ Source.Open → need ≤ end.new) }
+    ensures ended { IfOk result (λ source. source ≡ Source.Ended → IsAtEnd (R.remaining reader.new)) }
 {
-    let mut i: usize = 0;
-    while i < n {
-        window[i] = window[at + i];
-        i += 1;
-    }
-}
-
-// Reads on from `from` until there are `need` bytes, or the input has ended or cannot be read.
-fn read_up_to(window: &mut [u8], from: usize, need: usize) -> Reached
-    requires { (from ≤ length window.old) × (need ≤ length window.old) }
-    ensures { (take from window.new ≡ take from window.old) × (from ≤ result.end) × (result.end ≤ length window.old)
-        × (is_open result.source ≡ true → need ≤ result.end) }
-{
-    let mut end = from;
-    while end < need {
-        let reached = read_more(window, end);
-        let source = reached.source;
-        if !is_open(source) {
-            return reached;
+    while *end < need {
+        let n = read_more(reader, window, *end)?;
+        if n == 0 {
+            return Ok(Source::Ended);
         }
-        end = reached.end;
+        *end += n;
     }
-    Reached {
-        end,
-        source: Source::Open,
-    }
+    Ok(Source::Open)
 }
 
 // One read into the window from `end` on, where there is room for a byte, so that 0 is the input's end.
-fn read_more(window: &mut [u8], end: usize) -> Reached
+fn read_more<R: Read>(reader: &mut R, window: &mut [u8], end: usize) -> io::Result<usize>
     requires { end < length window.old }
-    ensures { (take end window.new ≡ take end window.old) × (result.end ≤ length window.old)
-        × (is_open result.source ≡ true → end < result.end) × (is_open result.source ≡ false → result.end ≡ end) }
+    ensures kept { take end window.new ≡ take end window.old }
+    ensures within { IfOk result (λ n. end + n ≤ length window.old) }
+    ensures ok { IfOk result (λ n. Brings (R.remaining reader.old) (R.remaining reader.new)
+        (take end window.old) (take (end + n) window.new)) }
+    ensures ended { IfOk result (λ n. n ≡ 0 → IsAtEnd (R.remaining reader.new)) }
+    ensures err { OnErr result (Brings (R.remaining reader.old) (R.remaining reader.new)
+        (take end window.old) (take end window.new)) }
 {
-    let got = libc::read(STDIN_FILENO, &mut window[end..]);
-    let came = bytes_came(got, &window[end..]);
-    let source = came.source;
-    Reached {
-        end: end + came.n,
-        source,
-    }
-}
-
-// How many bytes came by a read that answered so.
-fn bytes_came(got: isize, room: &[u8]) -> Came
-    requires { 0 < length room.now }
-    ensures { (result.source ≡ source_of got) × (result.n ≤ length room.now)
-        × (is_open result.source ≡ true → 0 < result.n) × (is_open result.source ≡ false → result.n ≡ 0) }
-{
-    Came {
-        n: io::count(got, room),
-        source: source_of(got),
-    }
-}
-
-// What a read's answer says of the input.
-fn source_of(got: isize) -> Source
-    ensures { result ≡ source_of got }
-{
-    if got < 0 {
-        return Source::Failed;
-    }
-    if got == 0 {
-        return Source::Ended;
-    }
-    Source::Open
-}
-
-fn is_open(source: Source) -> bool
-    ensures { result ≡ is_open source }
-{
-    match source {
-        Source::Open => true,
-        Source::Ended => false,
-        Source::Failed => false,
-    }
-}
-
-pub fn has_failed(source: Source) -> bool
-    ensures { result ≡ has_failed source }
-{
-    match source {
-        Source::Open => false,
-        Source::Ended => false,
-        Source::Failed => true,
-    }
+    reader.read(&mut window[end..])
 }
