@@ -198,6 +198,15 @@ int main(void)
     expect(on, 0, 3, 0);
     expect(range, 15, 3, 0);
 
+    /* a slice of length 0 may have a null pointer */
+    memcpy(&before, &lent, sizeof lent);
+    expect_answer(boragefile_call(&lent.desk, lent.pages, sizeof lent.pages, NULL, 0, NULL, 0), BORAGEFILE_LENGTH, 0, 0, 0);
+    expect_answer(boragefile_call(&lent.desk, NULL, 0, on, sizeof on, lent.buffer, sizeof lent.buffer), BORAGEFILE_PAGE_BUFFER, 0, 0, 0);
+    expect_answer(boragefile_begin(&lent.desk, NULL, 0), BORAGEFILE_PAGE_BUFFER, 0, 0, 0);
+    expect_answer(boragefile_csv_write(&lent.desk, lent.pages, sizeof lent.pages, NULL, 0), BORAGEFILE_ANSWER_BUFFER, strlen(HEADER), 0, 0);
+    expect_answer(boragefile_csv_read(&lent.desk, lent.pages, sizeof lent.pages, NULL, 0), BORAGEFILE_BAD_LINE, 1, 0, 0);
+    assert(!boragefile_sound(&lent.desk, NULL, 0));
+
     /* a place is kept for 720 minutes, and no minute is taken that is below the highest */
     const uint32_t minute = 0x01020304;
     expect_at(minute, on, sizeof on, 0, 0);

@@ -193,8 +193,8 @@ BORAGEFILE_STATIC_ASSERT(offsetof(boragefile_answer, count) == 8, "count");
 extern "C" {
 #endif
 
-/* A slice is a pointer and a length. The caller owes this much: no pointer is null, even with length 0; the desk is aligned; no two of desk,
- * pages, bytes, file and buffer overlap. What stands in them is free. */
+/* A slice is a pointer and a length. The caller owes this much: no pointer is null, but that of a slice of length 0 may be; the desk is aligned; no two
+ * of desk, pages, bytes, file and buffer overlap. What stands in them is free. */
 
 /* Makes desk and pages a fresh store. Only number 1 can turn it down. */
 boragefile_answer boragefile_begin(boragefile_desk *desk, uint8_t *pages, size_t pages_length);
