@@ -1,5 +1,4 @@
 use borrow.Author.Rules.{rules}
-use Prim.Native.Nat.{◌-◌}
 use Rattle.box_due.proofs.DueLaws.{row_start, row_turn, row_end}
 use Rattle.box_due.proofs.fullest_in_row.Goals as goal
 

@@ -1,5 +1,4 @@
 use borrow.Author.Rules.{rules}
-use Prim.Native.Nat.{◌-◌}
 use Rattle.box_due.proofs.DueLaws.{rows_start, rows_turn, rows_end}
 use Rattle.box_due.proofs.fullest_in_rows.Goals as goal
 

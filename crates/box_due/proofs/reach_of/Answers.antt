@@ -1,5 +1,4 @@
 use borrow.Author.Rules.{rules}
-use Prim.Native.Nat.{◌-◌}
 use native.Mathlib.Omega.{arith}
 use Rattle.box_due.proofs.ReachLaws.{Reached_start, Reached_turn, Reached_end}
 use Rattle.box_due.proofs.reach_of.Goals as goal

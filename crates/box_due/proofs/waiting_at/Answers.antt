@@ -1,4 +1,3 @@
-use Prim.Native.Nat.{◌-◌}
 use Rattle.box_due.proofs.ReachLaws.{one_more_most, Near_start, Near_turn, Near_end}
 use borrow.Author.Rules.{rules}
 use Rattle.box_due.proofs.waiting_at.Goals as goal

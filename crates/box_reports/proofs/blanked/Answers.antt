@@ -1,4 +1,3 @@
-use Prim.Native.Nat.{◌-◌}
 use Rattle.lists.proofs.PartsLaws.{put_none}
 use Rattle.box_reports.proofs.PartingLaws.{blank_turn, blank_end}
 use borrow.Author.Rules.{rules}

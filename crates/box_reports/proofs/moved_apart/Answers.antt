@@ -1,5 +1,4 @@
 use native.Mathlib.Omega.{arith}
-use Prim.Native.Nat.{◌-◌}
 use Rattle.box_reports.proofs.PartingLaws.{blank_size, part_end, part_at_start, part_at_turn}
 use borrow.Author.Rules.{rules}
 use Rattle.box_reports.proofs.moved_apart.Goals as goal

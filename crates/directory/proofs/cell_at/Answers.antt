@@ -1,4 +1,3 @@
-use Prim.Native.Nat.{◌-◌}
 use Rattle.directory.proofs.CellLaws.{pass_start, pass_found, pass_turn, pass_end}
 use borrow.Author.Rules.{rules}
 use Rattle.directory.proofs.cell_at.Goals as goal

@@ -1,4 +1,3 @@
-use Prim.Native.Nat.{◌-◌}
 use native.Mathlib.Omega.{arith}
 use Rattle.lists.proofs.ShiftLaws.{close_start}
 use Rattle.directory.proofs.CellLaws.{whole_size, every_size, close_slot, close_directory}

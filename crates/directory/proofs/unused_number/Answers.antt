@@ -1,4 +1,3 @@
-use Prim.Native.Nat.{◌-◌}
 use Rattle.directory.proofs.NumberLaws.{Used_start, Used_turn, Used_found, Used_end}
 use borrow.Author.Rules.{rules}
 use Rattle.directory.proofs.unused_number.Goals as goal

@@ -1,4 +1,3 @@
-use Prim.Native.Nat.{◌-◌}
 use Rattle.directory.proofs.NumberLaws.{mark_start, number_below, mark_turn, mark_end}
 use borrow.Author.Rules.{rules}
 use Rattle.directory.proofs.used_numbers.Goals as goal

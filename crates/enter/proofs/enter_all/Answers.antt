@@ -1,4 +1,3 @@
-use Prim.Native.Nat.{◌-◌}
 use Rattle.enter.proofs.EnterLaws.{Entering_start, Entering_ready, Entering_turn, Entering_end}
 use borrow.Author.Rules.{rules}
 use Rattle.enter.proofs.enter_all.Goals as goal

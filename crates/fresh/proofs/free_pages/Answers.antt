@@ -1,4 +1,3 @@
-use Prim.Native.Nat.{◌-◌}
 use native.Mathlib.Omega.{arith}
 use Rattle.fresh.proofs.BeginLaws.{Freed_start, Freed_turn, Freed_end}
 use borrow.Author.Rules.{rules}

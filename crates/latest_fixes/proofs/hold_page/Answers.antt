@@ -1,4 +1,3 @@
-use Prim.Native.Nat.{◌-◌}
 use Rattle.page.proofs.ChainLaws.{there_bounds}
 use Rattle.latest_fixes.proofs.ColumnLaws.{page_start, page_end, page_radio, page_turn}
 use borrow.Author.Rules.{rules}

@@ -1,4 +1,3 @@
-use Prim.Native.Nat.{◌-◌}
 use Rattle.latest_fixes.proofs.ColumnLaws.{reports_start, reports_radios, reports_turn, reports_end}
 use borrow.Author.Rules.{rules}
 use Rattle.latest_fixes.proofs.hold_reports.Goals as goal

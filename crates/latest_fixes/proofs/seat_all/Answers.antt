@@ -1,4 +1,3 @@
-use Prim.Native.Nat.{◌-◌}
 use Rattle.range.proofs.ListLaws.{on_radios}
 use Rattle.latest_fixes.proofs.SeatLaws.{Seating_start, Seating_turn, Seating_end}
 use borrow.Author.Rules.{rules}

@@ -1,4 +1,3 @@
-use Prim.Native.Nat.{◌-◌}
 use Rattle.desk.specs.Held.{directory_in}
 use Rattle.range_places.proofs.TableLaws.{cells_start, cells_radios, cells_end}
 use Rattle.latest_places.proofs.TellLaws.{told_cells}

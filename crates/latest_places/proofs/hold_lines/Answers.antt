@@ -1,4 +1,3 @@
-use Prim.Native.Nat.{◌-◌}
 use Rattle.desk.specs.Held.{memo_in}
 use Rattle.latest_places.proofs.TellLaws.{lines_start, lines_radio, lines_turn, lines_end}
 use borrow.Author.Rules.{rules}

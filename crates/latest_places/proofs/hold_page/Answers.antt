@@ -1,4 +1,3 @@
-use Prim.Native.Nat.{◌-◌}
 use Rattle.page.proofs.ChainLaws.{there_bounds}
 use Rattle.range_places.proofs.TableLaws.{page_start, page_end, page_radio}
 use Rattle.latest_places.proofs.TellLaws.{told_turn}

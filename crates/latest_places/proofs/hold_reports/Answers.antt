@@ -1,4 +1,3 @@
-use Prim.Native.Nat.{◌-◌}
 use Rattle.range_places.proofs.TableLaws.{reports_start, reports_radios, reports_end}
 use Rattle.latest_places.proofs.TellLaws.{told_reports}
 use borrow.Author.Rules.{rules}

@@ -1,4 +1,3 @@
-use Prim.Native.Nat.{◌-◌}
 use Rattle.lists.proofs.PartsLaws.{put_none}
 use Rattle.memo_sweep.proofs.LowerLaws.{clear_turn, clear_end}
 use borrow.Author.Rules.{rules}

@@ -1,4 +1,3 @@
-use Prim.Native.Nat.{◌-◌}
 use Rattle.memo_sweep.proofs.LowerLaws.{Unmarked_start, Unmarked_turn}
 use borrow.Author.Rules.{rules}
 use Rattle.memo_sweep.proofs.first_marked.Goals as goal

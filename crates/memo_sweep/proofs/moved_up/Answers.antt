@@ -1,4 +1,3 @@
-use Prim.Native.Nat.{◌-◌}
 use Rattle.memo_sweep.proofs.LowerLaws.{up_start, up_Plain, up_turn, up_end}
 use borrow.Author.Rules.{rules}
 use Rattle.memo_sweep.proofs.moved_up.Goals as goal

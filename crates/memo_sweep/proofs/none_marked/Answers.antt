@@ -1,4 +1,3 @@
-use Prim.Native.Nat.{◌-◌}
 use borrow.Author.Rules.{rules}
 use Rattle.memo_sweep.proofs.LowerLaws.{Seen_start, Seen_turn, Seen_end}
 use Rattle.memo_sweep.proofs.none_marked.Goals as goal

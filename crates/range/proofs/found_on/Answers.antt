@@ -1,4 +1,3 @@
-use Prim.Native.Nat.{◌-◌}
 use Rattle.range.proofs.ListLaws.{on_radios, keep_start, keep_turn, keep_end}
 use borrow.Author.Rules.{rules}
 use Rattle.range.proofs.found_on.Goals as goal

@@ -1,4 +1,3 @@
-use Prim.Native.Nat.{◌-◌}
 use Rattle.range.proofs.ListLaws.{on_radios, Writing_start, Writing_turn, Writing_end}
 use borrow.Author.Rules.{rules}
 use Rattle.range.proofs.write_rows.Goals as goal

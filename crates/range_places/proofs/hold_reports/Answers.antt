@@ -1,4 +1,3 @@
-use Prim.Native.Nat.{◌-◌}
 use Rattle.range_places.proofs.TableLaws.{reports_start, reports_radios, reports_turn, reports_end}
 use borrow.Author.Rules.{rules}
 use Rattle.range_places.proofs.hold_reports.Goals as goal

@@ -1,4 +1,3 @@
-use Prim.Native.Nat.{◌-◌}
 use Rattle.settle.proofs.LoopLaws.{Growing_start, Growing_there, Growing_turn, Growing_end}
 use borrow.Author.Rules.{rules}
 use Rattle.settle.proofs.grow.Goals as goal

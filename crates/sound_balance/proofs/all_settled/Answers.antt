@@ -1,4 +1,4 @@
-use Rattle.std.proofs.Common.{◌-◌, rules}
+use Rattle.std.proofs.Common.{rules}
 use Rattle.sound_balance.proofs.SettledLaws.{settled_start, settled_turn, settled_end}
 use Rattle.sound_balance.proofs.all_settled.Goals as goal
 

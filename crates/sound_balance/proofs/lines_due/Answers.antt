@@ -1,4 +1,4 @@
-use Rattle.std.proofs.Common.{◌-◌, rules}
+use Rattle.std.proofs.Common.{rules}
 use Rattle.memo_index.proofs.IndexLaws.{index_start, index_radio, index_turn, index_end}
 use Rattle.sound_balance.proofs.TableLaws.{Adding_start}
 use Rattle.sound_balance.proofs.DueLaws.{missed_turn, missed_end}

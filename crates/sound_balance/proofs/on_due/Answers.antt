@@ -1,4 +1,4 @@
-use Rattle.std.proofs.Common.{◌-◌, rules}
+use Rattle.std.proofs.Common.{rules}
 use Rattle.sound_balance.proofs.DueLaws.{on_start, on_radio, on_turn, on_end}
 use Rattle.sound_balance.proofs.on_due.Goals as goal
 

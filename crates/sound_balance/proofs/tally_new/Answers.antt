@@ -1,4 +1,4 @@
-use Rattle.std.proofs.Common.{◌-◌, rules}
+use Rattle.std.proofs.Common.{rules}
 use Rattle.sound_balance.proofs.TableLaws.{Adding_start}
 use Rattle.sound_balance.proofs.DueLaws.{Belonging_start, new_radio, new_turn, new_end, Belonging_turn, Belonging_end}
 use Rattle.sound_balance.proofs.tally_new.Goals as goal

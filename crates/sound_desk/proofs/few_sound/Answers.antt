@@ -1,4 +1,3 @@
-use Prim.Native.Nat.{◌-◌}
 use Rattle.boxes.proofs.StripesLaws.{seat_east, seat_north}
 use Rattle.sound_desk.proofs.FewLaws.{seated, few_start, few_full, few_turn, few_end}
 use borrow.Author.Rules.{rules}

@@ -1,4 +1,3 @@
-use Prim.Native.Nat.{◌-◌}
 use Rattle.sound_directory.proofs.LoopLaws.{Clear_start, Clear_turn, Clear_end}
 use borrow.Author.Rules.{rules}
 use Rattle.sound_directory.proofs.is_clear.Goals as goal

@@ -1,4 +1,3 @@
-use Prim.Native.Nat.{◌-◌}
 use Rattle.sound_directory.proofs.DirectoryLaws.{mark_start, mark_beyond, mark_twice, mark_turn, mark_end}
 use borrow.Author.Rules.{rules}
 use Rattle.sound_directory.proofs.names_sound.Goals as goal

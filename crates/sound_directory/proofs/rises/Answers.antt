@@ -1,4 +1,3 @@
-use Prim.Native.Nat.{◌-◌}
 use Rattle.sound_directory.proofs.LoopLaws.{rise_start, rise_turn, rise_end}
 use borrow.Author.Rules.{rules}
 use Rattle.sound_directory.proofs.rises.Goals as goal

@@ -1,5 +1,4 @@
 use mathlib.Core.Path.{refl}
-use Prim.Native.Nat.{◌-◌}
 use Rattle.sound_edges.proofs.SeekLaws.{seek_turn}
 use Rattle.sound_edges.proofs.EdgeLaws.{ended_found, ended_not}
 use borrow.Author.Rules.{rules}

@@ -1,4 +1,3 @@
-use Prim.Native.Nat.{◌-◌}
 use Rattle.sound_entries.proofs.WalkLaws.{Cells_start, Cells_radios, Cells_turn, Cells_end}
 use borrow.Author.Rules.{rules}
 use Rattle.sound_entries.proofs.tally_cells.Goals as goal

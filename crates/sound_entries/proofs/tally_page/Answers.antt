@@ -1,4 +1,3 @@
-use Prim.Native.Nat.{◌-◌}
 use Rattle.sound_entries.proofs.WalkLaws.{tally_start, page_radio, page_turn, page_end}
 use borrow.Author.Rules.{rules}
 use Rattle.sound_entries.proofs.tally_page.Goals as goal

@@ -1,4 +1,3 @@
-use Prim.Native.Nat.{◌-◌}
 use Rattle.sound_grid.proofs.TileLaws.{cell_start, cell_turn, cell_end}
 use borrow.Author.Rules.{rules}
 use Rattle.sound_grid.proofs.mark_cell.Goals as goal

@@ -1,4 +1,3 @@
-use Prim.Native.Nat.{◌-◌}
 use Rattle.desk.proofs.SlotsLaws.{length_slots}
 use Rattle.sound_grid.proofs.LoopLaws.{pass_start}
 use Rattle.sound_grid.proofs.GridLaws.{edges_fail, edges_turn, edges_end}

@@ -1,4 +1,3 @@
-use Prim.Native.Nat.{◌-◌}
 use Rattle.sound_grid.proofs.TileLaws.{row_start, row_turn, row_end}
 use borrow.Author.Rules.{rules}
 use Rattle.sound_grid.proofs.mark_row.Goals as goal

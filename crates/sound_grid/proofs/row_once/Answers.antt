@@ -1,4 +1,3 @@
-use Prim.Native.Nat.{◌-◌}
 use Rattle.sound_grid.proofs.TileLaws.{once_start, once_fails, once_turn, once_end}
 use borrow.Author.Rules.{rules}
 use Rattle.sound_grid.proofs.row_once.Goals as goal

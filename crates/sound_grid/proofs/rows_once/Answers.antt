@@ -1,4 +1,3 @@
-use Prim.Native.Nat.{◌-◌}
 use Rattle.sound_grid.proofs.TileLaws.{rows_start, rows_fail, rows_turn, rows_end}
 use borrow.Author.Rules.{rules}
 use Rattle.sound_grid.proofs.rows_once.Goals as goal

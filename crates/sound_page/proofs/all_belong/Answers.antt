@@ -1,5 +1,4 @@
 use mathlib.Core.Path.{refl}
-use Prim.Native.Nat.{◌-◌}
 use borrow.Author.Rules.{rules}
 use Rattle.sound_page.proofs.CodeLaws.{belong_no, belong_turn, belong_end}
 use Rattle.sound_page.proofs.all_belong.Goals as goal

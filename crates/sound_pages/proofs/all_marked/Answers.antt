@@ -1,5 +1,4 @@
 use mathlib.Core.Path.{refl}
-use Prim.Native.Nat.{◌-◌}
 use Rattle.lists.specs.Tests.{both}
 use borrow.Author.Rules.{rules}
 use Rattle.sound_pages.proofs.CodeLaws.{all_turn, all_end}

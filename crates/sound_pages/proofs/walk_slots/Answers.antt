@@ -1,5 +1,4 @@
 use mathlib.Core.Path.{refl}
-use Prim.Native.Nat.{◌-◌}
 use Rattle.sound_pages.proofs.WalkLaws.{slots_end, slots_fail, slots_turn}
 use borrow.Author.Rules.{rules}
 use Rattle.sound_pages.proofs.walk_slots.Goals as goal

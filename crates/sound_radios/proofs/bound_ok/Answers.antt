@@ -1,4 +1,3 @@
-use Prim.Native.Nat.{◌-◌}
 use Rattle.sound_radios.proofs.BoundLaws.{Bounding_start, Bounding_over, Bounding_turn, Bounding_end}
 use borrow.Author.Rules.{rules}
 use Rattle.sound_radios.proofs.bound_ok.Goals as goal

@@ -1,4 +1,3 @@
-use Prim.Native.Nat.{◌-◌}
 use Rattle.sound_rows.proofs.ColumnsLaws.{dated_start, dated_turn, dated_end}
 use borrow.Author.Rules.{rules}
 use Rattle.sound_rows.proofs.are_dated.Goals as goal

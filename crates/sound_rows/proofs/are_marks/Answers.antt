@@ -1,4 +1,3 @@
-use Prim.Native.Nat.{◌-◌}
 use Rattle.sound_rows.proofs.ColumnsLaws.{Marks_start, Marks_turn, marks_end}
 use borrow.Author.Rules.{rules}
 use Rattle.sound_rows.proofs.are_marks.Goals as goal

@@ -1,4 +1,3 @@
-use Prim.Native.Nat.{◌-◌}
 use Rattle.desk.specs.Layout.{line_slots}
 use Rattle.desk.proofs.LinesLaws.{length-lines_in}
 use Rattle.sound_rows.proofs.ClimbLaws.{climb_start, read_stops, read_fails, read_turn, climb_end}

@@ -1,5 +1,4 @@
 use borrow.Author.Rules.{rules}
-use Prim.Native.Nat.{◌-◌}
 use Rattle.sound_watches.proofs.SoundLaws.{Upright_start, Upright_turn, reversed_then, Upright_end}
 use Rattle.sound_watches.proofs.are_right.Goals as goal
 

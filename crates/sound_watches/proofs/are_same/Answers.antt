@@ -1,5 +1,4 @@
 use borrow.Author.Rules.{rules}
-use Prim.Native.Nat.{◌-◌}
 use Rattle.sound_watches.proofs.SoundLaws.{Same_start, Same_turn, Same_end}
 use Rattle.sound_watches.proofs.are_same.Goals as goal
 

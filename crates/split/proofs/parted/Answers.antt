@@ -1,4 +1,3 @@
-use Prim.Native.Nat.{◌-◌}
 use native.Mathlib.Omega.{arith}
 use Rattle.split.proofs.SplitLaws.{part_start, part_turn, low_rows, high_rows, low_count, high_count}
 use borrow.Author.Rules.{rules}

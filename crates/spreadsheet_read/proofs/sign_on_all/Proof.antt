@@ -8,10 +8,6 @@ use Rattle.desk.specs.Held.{desk_with}
 use Rattle.spreadsheet_read.proofs.SigningLaws.{Signing, Signing_start, asks_line, Signing_turn, Signing_end}
 use Rattle.spreadsheet_read.proofs.sign_on_all.Statement.{statement}
 use Rattle.spreadsheet_read.proofs.sign_on_all.Tie as tie
-use Rattle.spreadsheet_read.proofs.sign_on_all.Reads as reads
-use Rattle.spreadsheet_read.proofs.sign_on_all.Lts as lts
-use Rattle.csv_order.proofs.at.Reads as at_reads
-use Rattle.spreadsheet_read.proofs.sign_on.Reads as sign-on-reads
 
 abbrev invariant-loop : tie.invariant-loop
 invariant-loop cells₀ waiting₀ memo₀ on₀ watches₀ pages₀ table n now₀ i₀ cells waiting memo on watches pages now i =

@@ -1,4 +1,3 @@
-use Prim.Native.Nat.{◌-◌}
 use Rattle.desk.specs.Held.{memo_in}
 use Rattle.memo.proofs.MemoLaws.{Whole_size}
 use Rattle.sweep.proofs.LinesLaws.{walk_inside, walk_past, walk_here, walk_on}

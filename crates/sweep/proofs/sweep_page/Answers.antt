@@ -1,4 +1,3 @@
-use Prim.Native.Nat.{◌-◌}
 use Rattle.page.proofs.ChainLaws.{there_bounds}
 use Rattle.sweep.proofs.SweepLaws.{page_start, page_ahead, page_fits, page_turn, page_end}
 use borrow.Author.Rules.{rules}

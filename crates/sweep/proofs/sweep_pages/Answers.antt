@@ -1,5 +1,3 @@
-use Prim.Native.Nat.{◌-◌}
-use Rattle.terms.specs.Terms.{pages}
 use Rattle.sweep.proofs.SweepLaws.{chain_begins, chain_start, page_there, chain_Ready, chain_turn, chain_end}
 use borrow.Author.Rules.{rules}
 use Rattle.sweep.proofs.sweep_pages.Goals as goal

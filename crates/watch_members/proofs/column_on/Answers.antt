@@ -1,4 +1,4 @@
-use Rattle.std.proofs.Common.{◌-◌, refl, arith, rules}
+use Rattle.std.proofs.Common.{refl, arith, rules}
 use Rattle.range.proofs.ListLaws.{on_radios}
 use Rattle.watch_members.proofs.NumbersLaws.{filled_start, filled_turn, column_end}
 use Rattle.watch_members.proofs.column_on.Goals as goal

@@ -1,4 +1,4 @@
-use Rattle.std.proofs.Common.{◌-◌, rules}
+use Rattle.std.proofs.Common.{rules}
 use Rattle.watch_members.proofs.AreasLaws.{areas_start, areas_turn, areas_end, areas_size}
 use Rattle.watch_members.proofs.lay_areas.Goals as goal
 

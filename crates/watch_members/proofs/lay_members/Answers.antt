@@ -1,4 +1,4 @@
-use Rattle.std.proofs.Common.{◌≡◌, ◌-◌, length, get_or, ap, ◌∙◌, arith, rules}
+use Rattle.std.proofs.Common.{◌≡◌, length, get_or, ap, ◌∙◌, arith, rules}
 use Rattle.watch_members.proofs.MembersLaws.{places_to, members_start, members_laid, members_kept, members_end, next_none}
 use Rattle.watch_members.proofs.lay_members.Goals as goal
 use Rattle.watch_members.proofs.lay_members.Goals.{then-number-ne0, else-number-ne0}

@@ -1,4 +1,4 @@
-use Rattle.std.proofs.Common.{◌-◌, length, sym, ap, ◌∙◌, rules}
+use Rattle.std.proofs.Common.{length, sym, ap, ◌∙◌, rules}
 use Rattle.rules.specs.Watches.{watch_at, is_member}
 use Rattle.watches.proofs.MembersLaws.{length_put}
 use Rattle.watch_members.proofs.RadioLaws.{bit_tells, Raised_start, Raised_put, Raised_kept, Raised_end}

@@ -1,4 +1,4 @@
-use Rattle.std.proofs.Common.{◌-◌, refl, rules}
+use Rattle.std.proofs.Common.{refl, rules}
 use Rattle.watch_members.proofs.NumbersLaws.{Changed_start, Changed_room, Changed_end, double_turn}
 use Rattle.watch_members.proofs.shift_none.Goals as goal
 

@@ -1,4 +1,4 @@
-use Rattle.std.proofs.Common.{◌-◌, rules}
+use Rattle.std.proofs.Common.{rules}
 use Rattle.desk.specs.Views.{rect_of}
 use Rattle.watch_members.specs.Members.{place_at}
 use Rattle.watch_members.proofs.NumbersLaws.{Changed_start, Changed_room, Changed_end, shift_turn}
