@@ -1,0 +1,4 @@
+use Rattle.carry.proofs.answered.Goals as goal
+
+pub returns : goal.returns
+returns c = cc
