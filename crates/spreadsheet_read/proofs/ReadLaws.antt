@@ -17,7 +17,7 @@ use Rattle.csv_grammar.specs.Order.{in_order, sort_all}
 use Rattle.csv_grammar.proofs.OrderLaws.{Each-in_order, minutes_rise}
 use Rattle.csv_grammar.proofs.RangeLaws.{read_Fits}
 use Rattle.csv_order.specs.declared.Stop.{Stop}
-use Rattle.csv_order.specs.Checks.{stop_of, first_stop, stop_in, answered}
+use Rattle.csv_order.specs.Checks.{also_on, stop_of, first_stop, stop_in, answered}
 use Rattle.csv_order.specs.Table.{table_lines, listed_in, Table}
 use Rattle.csv_gather.specs.declared.Gathered.{Gathered}
 use Rattle.csv_gather.specs.declared.Gathered.TheVariants.{Lines, Bad}
@@ -88,7 +88,7 @@ unfolding first_stop
 stop_some on how_many [] s e = none-some e
 stop_some on how_many (l ∷ ls) s e =
     by_cases (eqb (stop_of on how_many l) 0)
-    (λ t. stop_some _ (suc how_many) ls s (rw t at e))
+    (λ t. stop_some (also_on l.row.key on) (suc how_many) ls s (rw t at e))
     (λ t z. let c : stop_of on how_many l ≡ s.number = some-number (rw t at e) in eqb-false (stop_of on how_many l) 0 t (c ∙ z))
   where
     some-number : {a : Stop} → some a ≡ some s → a.number ≡ s.number

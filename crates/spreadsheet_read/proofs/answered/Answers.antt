@@ -1,0 +1,4 @@
+use Rattle.spreadsheet_read.proofs.answered.Goals as goal
+
+pub returns : goal.returns
+returns c = cc
