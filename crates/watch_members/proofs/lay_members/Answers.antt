@@ -17,15 +17,15 @@ loop-i-preserved c = let radios = c.args.radios.now in
     let once = c.requires.4 in (
       search rules,
       elim c.if-number-ne0.branch [
-        then-number-ne0 w ↦ ap length w.watches-is ∙ w.lay_radio.ensures.0
-      | else-number-ne0 w ↦ ap length w.watches-is ∙ inv.1
+        | then-number-ne0 w ↦ ap length w.watches-is ∙ w.lay_radio.ensures.0
+        | else-number-ne0 w ↦ ap length w.watches-is ∙ inv.1
       ],
       λ places l size e only taken.
           let laid = inv.2 places l size e only taken in
           elim c.if-number-ne0.branch [
-            then-number-ne0 w ↦ w.watches-is ∙ members_laid places radios l _ i taken once more laid (w.lay_radio.ensures.1 (places_to places radios i) (places (get_or radios i 0)) l size laid
-            (next_none places radios l _ i taken once more laid) (taken.at i more))
-          | else-number-ne0 w ↦ w.watches-is ∙ members_kept places radios l _ i taken once more laid size w.if-number-ne0.false
+            | then-number-ne0 w ↦ w.watches-is ∙ members_laid places radios l _ i taken once more laid (w.lay_radio.ensures.1 (places_to places radios i) (places (get_or radios i 0)) l size laid
+                (next_none places radios l _ i taken once more laid) (taken.at i more))
+            | else-number-ne0 w ↦ w.watches-is ∙ members_kept places radios l _ i taken once more laid size w.if-number-ne0.false
           ],
     )
 

@@ -14,15 +14,15 @@ loop-w-preserved c = let inv = c.loop-w.invariant in
     let told = c.is_set.ensures in (
       search rules,
       elim c.if-is_set.branch [
-        then-is_set w ↦ ap length (w.watches-is ∙ w.put_member.ensures) ∙ length_put _ _ _ _ ∙ inv.1
-      | else-is_set w ↦ ap length w.watches-is ∙ inv.1
+        | then-is_set w ↦ ap length (w.watches-is ∙ w.put_member.ensures) ∙ length_put _ _ _ _ ∙ inv.1
+        | else-is_set w ↦ ap length w.watches-is ∙ inv.1
       ],
       λ places p l n e z b.
           let raised = inv.2 places p l n e z b in
           let tells = bit_tells (λ v. is_member (watch_at l v) p) _ b more told in
           elim c.if-is_set.branch [
-            then-is_set w ↦ Raised_put raised more c.requires.0 inv.1 (sym w.if-is_set.true ∙ tells) (w.watches-is ∙ w.put_member.ensures)
-          | else-is_set w ↦ Raised_kept raised more z (sym tells ∙ w.if-is_set.false) w.watches-is
+            | then-is_set w ↦ Raised_put raised more c.requires.0 inv.1 (sym w.if-is_set.true ∙ tells) (w.watches-is ∙ w.put_member.ensures)
+            | else-is_set w ↦ Raised_kept raised more z (sym tells ∙ w.if-is_set.false) w.watches-is
           ],
     )
 
