@@ -1,15 +1,23 @@
 // The journal printer: carries the records of its input, one after the other, and prints what each is answered.
 #![tactic(auto)]
 
-ghost use Rattle.std.specs.Prelude.{◌≡◌, ◌+◌, ◌*◌, ◌≤◌, ◌<◌, length, drop};
+ghost use Rattle.std.specs.Prelude.{false, ◌≡◌, ℕ, ◌+◌, ◌*◌, ◌≤◌, ◌<◌, List, Option, length, drop, OnOk};
+ghost use Rattle.std.specs.Io.KnownBytes.{Appends};
+ghost use Rattle.lists.specs.Words.{Bytes};
+ghost use Rattle.rules.specs.Calls.{hands};
+ghost use Rattle.rules.specs.Plain.{Plain};
+ghost use Rattle.rules.specs.Records.{not_at_hand};
+ghost use Rattle.desk.specs.Call.{handed, left, Answers};
 ghost use Rattle.desk.specs.Layout.{fresh_pages};
-ghost use Rattle.demands.specs.Trace.{fresh_desk};
+ghost use Rattle.demands.specs.Trace.{fresh_desk, Trace};
+ghost use Rattle.journal_replay.specs.Replay.{left_by};
 ghost use Rattle.journal_input.specs.Input.{at_hand, window_bytes, InWindow};
-ghost use Rattle.journal_printer.specs.Printer.{Printed, Turns, list_room, Going, goes_on, Ran, holds, stage_after, Carries, Turn};
+ghost use Rattle.journal_printer.specs.Printer.{list_room, answer_text, asks_list, entries_text, entry_text, Going, Ran, stage_of, Turned};
 
 use desk::{Answer, Desk};
-use journal_input::{Hand, LEAST_BYTES, Source};
-use libc::STDOUT_FILENO;
+use journal_input::{Hand, LEAST_BYTES};
+use std::io;
+use std::io::{Read, Write};
 
 // "Its answer buffer takes 512 radios."
 pub const LIST_BYTES: usize = ENTRY_BYTES * Desk::MAX_ON;
@@ -20,255 +28,157 @@ const NOT_AT_HAND: u16 = 3;
 
 const KIND_RANGE: u16 = 4;
 
-// Whether a record may follow, and why none does.
-#[derive(Clone, Copy)]
-pub enum Stage {
-    GoesOn,
+// Why a run ended.
+#[derive(Clone, Copy, PartialEq, Eq, Debug)]
+pub enum Ending {
     InputEnded,
     NumberThree,
-    CannotRead,
-    CannotWrite,
     CountEnded,
 }
 
-// Why the printer ended, and the desk as it is left.
-#[derive(Drop)]
-pub struct Stopped {
-    pub desk: Desk,
-    pub stage: Stage,
-}
-
-// After a record: the desk, what is then at hand, and whether a record may follow.
-#[derive(Drop)]
-struct Done {
-    desk: Desk,
-    hand: Hand,
-    stage: Stage,
-}
-
-// After a call: the desk, how many of the bytes at hand its record took, and whether a record may follow.
-#[derive(Drop)]
-struct Turned {
-    desk: Desk,
-    taken: usize,
-    stage: Stage,
+// What kept a run from its end.
+#[derive(Debug, Drop)]
+pub enum Failure {
+    Read(io::Error),
+    Write(io::Error),
 }
 
 // Record after record of the input, from a fresh store, until one is the last. The count ends too, after record 2^64 - 2: that the loop ends is
 // proved, and the input may not.
-pub fn print_journal(desk: Desk, pages: &mut [u8], window: &mut [u8], list: &mut [u8]) -> Stopped
-    requires { (desk ≡ fresh_desk) × (pages.old ≡ fresh_pages) × (window_bytes ≤ length window.old) × (length list.old ≡ list_room) }
-    ensures { Ran result.stage result.desk pages.new }
+pub fn print_journal<R: Read, W: Write>(
+    reader: &mut R,
+    out: &mut W,
+    desk: &mut Desk,
+    pages: &mut [u8],
+    window: &mut [u8],
+    list: &mut [u8],
+) -> Result<Ending, Failure>
+    requires { (desk.old ≡ fresh_desk) × (pages.old ≡ fresh_pages) × (window_bytes ≤ length window.old) × (length list.old ≡ list_room) }
+    ensures { Ran (stage_of result) (R.remaining reader.old) (R.remaining reader.new)
+        (W.contents out.old) (W.contents out.new) desk.new pages.new }
 {
-    let mut done = Done {
-        desk,
-        hand: Hand { at: 0, end: 0 },
-        stage: Stage::GoesOn,
-    };
-    let mut i: u64 = 1;
-    while i < u64::MAX {
-        done = next_record(i, done, pages, window, list);
-        let stage = done.stage;
-        if !goes_on(stage) {
-            let desk = done.desk;
-            return Stopped { desk, stage };
+    let mut hand = Hand { at: 0, end: 0 };
+    for i in 1..u64::MAX {
+        match turn(reader, out, desk, pages, window, &mut hand, list, i) {
+            Ok(None) => {}
+            Ok(Some(ending)) => return Ok(ending),
+            Err(failure) => return Err(failure),
         }
-        i += 1;
     }
-    let desk = done.desk;
-    Stopped {
-        desk,
-        stage: Stage::CountEnded,
-    }
+    Ok(Ending::CountEnded)
 }
 
 // What is read comes after what is at hand. One call is then handed all of it, its answer is printed as record i's, and the hand goes on by the record; or
 // nothing is at hand, and nothing is printed. So the calls are the records of what was read; Demands 2 and 3 speak of them.
-fn next_record(i: u64, done: Done, pages: &mut [u8], window: &mut [u8], list: &mut [u8]) -> Done
-    requires { Going i done.desk pages.old (at_hand window.old done.hand) × InWindow done.hand window.old }
-    ensures { Turns
-        (holds done.desk pages.old (at_hand window.old done.hand) list.old)
-        result.stage
-        (holds result.desk pages.new (at_hand window.new result.hand) list.new)
-        × InWindow result.hand window.new }
-{
-    let read = journal_input::record_at_hand(window, done.hand);
-    let hand = read.hand;
-    let at = hand.at;
-    let end = hand.end;
-    let source = read.source;
-    let t = turn(i, done.desk, source, pages, &window[at..end], list);
-    let desk = t.desk;
-    let taken = t.taken;
-    let stage = t.stage;
-    Done {
-        desk,
-        hand: Hand {
-            at: at + taken,
-            end,
-        },
-        stage,
-    }
-}
-
-// With all that is at hand, and what the last read said of the input.
-fn turn(
-    i: u64,
-    desk: Desk,
-    source: Source,
+fn turn<R: Read, W: Write>(
+    reader: &mut R,
+    out: &mut W,
+    desk: &mut Desk,
     pages: &mut [u8],
-    bytes: &[u8],
+    window: &mut [u8],
+    hand: &mut Hand,
     list: &mut [u8],
-) -> Turned
-    requires { Printed desk pages.old bytes.now }
-    ensures { Turn
-        (holds desk pages.old bytes.now list.old)
-        source result.stage
-        (holds result.desk pages.new (drop result.taken bytes.now) list.new)
-        × (result.taken ≤ length bytes.now) }
+    i: u64,
+) -> Result<Option<Ending>, Failure>
+    requires store { (plain : Plain) × Trace desk.old pages.old plain }
+    requires inside { InWindow hand.old window.old }
+    ensures inside { InWindow hand.new window.new }
+    ensures turned { (known held : Option (List ℕ))
+        → Going i known (R.remaining reader.old) held (W.contents out.old)
+        desk.old pages.old (at_hand window.old hand.old)
+        → Turned result i known (R.remaining reader.new) held (W.contents out.new)
+        desk.new pages.new (at_hand window.new hand.new) }
 {
-    if journal_input::has_failed(source) {
-        return Turned {
-            desk,
-            taken: 0,
-            stage: Stage::CannotRead,
-        };
+    if let Err(e) = journal_input::record_at_hand(reader, window, hand) {
+        return Err(Failure::Read(e));
     }
-    if bytes.len() == 0 {
-        return Turned {
-            desk,
-            taken: 0,
-            stage: Stage::InputEnded,
-        };
+    let bytes = &window[hand.at..hand.end];
+    if bytes.is_empty() {
+        return Ok(Some(Ending::InputEnded));
     }
-    carry_record(i, desk, pages, bytes, list)
+    let answer = call(desk, pages, bytes, list);
+    let written = print_answer(out, i, is_range(bytes), answer, list);
+    hand.at += taken(bytes, answer.number);
+    if let Err(e) = written {
+        return Err(Failure::Write(e));
+    }
+    if answer.number == NOT_AT_HAND {
+        return Ok(Some(Ending::NumberThree));
+    }
+    Ok(None)
 }
 
-// A call is handed the bytes, and its answer is printed as record i's.
-fn carry_record(i: u64, desk: Desk, pages: &mut [u8], bytes: &[u8], list: &mut [u8]) -> Turned
-    requires { Printed desk pages.old bytes.now × (0 < length bytes.now) }
-    ensures { Carries
-        (holds desk pages.old bytes.now list.old)
-        result.stage
-        (holds result.desk pages.new (drop result.taken bytes.now) list.new)
-        × (result.taken ≤ length bytes.now) }
+// A call is handed the bytes; they are a record, or it answers 3.
+fn call(desk: &mut Desk, pages: &mut [u8], bytes: &[u8], list: &mut [u8]) -> Answer
+    requires { (plain : Plain) × Trace desk.old pages.old plain }
+    ensures answers { Answers
+        (handed desk.old pages.old (hands bytes.now) list.old)
+        (left result desk.new pages.new list.new) }
+    ensures small { Bytes bytes.now }
+    ensures record { (result.number ≡ 3 → ⊥) → not_at_hand bytes.now ≡ false }
 {
-    let c = carry::carry(desk, pages, bytes, list);
-    let answer = c.answer;
-    let written = print_answer(i, answer, is_range(bytes), list);
-    let after = c.desk;
-    Turned {
-        desk: after,
-        taken: journal_replay::next_record(bytes, 0, answer.number),
-        stage: stage_after(answer.number, written),
-    }
+    let carried = carry::carry(*desk, pages, bytes, list);
+    *desk = carried.desk;
+    carried.answer
 }
 
-fn stage_after(number: u16, written: bool) -> Stage
-    ensures { result ≡ stage_after number written }
+// How many of the bytes at hand a call's record took.
+fn taken(bytes: &[u8], number: u16) -> usize
+    requires some { 0 < length bytes.now }
+    requires record { (number ≡ 3 → ⊥) → not_at_hand bytes.now ≡ false }
+    ensures rest { drop result bytes.now ≡ left_by bytes.now number }
+    ensures within { result ≤ length bytes.now }
 {
-    if !written {
-        return Stage::CannotWrite;
-    }
-    if number == NOT_AT_HAND {
-        return Stage::NumberThree;
-    }
-    Stage::GoesOn
+    journal_replay::next_record(bytes, 0, number)
 }
 
-fn goes_on(stage: Stage) -> bool
-    ensures { result ≡ goes_on stage }
+// ---- printing
+
+#[tactic(auto, unfolding(rules::specs::Records::kind_field))]
+fn is_range(bytes: &[u8]) -> bool
+    ensures { result ≡ asks_list bytes.now }
 {
-    match stage {
-        Stage::GoesOn => true,
-        Stage::InputEnded => false,
-        Stage::NumberThree => false,
-        Stage::CannotRead => false,
-        Stage::CannotWrite => false,
-        Stage::CountEnded => false,
-    }
+    bytes.len() >= LEAST_BYTES && fields::read(bytes, 2) == KIND_RANGE
 }
 
-// ---- printing: true where all was written
-
-fn is_range(bytes: &[u8]) -> bool {
-    if bytes.len() < LEAST_BYTES {
-        return false;
-    }
-    fields::read(bytes, 2) == KIND_RANGE
-}
-
-fn print(text: &[u8]) -> bool {
-    io::write_all(STDOUT_FILENO, text)
-}
-
-fn print_number(name: &[u8], value: u64) -> bool {
-    if !print(name) {
-        return false;
-    }
-    io::print_decimal(STDOUT_FILENO, value)
-}
-
-fn print_answer(i: u64, answer: Answer, range: bool, list: &[u8]) -> bool {
-    if !print_number(b"", i) {
-        return false;
-    }
-    if answer.number != 0 {
-        return print_refused(answer.number);
-    }
-    if range {
-        return print_found(answer.count, list);
-    }
-    print(b" ok\n")
-}
-
-fn print_refused(number: u16) -> bool {
-    if !print_number(b" refused ", number as u64) {
-        return false;
-    }
-    print(b"\n")
-}
-
-fn print_found(n: u64, list: &[u8]) -> bool {
-    if !print_number(b" found ", n) {
-        return false;
-    }
-    if !print(b"\n") {
-        return false;
-    }
-    print_entries(list, least(n as usize, list.len() / ENTRY_BYTES))
-}
-
-fn least(a: usize, b: usize) -> usize
-    ensures { result ≤ b }
+fn print_answer<W: Write>(
+    out: &mut W,
+    i: u64,
+    range: bool,
+    answer: Answer,
+    list: &[u8],
+) -> io::Result<()>
+    ensures { OnOk result (Appends (W.contents out.old) (W.contents out.new)
+        (answer_text i range answer.number answer.count list.now)) }
 {
-    if a < b { a } else { b }
+    let number = answer.number;
+    if number != 0 {
+        return writeln!(out, "{i} refused {number}");
+    }
+    if !range {
+        return writeln!(out, "{i} ok");
+    }
+    let count = answer.count;
+    writeln!(out, "{i} found {count}")?;
+    print_entries(out, list, (count as usize).min(list.len() / ENTRY_BYTES))
 }
 
-fn print_entries(list: &[u8], n: usize) -> bool
+fn print_entries<W: Write>(out: &mut W, list: &[u8], n: usize) -> io::Result<()>
     requires { 6 * n ≤ length list.now }
+    ensures { OnOk result (Appends (W.contents out.old) (W.contents out.new) (entries_text list.now n)) }
 {
-    let mut i: usize = 0;
-    while i < n {
-        if !print_entry(list, ENTRY_BYTES * i) {
-            return false;
-        }
-        i += 1;
+    for i in 0..n {
+        print_entry(out, list, ENTRY_BYTES * i)?;
     }
-    true
+    Ok(())
 }
 
-fn print_entry(list: &[u8], at: usize) -> bool
+fn print_entry<W: Write>(out: &mut W, list: &[u8], at: usize) -> io::Result<()>
     requires { at + 6 ≤ length list.now }
+    ensures { OnOk result (Appends (W.contents out.old) (W.contents out.new) (entry_text list.now at)) }
 {
-    if !print_number(b"", fields::read(list, at) as u64) {
-        return false;
-    }
-    if !print_number(b" ", fields::read(list, at + 2) as u64) {
-        return false;
-    }
-    if !print_number(b" ", fields::read(list, at + 4) as u64) {
-        return false;
-    }
-    print(b"\n")
+    let radio = fields::read(list, at);
+    let east = fields::read(list, at + 2);
+    let north = fields::read(list, at + 4);
+    writeln!(out, "{radio} {east} {north}")
 }
