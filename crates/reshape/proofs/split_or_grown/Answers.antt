@@ -1,3 +1,4 @@
+use borrow.Author.Rules.{rules}
 use Rattle.cell_last.proofs.MidwayLaws.{midway_loose}
 use Rattle.reshape.proofs.WholeLaws.{midway_reads, cuts_few, full_returns, uncut_returns, splits, split_returns}
 use Rattle.reshape.proofs.split_or_grown.Goals as goal
@@ -20,11 +21,11 @@ settled_last-requires-in_default c = (c.requires.0, midway_loose c.requires.2.mi
 
 pub returns-in_default : goal.returns-in_default
 returns-in_default c = λ x.
-    uncut_returns x.midway c.requires.1 c.if-frame-ge-MAX_CELLS.false c.slot_at-d.ensures c.chosen_cut.ensures c.in_default.is c.settled_last-in_default.ensures
+    uncut_returns x.midway c.requires.1 (search rules) c.slot_at-d.ensures c.chosen_cut.ensures c.in_default.is c.settled_last-in_default.ensures
 
 pub split-requires : goal.split-requires
-split-requires c = (c.requires.0, splits c.requires.2.midway c.requires.1 c.if-frame-ge-MAX_CELLS.false _ _ c.slot_at-d.ensures c.chosen_cut.ensures c.in-At.is)
+split-requires c = (c.requires.0, splits c.requires.2.midway c.requires.1 (search rules) _ _ c.slot_at-d.ensures c.chosen_cut.ensures c.in-At.is)
 
 pub returns : goal.returns
 returns c = λ x.
-    split_returns x.midway c.requires.1 c.if-frame-ge-MAX_CELLS.false _ _ c.slot_at-d.ensures c.chosen_cut.ensures c.in-At.is c.split.ensures
+    split_returns x.midway c.requires.1 (search rules) _ _ c.slot_at-d.ensures c.chosen_cut.ensures c.in-At.is c.split.ensures

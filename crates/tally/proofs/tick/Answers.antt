@@ -1,13 +1,14 @@
+use borrow.Author.Rules.{rules}
 use native.Mathlib.Omega.{arith}
 use Rattle.tally.proofs.TickLaws.{tick_counts, tick_sweep, tick_sweeps}
 use Rattle.tally.proofs.tick.Goals as goal
 
 pub returns-then-c-lt-SWEEP_EVERY : goal.returns-then-c-lt-SWEEP_EVERY
-returns-then-c-lt-SWEEP_EVERY c = λ x. tick_counts x (omega (arith, c.if-c-lt-SWEEP_EVERY.true))
+returns-then-c-lt-SWEEP_EVERY c = λ x. tick_counts x (search rules)
 
 pub sweep_front-requires : goal.sweep_front-requires
-sweep_front-requires c = tick_sweep c.requires (omega (arith, c.if-c-lt-SWEEP_EVERY.false))
+sweep_front-requires c = tick_sweep c.requires (search rules)
 
 pub returns : goal.returns
 returns c = λ x.
-    tick_sweeps x (omega (arith, c.if-c-lt-SWEEP_EVERY.false)) c.sweep_front.ensures.0 c.sweep_front.ensures.1
+    tick_sweeps x (search rules) c.sweep_front.ensures.0 c.sweep_front.ensures.1
