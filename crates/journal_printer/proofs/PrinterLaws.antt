@@ -1,5 +1,6 @@
 -- The printer's list of calls goes on by one.
-use mathlib.Core.Bool.{Bool}
+use mathlib.Core.Bool.{Bool, true}
+use borrow.Author.Tests.{ne_eqb}
 use Rattle.std.proofs.Common.{List, Option, Some, None, Result, Ok, Err, IfOk, [], ◌++◌, ◌≡◌, ℕ, ◌+◌, ◌-◌, ◌<◌, ◌≤◌, refl, sym, ap, subst, ◌∙◌, append_assoc, arith, length, take, drop}
 use Rattle.std.proofs.lemmas.List.{append-nil, drop-take, drop-drop}
 use lib.Dec.{eqb}
@@ -26,7 +27,8 @@ use Rattle.journal_input.specs.declared.Source.{Source as Input-Source}
 use Rattle.journal_input.specs.declared.Source.TheVariants as source
 use Rattle.journal_input.proofs.Bringing.{consumes_none, consumes_then}
 use Rattle.journal_printer.specs.Printer.{last_number, call_count, Source, Open, Ended, Failed, Handed, Reads, nothing, more, onward, record_by, records_of, Printed}
-use Rattle.journal_printer.specs.Printer.{asks_list, answer_text, printed, Going, InputEnded, NumberThree, CannotRead, CannotWrite, CountEnded, most_records, Ran}
+use Rattle.journal_printer.specs.Printer.{asks_list, answer_text, printed, Going, Stage, GoesOn, InputEnded, NumberThree, CannotRead, CannotWrite, CountEnded, most_records, Ran}
+use Rattle.journal_printer.specs.Printer.{Holds, holds, stage_after, Carries, Turn, Turns}
 
 -- ---- what is written
 
@@ -85,6 +87,76 @@ module _ {i : ℕ} {k k' k'' h h' : Option (List ℕ)} {desk : Desk} {pages befo
   ran_stopped (Ok source.Ended) ok whole ended none =
       record { hand = after; run = printed_more g.run b Ended; over = refl; why = (refl, none_length after none, g.unended, ended refl); written = λ _. g.written }
   ran_stopped (Err e) ok whole ended none = absurd (ok e refl)
+
+-- ---- one record more
+
+abbrev told_number : Source → ℕ
+told_number Open = 0
+told_number Ended = 1
+told_number Failed = 2
+
+pub three_after : (number : ℕ) → number ≡ 3 → NumberThree ≡ stage_after number true
+three_after number e = rw e refl
+
+pub other_after : (number : ℕ) → (number ≡ 3 → ⊥) → GoesOn ≡ stage_after number true
+other_after number n = rw (ne_eqb number 3 n) refl
+
+module _ {k k' : Option (List ℕ)} (desk : Desk) (pages list : List ℕ) {before after : List ℕ} (b : Brings k k' before after) where
+  abbrev with_hand : List ℕ → Holds
+  with_hand hand = holds desk pages hand list
+
+  -- it could not be read
+  pub turn_unread : Turns (with_hand before) CannotRead (with_hand after)
+  turn_unread = record {
+    more = b.more;
+    told = Failed;
+    whole = λ e. absurd (omega (arith, ap told_number e));
+    turn = record {
+      unread = λ e. (ap with_hand b.appended, refl);
+      stops = λ e n. absurd (omega (arith, ap told_number e));
+      carries = λ n some. absurd (n refl);
+    };
+  }
+
+  -- nothing is at hand
+  pub turn_stopped : {E : Type 0} (r : Result Input-Source E) → ((e : E) → r ≡ Err e → ⊥) → IfOk r (λ s. s ≡ source.Open → WholeRecord after) → length after ≡ 0
+      → Turns (with_hand before) InputEnded (with_hand after)
+  turn_stopped (Ok source.Open) ok whole none = absurd (omega (arith, (whole refl).0, none))
+  turn_stopped (Ok source.Ended) ok whole none = record {
+    more = b.more;
+    told = Ended;
+    whole = λ e. absurd (omega (arith, ap told_number e));
+    turn = record {
+      unread = λ e. absurd (omega (arith, ap told_number e));
+      stops = λ e n. (ap with_hand b.appended, refl);
+      carries = λ n some. absurd (omega (arith, some, ap length b.appended, none));
+    };
+  }
+  turn_stopped (Err e) ok whole none = absurd (ok e refl)
+
+  -- one call is handed all that is at hand
+  pub turn_carried : (told : Source) → Handed told after → 0 < length after → {stage : Stage} {y : Holds} → Carries (with_hand after) stage y → Turns (with_hand before) stage y
+  turn_carried Open given some {stage} {y} c = record {
+    more = b.more;
+    told = Open;
+    whole = λ e. subst WholeRecord b.appended given;
+    turn = subst (λ (z : List ℕ). Turn (with_hand z) Open stage y) b.appended (record {
+      unread = λ e. absurd (omega (arith, ap told_number e));
+      stops = λ e n. absurd (omega (arith, ap told_number e));
+      carries = λ n s. c;
+    });
+  }
+  turn_carried Ended given some {stage} {y} c = record {
+    more = b.more;
+    told = Ended;
+    whole = λ e. absurd (omega (arith, ap told_number e));
+    turn = subst (λ (z : List ℕ). Turn (with_hand z) Ended stage y) b.appended (record {
+      unread = λ e. absurd (omega (arith, ap told_number e));
+      stops = λ e n. absurd (omega (arith, some, ap length n));
+      carries = λ n s. c;
+    });
+  }
+  turn_carried Failed given some c = absurd given
 
 -- ---- a call is handed all that is at hand
 

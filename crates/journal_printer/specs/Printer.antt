@@ -10,8 +10,9 @@ use Rattle.rules.specs.Records.{length_field, kind_field, kind_range}
 use Rattle.rules.specs.Carry.{list_bytes}
 use Rattle.rules.specs.Plain.{Plain}
 use Rattle.rules.specs.Calls.{hands, sets, clears, writes}
+use Rattle.desk.specs.declared.Answer.{Answer}
 use Rattle.desk.specs.declared.Desk.{Desk}
-use Rattle.desk.specs.Call.{After, handed, Answers}
+use Rattle.desk.specs.Call.{After, handed, left, Answers}
 use Rattle.demands.specs.Trace.{Trace, begun, called}
 use Rattle.journal_replay.specs.Replay.{left_by}
 use Rattle.journal_input.specs.Input.{WholeRecord}
@@ -165,6 +166,45 @@ pub record Ran (stage : Stage) (known known' held held' : Option (List ℕ)) (de
   pub why : Means stage run
   pub written : (stage ≡ CannotWrite → ⊥) → Appends held held' (printed run.calls)
 
+-- ---- one record more
+
+-- what the printer holds between two records: desk, pages, the bytes at hand, the answer buffer
+pub record Holds : Type 0 where
+  pub desk : Desk
+  pub pages : List ℕ
+  pub hand : List ℕ
+  pub list : List ℕ
+
+abbrev pub holds : Desk → List ℕ → List ℕ → List ℕ → Holds
+holds desk pages hand list = record { desk = desk; pages = pages; hand = hand; list = list }
+
+-- after a call whose answer was printed or could not be: "After printing number 3 it ends; after any other it goes on"
+abbrev pub stage_after : ℕ → Bool → Stage
+stage_after number true = cond (eqb number 3) NumberThree GoesOn
+stage_after number false = CannotWrite
+
+-- a call that is handed all that is at hand: what it answers, and what it leaves at hand
+pub record Carries (x : Holds) (stage : Stage) (y : Holds) : Type 0 where
+  pub answer : Answer
+  pub small : Bytes x.hand
+  pub answers : Answers (handed x.desk x.pages (hands x.hand) x.list) (left answer y.desk y.pages y.list)
+  pub rest : y.hand ≡ left_by x.hand answer.number
+  pub written : Bool
+  pub after : stage ≡ stage_after answer.number written
+
+-- with what a read says of the input: it cannot be read; or it has ended, and nothing is at hand; or one call is handed all that is at hand
+pub record Turn (x : Holds) (told : Source) (stage : Stage) (y : Holds) : Type 0 where
+  pub unread : told ≡ Failed → (y ≡ x) × (stage ≡ CannotRead)
+  pub stops : told ≡ Ended → x.hand ≡ [] → (y ≡ x) × (stage ≡ InputEnded)
+  pub carries : (told ≡ Failed → ⊥) → 0 < length x.hand → Carries x stage y
+
+-- `more` is read until a whole record is at hand or a read says that no more come; then the turn
+pub record Turns (x : Holds) (stage : Stage) (y : Holds) : Type 0 where
+  pub more : List ℕ
+  pub told : Source
+  pub whole : told ≡ Open → WholeRecord (x.hand ++ more)
+  pub turn : Turn (holds x.desk x.pages (x.hand ++ more) x.list) told stage y
+
 -- ---- what the code answers
 
 abbrev pub ended_by : Ending → Stage
@@ -180,6 +220,12 @@ failed_by (failure.Write e) = CannotWrite
 abbrev pub stage_of : Result Ending Failure → Stage
 stage_of (Ok e) = ended_by e
 stage_of (Err f) = failed_by f
+
+-- after a record
+abbrev pub after_turn : Result (Option Ending) Failure → Stage
+after_turn (Ok None) = GoesOn
+after_turn (Ok (Some e)) = ended_by e
+after_turn (Err f) = failed_by f
 
 -- after record i: the next one comes, or none does
 abbrev pub Turned : Result (Option Ending) Failure → (i : ℕ) (known known' held held' : Option (List ℕ)) (desk : Desk) (pages hand : List ℕ) → Type 0

@@ -12,7 +12,7 @@ ghost use Rattle.desk.specs.Layout.{fresh_pages};
 ghost use Rattle.demands.specs.Trace.{fresh_desk, Trace};
 ghost use Rattle.journal_replay.specs.Replay.{left_by};
 ghost use Rattle.journal_input.specs.Input.{at_hand, window_bytes, InWindow};
-ghost use Rattle.journal_printer.specs.Printer.{list_room, answer_text, asks_list, entries_text, entry_text, Going, Ran, stage_of, Turned};
+ghost use Rattle.journal_printer.specs.Printer.{list_room, after_turn, answer_text, asks_list, entries_text, entry_text, Going, holds, Ran, stage_of, Turned, Turns};
 
 use desk::{Answer, Desk};
 use journal_input::{Hand, LEAST_BYTES};
@@ -83,6 +83,10 @@ fn turn<R: Read, W: Write>(
     requires store { (plain : Plain) × Trace desk.old pages.old plain }
     requires inside { InWindow hand.old window.old }
     ensures inside { InWindow hand.new window.new }
+    ensures step { Turns
+        (holds desk.old pages.old (at_hand window.old hand.old) list.old)
+        (after_turn result)
+        (holds desk.new pages.new (at_hand window.new hand.new) list.new) }
     ensures turned { (known held : Option (List ℕ))
         → Going i known (R.remaining reader.old) held (W.contents out.old)
         desk.old pages.old (at_hand window.old hand.old)
