@@ -1,5 +1,4 @@
 use Rattle.std.proofs.Common.{rules, arith}
-use Rattle.std.proofs.lemmas.Grind.{common_steps}
 use Rattle.journal_printer.proofs.PrinterLaws.{going_first, ran_out}
 use Rattle.journal_printer.proofs.print_journal.Goals as goal
 
@@ -19,4 +18,4 @@ pub returns-in-Ok-Some : goal.returns-in-Ok-Some
 returns-in-Ok-Some g c = rw c.in-Ok-Some.field-0-is at (c.in-Ok-Some.ensures.turned _ _ c.loop-i.invariant.going)
 
 pub returns : goal.returns
-returns g c = ran_out c.loop-i.invariant.going (grind (arith, common_steps))
+returns g c = ran_out c.loop-i.invariant.going (omega (arith, c.loop-i-test.false, c.loop-i.auto.i-end))
