@@ -1,16 +1,14 @@
 -- After a sign-on or report: the memory cell that the code finds due is the one that the rules say, and what it leaves goes on to the tally.
-use mathlib.Core.Bool.{true, false}
+use mathlib.Core.Bool.{false}
 use mathlib.Core.List.{List}
-use mathlib.Core.Option.{Option, none, some}
-use mathlib.Core.Path.{◌≡◌, refl, sym, ap₂, ◌∙◌, subst}
+use mathlib.Core.Option.{none, some}
+use mathlib.Core.Path.{◌≡◌, sym, ap₂, ◌∙◌, subst}
 use Prim.Native.Nat.{ℕ, ◌+◌, ◌*◌, ◌≤◌, ◌<◌}
 use native.Mathlib.Omega.{arith}
-use lib.Dec.{ltb}
 use lib.ListN.{length}
-use borrow.Author.Tests.{ltb-true}
 use Rattle.terms.specs.Terms.{Place}
 use Rattle.lists.specs.Rows.{Rows}
-use Rattle.rules.specs.Limits.{max_cuts, full_box, full_memory, sweep_every}
+use Rattle.rules.specs.Limits.{max_cuts, full_box, full_memory}
 use Rattle.rules.specs.Grid.{Cuts, Box, same_box, box_of}
 use Rattle.rules.specs.Store.{Report}
 use Rattle.rules.specs.Flush.{flush}

@@ -16,7 +16,7 @@ use Rattle.lists.specs.Rows.{Rows, Rising, UpTo, find}
 use Rattle.lists.specs.Tests.{is_some, Each}
 use Rattle.lists.proofs.Cases.{by_cases}
 use Rattle.lists.proofs.PartsLaws.{tab_ext}
-use Rattle.rules.specs.Store.{Report, Line, Cell, Store}
+use Rattle.rules.specs.Store.{Report, Line, Cell}
 use Rattle.rules.specs.Sweep.{stale}
 use Rattle.rules.specs.Carry.{is_on, latest}
 use Rattle.rules.specs.Everyone.{rows_of, everyone}

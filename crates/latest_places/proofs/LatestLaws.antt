@@ -1,36 +1,35 @@
 -- Why the table has the latest places though no entry is judged. A radio on that has no waiting report has one entry that isn't stale. Where it has no memo line
 -- it has no other entry, and the table has that one's place. Where it has a line, that entry has the line's place, which lies over all entries.
-use mathlib.Core.Bool.{Bool, true, false, not, cond}
+use mathlib.Core.Bool.{Bool, true, false, not}
 use mathlib.Core.List.{List, [], ◌∷◌, map}
 use mathlib.Core.Option.{Option, none, some}
 use mathlib.Core.Path.{◌≡◌, refl, sym, ap, ap₂, ◌∙◌, subst}
-use Prim.Native.Nat.{ℕ, ◌+◌, ◌≤◌}
+use Prim.Native.Nat.{ℕ}
 use native.Mathlib.Omega.{arith}
 use lib.Dec.{eqb}
 use lib.ListN.{get_or, take}
 use borrow.Author.Tests.{eqb-true}
 use Rattle.terms.specs.Terms.{Place, Fix}
-use Rattle.lists.specs.Rows.{Row, Rows, Rising, find, passed}
+use Rattle.lists.specs.Rows.{Rows, Rising, find, passed}
 use Rattle.lists.specs.Sums.{sum_by}
 use Rattle.lists.specs.Tests.{one_if, is_some, or_else, Each}
 use Rattle.lists.proofs.Cases.{by_cases, option_cases, false-true, none-some, some_injective, is_some-true, or_else_cases}
 use Rattle.lists.proofs.RowsLaws.{find_below}
 use Rattle.lists.proofs.SumsLaws.{sum-cons, sum-nil}
 use Rattle.lists.proofs.TestsLaws.{Each_map}
-use Rattle.rules.specs.Grid.{square, same_place}
+use Rattle.rules.specs.Grid.{same_place}
 use Rattle.rules.specs.Store.{Report, Cell, Store}
 use Rattle.rules.specs.Store.{Line as StoreLine}
-use Rattle.rules.specs.Sweep.{is_at, stale_by, stale}
+use Rattle.rules.specs.Sweep.{stale_by, stale}
 use Rattle.rules.specs.Carry.{is_on, was_new, live_in, stored_in, fix_of, latest}
-use Rattle.rules.specs.Plain.{put_at, place_of}
+use Rattle.rules.specs.Plain.{place_of}
 use Rattle.rules.specs.Watches.{latest_place}
-use Rattle.rules.specs.WellFormed.{WellFormed, GoodCell, count_if, live_of}
+use Rattle.rules.specs.WellFormed.{GoodCell, count_if, live_of}
 use Rattle.rules.proofs.PlaceLaws.{same_place-true}
 use Rattle.rules.proofs.WatchesLaws.{latest_on}
 use Rattle.desk.specs.declared.Line.{Line}
 use Rattle.desk.specs.declared.Slot.{Slot}
-use Rattle.desk.specs.Held.{Ledger, ledger_grid, ledger_waiting, ledger_memo}
-use Rattle.desk.specs.Layout.{slot_of}
+use Rattle.desk.specs.Held.{Ledger, ledger_grid, ledger_waiting}
 use Rattle.desk.specs.Sound.{SoundLedger}
 use Rattle.desk.specs.Views.{slots_in, lines_in}
 use Rattle.memo.specs.Memo.{row_of, lines_of}
@@ -40,7 +39,7 @@ use Rattle.waiting.proofs.WaitingLaws.{reports_laid}
 use Rattle.range_places.specs.Places.{Places, places_in, over, row_over, entries_over, reports_over, slot_over}
 use Rattle.range.proofs.LatestLaws.{cell_over}
 use Rattle.range.proofs.StoreLaws.{cells-Read, cells_over, slots_Laid, cells_are, waiting_is, memo_is}
-use Rattle.latest_places.specs.Latest.{anywhere, unjudged, every_mark, Table, place_by, places_by, Tells, line_over, lines_over}
+use Rattle.latest_places.specs.Latest.{anywhere, unjudged, every_mark, place_by, places_by, Tells, line_over, lines_over}
 use Rattle.latest_places.proofs.TellLaws.{seen_all, touched_all}
 
 -- ---- rows by rising radio: each radio has at most one

@@ -1,15 +1,15 @@
 -- The table in which every radio has a place: it is one of `range_places` with every mark set, and its laws are taken from there.
 use mathlib.Core.Bool.{Bool, true, false, not, cond}
-use mathlib.Core.List.{List, [], ◌∷◌, ◌++◌}
+use mathlib.Core.List.{List, ◌∷◌}
 use mathlib.Core.Option.{Option, none, some}
-use mathlib.Core.Path.{◌≡◌, refl, sym, ap, ◌∙◌, subst}
+use mathlib.Core.Path.{◌≡◌, refl, sym, ap, subst}
 use Prim.Native.Nat.{ℕ, zero, suc, ◌+◌, ◌*◌, ◌≤◌, ◌<◌}
 use native.Mathlib.Omega.{arith}
 use lib.Dec.{eqb, ltb}
 use lib.ListN.{length, get_or, set, take, replicate, length-replicate}
 use borrow.Author.Tests.{eqb-true, eqb-false, eq-eqb, le-leb}
-use Rattle.terms.specs.Terms.{Place, Fix, fix_at, max_radio, no_page}
-use Rattle.lists.specs.Rows.{Rows, UpTo, find}
+use Rattle.terms.specs.Terms.{Fix, fix_at, max_radio, no_page}
+use Rattle.lists.specs.Rows.{UpTo, find}
 use Rattle.lists.specs.Tests.{both, either}
 use Rattle.lists.specs.Words.{wide}
 use Rattle.lists.proofs.Cases.{by_cases}

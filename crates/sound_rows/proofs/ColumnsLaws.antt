@@ -35,7 +35,7 @@ use Rattle.sound_directory.specs.Sound.{weighs, number}
 use Rattle.sound_directory.proofs.LoopLaws.{both_then, sum_Clear}
 use Rattle.waiting.specs.Waiting.{row_of as report_row, reports_of}
 use Rattle.waiting.proofs.WaitingLaws.{every_size}
-use Rattle.sound_rows.specs.Sound.{report_weight, is_mark, report_laid, is_dated, reports_test}
+use Rattle.sound_rows.specs.Sound.{report_weight, is_mark, is_dated, reports_test}
 
 -- ---- the columns
 

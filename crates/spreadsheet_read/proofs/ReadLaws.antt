@@ -3,13 +3,12 @@ use mathlib.Core.Bool.{Bool, false}
 use mathlib.Core.List.{List, [], ◌∷◌}
 use mathlib.Core.Option.{Option, none, some}
 use mathlib.Core.Path.{◌≡◌, refl, sym, ap, ap₂, ◌∙◌, subst}
-use Prim.Native.Nat.{ℕ, suc, ◌≤◌}
+use Prim.Native.Nat.{ℕ, suc}
 use native.Mathlib.Omega.{arith}
 use lib.Dec.{eqb}
 use lib.ListN.{length, take}
 use lib.Seq.{take_all}
-use borrow.Author.Tests.{eqb-true, eqb-false}
-use Rattle.terms.specs.Terms.{max_on}
+use borrow.Author.Tests.{eqb-false}
 use Rattle.lists.specs.Tests.{Each}
 use Rattle.lists.proofs.Cases.{by_cases, option_cases, none-some}
 use Rattle.csv_grammar.specs.Csv.{Listed, File, lines, bad, file_read, Fits}
@@ -23,7 +22,7 @@ use Rattle.csv_gather.specs.declared.Gathered.{Gathered}
 use Rattle.csv_gather.specs.declared.Gathered.TheVariants.{Lines, Bad}
 use Rattle.csv_gather.specs.Gather.{least, wrong, gather, gather_file, HasGathered}
 use Rattle.rules.specs.Plain.{plain_fresh}
-use Rattle.rules.specs.Watches.{Watched, fresh_watched}
+use Rattle.rules.specs.Watches.{fresh_watched}
 use Rattle.page.specs.Buffer.{buffer_bytes}
 use Rattle.desk.specs.declared.Answer.{Answer}
 use Rattle.desk.specs.declared.Desk.{Desk}
@@ -33,8 +32,8 @@ use Rattle.desk.specs.Layout.{desk_of, pages_of}
 use Rattle.desk.proofs.FreshLaws.{fresh_well, fresh_right}
 use Rattle.rules.specs.Store.{fresh}
 use Rattle.carry.specs.declared.Told.{Told}
-use Rattle.desk.specs.Making.{Found, Made, found, counted, numbered, made as makes}
-use Rattle.spreadsheet.specs.Read.{Read, made, stopped, sign_ons, signed_all, verdict, read_lines, read_file}
+use Rattle.desk.specs.Making.{Found, Made, counted, made as makes}
+use Rattle.spreadsheet.specs.Read.{Read, stopped, sign_ons, signed_all, verdict, read_lines, read_file}
 use Rattle.spreadsheet.specs.Call.{laid_out, Reads}
 use Rattle.spreadsheet.proofs.RunLaws.{sign_ons-verdict, first_stop-take, first_stop_few, fresh_Beside}
 use Rattle.spreadsheet_read.specs.Signing.{Holds}

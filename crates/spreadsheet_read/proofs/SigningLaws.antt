@@ -17,14 +17,14 @@ use Rattle.rules.specs.Limits.{max_cells, full_memory}
 use Rattle.rules.specs.Records.{kind_sign_on}
 use Rattle.rules.specs.Store.{Store}
 use Rattle.rules.specs.Calls.{hands, carry_record, carry_call}
-use Rattle.rules.specs.Watches.{max_watches, Watched, RightWatches, latest_place}
+use Rattle.rules.specs.Watches.{Watched, RightWatches, latest_place}
 use Rattle.rules.specs.WellFormed.{WellFormed}
 use Rattle.rules.proofs.StepLaws.{step_well}
 use Rattle.desk.specs.declared.Answer.{Answer}
 use Rattle.desk.specs.declared.Desk.{Desk}
 use Rattle.desk.specs.declared.Line.{Line}
 use Rattle.desk.specs.Call.{After, handed, left, CarriedOut, laid_out}
-use Rattle.desk.specs.Layout.{slot_fields, slotted, no_slot, slot_of, slot_words, directory_of, grid_of, report_fields, no_report, report_of, report_words, waiting_of, line_fields, line_slots, line_of, fields_of, memo_of, on_of, ledger_of, watch_fields, desk_of, Laid, pages_of}
+use Rattle.desk.specs.Layout.{slot_fields, slotted, no_slot, slot_of, directory_of, grid_of, report_fields, no_report, report_of, waiting_of, line_fields, line_slots, line_of, fields_of, memo_of, on_of, ledger_of, watch_fields, desk_of, Laid}
 use Rattle.desk.specs.Sizes.{DeskArrays}
 use Rattle.desk.specs.Sound.{Sound}
 use Rattle.desk.proofs.PagesLaws.{Laid_pages, pages_Laid}

@@ -1,12 +1,11 @@
 -- Writing all radios on: the rows that are laid out beside the radios on are those of the store, and so is the file.
 use mathlib.Core.List.{List}
-use mathlib.Core.Path.{◌≡◌, refl, sym, ap, ◌∙◌, subst}
+use mathlib.Core.Path.{◌≡◌, sym, subst}
 use Prim.Native.Nat.{ℕ, ◌≤◌, ◌<◌}
 use native.Mathlib.Omega.{arith}
-use lib.Dec.{ltb}
 use lib.ListN.{length}
 use borrow.Author.Tests.{lt-ltb, le-ltb}
-use Rattle.terms.specs.Terms.{Fix, max_on}
+use Rattle.terms.specs.Terms.{Fix}
 use Rattle.lists.specs.Parts.{put}
 use Rattle.lists.specs.Rows.{Rows}
 use Rattle.csv_grammar.specs.Csv.{file_of}
@@ -18,13 +17,12 @@ use Rattle.rules.specs.Told.{told_file}
 use Rattle.desk.specs.declared.Answer.{Answer}
 use Rattle.desk.specs.declared.Desk.{Desk}
 use Rattle.desk.specs.Call.{handed, left, laid_out, CarriedOut}
-use Rattle.desk.specs.Held.{Ledger, desk_ledger}
+use Rattle.desk.specs.Held.{desk_ledger}
 use Rattle.desk.specs.Making.{counted}
 use Rattle.desk.specs.Sound.{SoundLedger, Sound}
 use Rattle.desk.proofs.PagesLaws.{pages_Laid}
 use Rattle.desk.proofs.UniqueLaws.{Sound_ledger}
 use Rattle.latest_fixes.specs.Fixes.{FixesOn}
-use Rattle.latest_fixes.proofs.OnLaws.{few_on}
 use Rattle.spreadsheet_write.specs.Write.{Wrote}
 
 -- ---- a file in the buffer

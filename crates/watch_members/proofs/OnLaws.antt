@@ -1,6 +1,6 @@
 -- The radios on, as they stand in their array: each once, and each with a latest place, which the table by radio has.
 use Rattle.std.proofs.Common.{◌≡◌, ℕ, zero, suc, ◌<◌, ◌≤◌, true, eqb, List, [], ◌∷◌, map, length, get_or, take, sym, refl, ap, ◌∙◌, subst, ap₂, le_of_suc-le-suc, not-suc-le-zero, arith, length-take, get_or-take, eq-eqb, eqb-true}
-use mathlib.Core.Option.{Option, none, some}
+use mathlib.Core.Option.{none, some}
 use lib.ListN.{length-map, get_or-map}
 use Rattle.terms.specs.Terms.{max_radio, max_on}
 use Rattle.lists.specs.Rows.{Rows, Rising, UpTo, find}

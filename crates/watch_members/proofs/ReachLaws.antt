@@ -1,13 +1,13 @@
 -- Two edges take in what lies at most so far above the low one: the distance of a coordinate below it goes round the end of 16 bits, past every other.
-use Rattle.std.proofs.Common.{◌≡◌, ℕ, ◌+◌, ◌-◌, ◌*◌, ◌%◌, ◌<◌, ◌≤◌, Bool, true, false, not, ◌&&◌, eqb, ltb, leb, ◌≢◌, sym, refl, ap, ◌∙◌, arith, ltb-false, ltb-true, lt-ltb, eq-eqb, eqb-true, le-leb, leb-false, leb-true}
-use borrow.Author.Tests.{eqb-false, lt-leb}
+use Rattle.std.proofs.Common.{◌≡◌, ℕ, ◌-◌, ◌<◌, ◌≤◌, Bool, true, false, not, ◌&&◌, eqb, ltb, leb, ◌≢◌, sym, refl, ◌∙◌, arith, ltb-true, lt-ltb, eq-eqb, eqb-true, le-leb, leb-false, leb-true}
+use borrow.Author.Tests.{lt-leb}
 use Rattle.terms.specs.Terms.{Place}
 use Rattle.lists.specs.Tests.{both, either}
 use Rattle.lists.proofs.Cases.{by_cases, false-true}
 use Rattle.lists.proofs.TestsLaws.{both_tell}
 use Rattle.rules.specs.Limits.{last_metre}
 use Rattle.rules.specs.Grid.{Span, Rect, takes_in, covers}
-use Rattle.watch_members.specs.Members.{voids, field_end, Reaches}
+use Rattle.watch_members.specs.Members.{voids, Reaches}
 
 pub reach_last : (low high : ℕ) → high ≡ last_metre → low ≤ high → Reaches (record { low = low; high = high }) (high - low)
 unfolding both either

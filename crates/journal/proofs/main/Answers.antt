@@ -1,4 +1,4 @@
-use Rattle.std.proofs.Common.{refl, rules}
+use Rattle.std.proofs.Common.{rules}
 use Rattle.journal_printer.proofs.PrinterLaws.{begun_fresh}
 use Rattle.journal.proofs.main.Goals as goal
 

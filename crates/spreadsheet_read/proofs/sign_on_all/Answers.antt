@@ -1,6 +1,5 @@
 use borrow.Author.Rules.{rules}
 use native.Mathlib.Omega.{arith}
-use Prim.Native.Nat.{◌-◌}
 use Rattle.spreadsheet_read.proofs.SigningLaws.{Signing_start, asks_line, Signing_turn, Signing_end}
 use Rattle.spreadsheet_read.proofs.sign_on_all.Goals as goal
 

@@ -1,5 +1,4 @@
 use borrow.Author.Rules.{rules}
-use native.Mathlib.Omega.{arith}
 use Rattle.tally.proofs.TickLaws.{tick_counts, tick_sweep, tick_sweeps}
 use Rattle.tally.proofs.tick.Goals as goal
 
