@@ -1,5 +1,5 @@
 -- How far the stripe of a coordinate reaches, cut by cut, in whatever order the cuts stand; and the reports within its reach.
-use mathlib.Core.Bool.{Bool, true, false}
+use mathlib.Core.Bool.{Bool}
 use mathlib.Core.List.{List, [], ◌∷◌, ◌++◌}
 use mathlib.Core.Path.{◌≡◌, refl, sym, ap, ap₂, ◌∙◌}
 use Prim.Native.Nat.{ℕ, ◌+◌, ◌-◌, ◌*◌, ◌≤◌, ◌<◌, min, max}
@@ -7,7 +7,7 @@ use native.Mathlib.Numerals.{add-one}
 use native.Mathlib.Omega.{arith}
 use lib.Dec.{leb, ltb}
 use lib.ListN.{length, get_or, take}
-use lib.Seq.{take-suc, take_all, get_or-take}
+use lib.Seq.{take-suc, take_all}
 use borrow.Author.Tests.{lt-ltb, le-ltb, ltb-true, ltb-false, leb-true, leb-false, le-leb, lt-leb, eq-eqb, ne_eqb}
 use Rattle.terms.specs.Terms.{Place}
 use Rattle.lists.specs.Rows.{Row}
@@ -16,7 +16,7 @@ use Rattle.lists.specs.Tests.{one_if, both}
 use Rattle.lists.proofs.Cases.{by_cases}
 use Rattle.lists.proofs.SumsLaws.{sum_last}
 use Rattle.lists.proofs.TestsLaws.{one_if-le}
-use Rattle.rules.specs.Limits.{last_metre, full_memory, max_cuts}
+use Rattle.rules.specs.Limits.{last_metre, full_memory}
 use Rattle.rules.specs.Grid.{Span, Rect, inside, Cuts, stripe, box_of}
 use Rattle.rules.specs.Flush.{in_box}
 use Rattle.rules.specs.Carry.{waiting_in}
@@ -31,7 +31,7 @@ use Rattle.box_due.specs.declared.Reach.{Reach}
 use Rattle.box_due.specs.Due.{span_in, bounded_by, Reaches}
 use Rattle.waiting.specs.Waiting.{row_of, reports_of}
 use Rattle.waiting.proofs.WaitingLaws.{no_row, every_size, length_reports, reports_get}
-use Rattle.boxes.proofs.BoxLaws.{Counted, Counted_start, Counted_turn, Counted_end, length-cuts}
+use Rattle.boxes.proofs.BoxLaws.{Counted, Counted_start, Counted_turn, Counted_end}
 
 -- ---- one cut after the other
 
@@ -114,15 +114,14 @@ pub record Reached (cuts : CutList) (x i : ℕ) (r : Reach) : Type 0 where
 pub Reached_start : (cuts : CutList) (x : ℕ) → x ≤ last_metre → Reached cuts x 0 (record { low = 0; high = last_metre })
 Reached_start cuts x h = record { so = Around_start x h }
 
-module _ (cuts : CutList) (size : length cuts.at ≡ max_cuts) (fits : cuts.n ≤ max_cuts) {x i : ℕ} {r : Reach} (c : Reached cuts x i r) where
-  pub Reached_turn : {n : Reach} → i < cuts.n → span_in n ≡ bounded_by (get_or cuts.at i 0) x (span_in r) → Reached cuts x (i + 1) n
+module _ (cuts : CutList) {x i : ℕ} {r : Reach} (c : Reached cuts x i r) where
+  pub Reached_turn : {n : Reach} → i < length (take cuts.n cuts.at) → span_in n ≡ bounded_by (get_or (take cuts.n cuts.at) i 0) x (span_in r) → Reached cuts x (i + 1) n
   unfolding cuts_in
-  Reached_turn h e = record {
-    so = rw (add-one i, take-suc (cuts_in cuts) i 0 (rw (length-cuts cuts size fits) h), get_or-take cuts.n cuts.at i 0 h, e) (Around-more c.so (get_or cuts.at i 0));
-  }
+  Reached_turn h e = record { so = rw (add-one i, take-suc (take cuts.n cuts.at) i 0 h, e) (Around-more c.so (get_or (take cuts.n cuts.at) i 0)) }
 
-  pub Reached_end : cuts.n ≤ i → Reaches (cuts_in cuts) x (span_in r)
-  Reached_end h = Around-Reaches (rw (take_all i (cuts_in cuts) (rw (length-cuts cuts size fits) h)) at c.so)
+  pub Reached_end : length (take cuts.n cuts.at) ≤ i → Reaches (cuts_in cuts) x (span_in r)
+  unfolding cuts_in
+  Reached_end h = Around-Reaches (rw (take_all i (take cuts.n cuts.at) h) at c.so)
 
 -- ---- the reports within reach
 
@@ -141,15 +140,6 @@ pub record Near (east_reach north_reach : Reach) (w : Waiting) (i s : ℕ) : Typ
 pub Near_start : (east_reach north_reach : Reach) (w : Waiting) → Near east_reach north_reach w 0 0
 Near_start east_reach north_reach w = record { so = λ cuts p e n. Counted_start _ _ }
 
-pub one_more : {b : Bool} (s : ℕ) → b ≡ true → s + 1 ≡ s + one_if b
-one_more s e = rw e
-
-pub no_more : {b : Bool} (s : ℕ) → b ≡ false → s ≡ s + one_if b
-no_more s e = omega (arith, ap one_if e)
-
-pub one_more_most : (b : Bool) {r s i : ℕ} → r ≡ s + one_if b → s ≤ i → r ≤ i + 1
-one_more_most b e h = omega (arith, one_if-le b)
-
 module _ {n : ℕ} {ws : List ℕ} (size : length ws ≡ report_fields * full_memory) (fits : n ≤ full_memory) {east_reach north_reach : Reach} {i s : ℕ} (c : Near east_reach north_reach (waiting_with n ws) i s) where
   -- the place of slot i, in its two columns
   abbrev there : Place
@@ -161,13 +151,13 @@ module _ {n : ℕ} {ws : List ℕ} (size : length ws ≡ report_fields * full_me
   its_row : i < n → its ≡ get_or (reports_of (waiting_with n ws)) i no_row
   its_row h = ap row_of (report_read ws i (omega arith) size) ∙ sym (reports_get (waiting_with n ws) (every_size ws size) fits i h)
 
-  pub Near_turn : {r : ℕ} {b : Bool} → i < n → b ≡ inside (area east_reach north_reach) there → InSquare there → r ≡ s + one_if b → Near east_reach north_reach (waiting_with n ws) (i + 1) r
-  Near_turn {r} {b} h e q f = record {
+  pub Near_turn : {t : ℕ} {b : Bool} → i < n → b ≡ inside (area east_reach north_reach) there → InSquare there → t ≡ one_if b → Near east_reach north_reach (waiting_with n ws) (i + 1) (s + t)
+  Near_turn {t} {b} h e q f = record {
     so = λ cuts p u v. rw f (Counted_turn no_row (one_if b) (c.so cuts p u v) (rw (length_reports (waiting_with n ws) (every_size ws size) fits) h)
         (ap one_if (e ∙ within_box cuts p its u v q ∙ ap (in_box cuts (box_of cuts p)) (its_row h))) (one_if-le b));
   }
 
-  pub Near_end : (easts norths : CutList) (x y : ℕ) → Reaches (cuts_in easts) x (span_in east_reach) → Reaches (cuts_in norths) y (span_in north_reach) → n ≤ i
-      → s ≡ waiting_in (cuts_by easts norths) (reports_of (waiting_with n ws)) (box_of (cuts_by easts norths) (record { east = x; north = y }))
+  pub Near_end : (easts norths : CutList) (p : Place) → Reaches (cuts_in easts) p.east (span_in east_reach) → Reaches (cuts_in norths) p.north (span_in north_reach) → n ≤ i
+      → s ≡ waiting_in (cuts_by easts norths) (reports_of (waiting_with n ws)) (box_of (cuts_by easts norths) p)
   unfolding waiting_in
-  Near_end easts norths x y u v h = Counted_end (c.so (cuts_by easts norths) (record { east = x; north = y }) u v) (rw (length_reports (waiting_with n ws) (every_size ws size) fits) h)
+  Near_end easts norths p u v h = Counted_end (c.so (cuts_by easts norths) p u v) (rw (length_reports (waiting_with n ws) (every_size ws size) fits) h)

@@ -1,24 +1,24 @@
 // Which memory cell is due to be flushed: how many wait in that of a place, and the fullest of all.
 #![tactic(auto)]
 
-ghost use Rattle.std.specs.Prelude.{cond, ◌≡◌, ◌+◌, ◌*◌, ◌<◌, ◌≤◌, min, max, ltb, length};
-ghost use Rattle.std.proofs.Math.Option.{some};
+ghost use Rattle.std.specs.Prelude.{cond, ◌≡◌, ◌<◌, ◌≤◌, ltb, length, option_map, Some};
+ghost use Rattle.terms.specs.Values.{place_of};
 ghost use Rattle.lists.specs.Parts.{tab};
 ghost use Rattle.lists.specs.Sums.{concat};
-ghost use Rattle.lists.specs.Tests.{best, one_if};
+ghost use Rattle.lists.specs.Tests.{best};
 ghost use Rattle.rules.specs.Limits.{full_memory, max_cuts};
 ghost use Rattle.rules.specs.Grid.{within, inside, box_of, boxes};
 ghost use Rattle.rules.specs.WellFormed.{InSquare};
 ghost use Rattle.rules.specs.Carry.{waiting_in, most_of, box_to_flush};
 ghost use Rattle.desk.specs.Held.{waiting_with};
-ghost use Rattle.desk.specs.Layout.{report_fields};
 ghost use Rattle.desk.specs.Views.{cuts_in, cuts_by};
 ghost use Rattle.waiting.specs.Waiting.{reports_of};
-ghost use Rattle.boxes.specs.Boxes.{box_in, max_stripes, table_size, Crowd};
-ghost use Rattle.box_due.specs.Due.{span_in, bounded_by, Reaches, Leads, fuller_of, box_row, due_of};
+ghost use Rattle.boxes.specs.Boxes.{box_in, max_stripes, Crowd};
+ghost use Rattle.box_due.specs.Due.{span_in, bounded_by, Reaches, Leads, fuller_of, box_row};
 
 use boxes::{BOXES, BoxAt, EASTS, FULL_MEMORY, NORTHS, STRIPES};
 use desk::{CutList, Desk};
+use terms::Place;
 
 // ---- how far a stripe reaches
 
@@ -29,20 +29,6 @@ struct Reach {
     high: u16,
 }
 
-// The greater of two.
-fn greater(a: u16, b: u16) -> u16
-    ensures { result ≡ max a b }
-{
-    if a < b { b } else { a }
-}
-
-// The lesser of two.
-fn lesser(a: u16, b: u16) -> u16
-    ensures { result ≡ min a b }
-{
-    if a < b { a } else { b }
-}
-
 // A cut more bounds the stripe of x: one up to x from below, one past x from above, at the metre before it.
 fn bounded(reach: Reach, cut: u16, x: u16) -> Reach
     ensures { span_in result ≡ bounded_by cut x (span_in reach) }
@@ -50,11 +36,11 @@ fn bounded(reach: Reach, cut: u16, x: u16) -> Reach
     if x < cut {
         return Reach {
             low: reach.low,
-            high: lesser(reach.high, cut - 1),
+            high: reach.high.min(cut - 1),
         };
     }
     Reach {
-        low: greater(reach.low, cut),
+        low: reach.low.max(cut),
         high: reach.high,
     }
 }
@@ -64,16 +50,12 @@ fn reach_of(cuts: CutList, x: u16) -> Reach
     requires { cuts.n ≤ max_cuts }
     ensures { Reaches (cuts_in cuts) x (span_in result) }
 {
-    let n = cuts.n as usize;
     let mut reach = Reach {
         low: 0,
         high: Desk::LAST_METRE,
     };
-    let mut i: usize = 0;
-    while i < n {
-        let cut = cuts.at[i];
+    for &cut in &cuts.at[..cuts.n as usize] {
         reach = bounded(reach, cut, x);
-        i = i + 1;
     }
     reach
 }
@@ -93,38 +75,30 @@ fn lies_within(easts: Reach, norths: Reach, east: u16, north: u16) -> bool
     reaches_to(easts, east) & reaches_to(norths, north)
 }
 
-// One more where the test holds. A count of 16 bits, as wide as the places, so that eight reports are counted at once.
-fn one_more(found: u16, here: bool) -> u16
-    requires { found ≤ full_memory }
-    ensures { result ≡ found + one_if here }
-{
-    if here { found + 1 } else { found }
-}
-
-// How many wait in the memory cell of a place. The columns of places are read, and no other.
-fn waiting_at<'a>(
+// How many wait in the memory cell of a place. The columns of places are read, and no other. A count of 16 bits, as wide as the places, and by index, so that eight
+// reports are counted at once.
+fn waiting_at(
     easts: CutList,
     norths: CutList,
-    waiting: &'a [u16; Desk::WAITING_WORDS],
+    waiting: &[u16; Desk::WAITING_WORDS],
     n: u16,
-    east: u16,
-    north: u16,
+    place: Place,
 ) -> u16
-    requires { (n ≤ full_memory) × (length waiting.now ≡ report_fields * full_memory) × (easts.n ≤ max_cuts) × (norths.n ≤ max_cuts) }
+    requires { (n ≤ full_memory) × (easts.n ≤ max_cuts) × (norths.n ≤ max_cuts) }
     ensures { result ≡ waiting_in (cuts_by easts norths) (reports_of (waiting_with n waiting.now))
-        (box_of (cuts_by easts norths) (record { east = east; north = north })) }
+        (box_of (cuts_by easts norths) (place_of place)) }
 {
-    let east_reach = reach_of(easts, east);
-    let north_reach = reach_of(norths, north);
-    let all = n as usize;
+    let east_reach = reach_of(easts, place.east);
+    let north_reach = reach_of(norths, place.north);
     let mut found: u16 = 0;
-    let mut i: usize = 0;
-    while i < all {
-        let x = waiting[EASTS + i];
-        let y = waiting[NORTHS + i];
-        let here = lies_within(east_reach, north_reach, x, y);
-        found = one_more(found, here);
-        i = i + 1;
+    for i in 0..n as usize {
+        let here = lies_within(
+            east_reach,
+            north_reach,
+            waiting[EASTS + i],
+            waiting[NORTHS + i],
+        );
+        found += u16::from(here);
     }
     found
 }
@@ -132,36 +106,25 @@ fn waiting_at<'a>(
 // ---- how many wait in each
 
 // How many wait in each memory cell: each report counts in its own.
-fn crowd_of<'a>(
+fn crowd_of(
     easts: CutList,
     norths: CutList,
-    waiting: &'a [u16; Desk::WAITING_WORDS],
+    waiting: &[u16; Desk::WAITING_WORDS],
     n: u16,
 ) -> [u8; BOXES]
-    requires { (n ≤ full_memory) × (length waiting.now ≡ report_fields * full_memory) × (easts.n ≤ max_cuts) × (norths.n ≤ max_cuts) }
+    requires { (n ≤ full_memory) × (easts.n ≤ max_cuts) × (norths.n ≤ max_cuts) }
     ensures { Crowd (cuts_by easts norths) (reports_of (waiting_with n waiting.now)) result }
 {
-    let all = n as usize;
     let at = boxes::boxes_of(easts, norths, waiting);
     let mut crowd = [0u8; BOXES];
-    let mut i: usize = 0;
-    while i < all {
+    for i in 0..n as usize {
         let k = boxes::box_index(at.easts[i], at.norths[i]);
-        let others = crowd[k];
-        crowd[k] = others + 1;
-        i = i + 1;
+        crowd[k] += 1;
     }
     crowd
 }
 
 // ---- the memory cell to flush
-
-// The memory cell to flush, if one is.
-#[derive(Drop)]
-pub enum BoxDue {
-    Flush(BoxAt),
-    Nothing,
-}
 
 // The fullest memory cell so far, and how many wait in it.
 #[derive(Drop)]
@@ -181,81 +144,62 @@ fn fuller(leader: Leader, m: BoxAt, has: u8) -> Leader
 }
 
 // The fullest of the leader and a row of memory cells.
-fn fullest_in_row<'a>(
-    crowd: &'a [u8; BOXES],
-    columns: usize,
-    north: usize,
-    leader: Leader,
-) -> Leader
-    requires { (length crowd.now ≡ table_size) × (columns ≤ max_stripes) × (north < max_stripes) × Leads crowd.now leader }
+fn fullest_in_row(crowd: &[u8; BOXES], columns: usize, north: usize, leader: Leader) -> Leader
+    requires { (columns ≤ max_stripes) × (north < max_stripes) × Leads crowd.now leader }
     ensures { Leads crowd.now result × (box_in result.at ≡ best (fuller_of crowd.now) (box_in leader.at) (box_row columns north)) }
 {
     let mut most = leader;
-    let mut east: usize = 0;
-    while east < columns {
+    for east in 0..columns {
         let k = STRIPES * north + east;
         most = fuller(most, BoxAt { east, north }, crowd[k]);
-        east = east + 1;
     }
     most
 }
 
 // The fullest of so many rows, from the south on.
-fn fullest_in_rows<'a>(crowd: &'a [u8; BOXES], columns: usize, rows: usize) -> BoxAt
-    requires { (length crowd.now ≡ table_size) × (columns ≤ max_stripes) × (rows ≤ max_stripes) }
+fn fullest_in_rows(crowd: &[u8; BOXES], columns: usize, rows: usize) -> BoxAt
+    requires { (columns ≤ max_stripes) × (rows ≤ max_stripes) }
     ensures { box_in result ≡ best (fuller_of crowd.now) (record { east = 0; north = 0 }) (concat (tab rows (box_row columns))) }
 {
     let mut most = Leader {
         at: BoxAt { east: 0, north: 0 },
         has: crowd[0],
     };
-    let mut north: usize = 0;
-    while north < rows {
+    for north in 0..rows {
         most = fullest_in_row(crowd, columns, north, most);
-        north = north + 1;
     }
     most.at
 }
 
 // "the memory cell with most waiting; ties go to the southern, then the western"
-fn fullest<'a>(
-    easts: CutList,
-    norths: CutList,
-    waiting: &'a [u16; Desk::WAITING_WORDS],
-    n: u16,
-) -> BoxAt
-    requires { (n ≤ full_memory) × (length waiting.now ≡ report_fields * full_memory) × (easts.n ≤ max_cuts) × (norths.n ≤ max_cuts) }
-    ensures { some (box_in result) ≡ most_of (waiting_in (cuts_by easts norths) (reports_of (waiting_with n waiting.now)))
+fn fullest(easts: CutList, norths: CutList, waiting: &[u16; Desk::WAITING_WORDS], n: u16) -> BoxAt
+    requires { (n ≤ full_memory) × (easts.n ≤ max_cuts) × (norths.n ≤ max_cuts) }
+    ensures { Some (box_in result) ≡ most_of (waiting_in (cuts_by easts norths) (reports_of (waiting_with n waiting.now)))
         (boxes (cuts_by easts norths)) }
 {
     let crowd = crowd_of(easts, norths, waiting, n);
-    let columns = easts.n as usize + 1;
-    let rows = norths.n as usize + 1;
-    fullest_in_rows(&crowd, columns, rows)
+    fullest_in_rows(&crowd, easts.n as usize + 1, norths.n as usize + 1)
 }
 
 // "if the memory cell of that place has 8 waiting, flush it. If 128 still wait in all, flush the memory cell with most waiting"
-pub fn box_due<'a>(
+pub fn box_due(
     easts: CutList,
     norths: CutList,
-    waiting: &'a [u16; Desk::WAITING_WORDS],
+    waiting: &[u16; Desk::WAITING_WORDS],
     n: u16,
-    east: u16,
-    north: u16,
-) -> BoxDue
-    requires { (n ≤ full_memory) × (length waiting.now ≡ report_fields * full_memory) × (easts.n ≤ max_cuts) × (norths.n ≤ max_cuts) }
-    ensures { due_of result
+    place: Place,
+) -> Option<BoxAt>
+    requires { (n ≤ full_memory) × (easts.n ≤ max_cuts) × (norths.n ≤ max_cuts) }
+    ensures { option_map box_in result
         ≡ box_to_flush (cuts_by easts norths) (waiting_in (cuts_by easts norths) (reports_of (waiting_with n waiting.now)))
-        (length (reports_of (waiting_with n waiting.now))) (record { east = east; north = north }) }
+        (length (reports_of (waiting_with n waiting.now))) (place_of place) }
 {
-    let waits = waiting_at(easts, norths, waiting, n, east, north);
+    let waits = waiting_at(easts, norths, waiting, n, place);
     if Desk::FULL_BOX <= waits as usize {
-        let here = boxes::box_of(easts, norths, east, north);
-        return BoxDue::Flush(here);
+        return Some(boxes::box_of(easts, norths, place));
     }
     if (n as usize) < FULL_MEMORY {
-        return BoxDue::Nothing;
+        return None;
     }
-    let most = fullest(easts, norths, waiting, n);
-    BoxDue::Flush(most)
+    Some(fullest(easts, norths, waiting, n))
 }

@@ -6,7 +6,7 @@ use native.Mathlib.Numerals.{add-one}
 use native.Mathlib.Omega.{arith}
 use lib.Dec.{eqb, leb}
 use lib.ListN.{length, get_or, set, take, replicate, length-set, length-take, length-replicate, get_or-replicate}
-use lib.Seq.{take-suc, take_all, get_or-take, get_or-set_same, get_or-set_other}
+use lib.Seq.{take-suc, take_all, get_or-set_same, get_or-set_other}
 use borrow.Author.Tests.{le-leb, lt-leb, eqb-true, eqb-false}
 use Rattle.lists.specs.Tests.{one_if}
 use Rattle.lists.proofs.Cases.{by_cases}
@@ -22,7 +22,7 @@ use Rattle.desk.specs.Views.{every_report, cuts_in, cuts_by}
 use Rattle.desk.proofs.ReportsLaws.{report_read}
 use Rattle.boxes.specs.declared.Stripes.{Stripes}
 use Rattle.boxes.specs.Boxes.{Passing, Striped, Boxed, max_stripes, box_at}
-use Rattle.boxes.proofs.BoxLaws.{length-cuts, box_laid}
+use Rattle.boxes.proofs.BoxLaws.{box_laid}
 use Rattle.boxes.proofs.CrowdLaws.{few_cuts, stripe_few}
 
 -- ---- one cut more
@@ -79,24 +79,24 @@ module _ {cuts : CutList} {xs : List ℕ} {column i : ℕ} {before : List ℕ} (
   pub Striped_low : (k : ℕ) → k < full_memory → get_or before k 0 ≤ max_cuts
   Striped_low k h = omega (arith, s.so.told k h, stripe_most (take i (cuts_in cuts)) (get_or xs (column + k) 0), length-take i (cuts_in cuts), few_cuts cuts fits)
 
-  module _ (size : length cuts.at ≡ max_cuts) where
-    module _ (more : i < cuts.n) {after : List ℕ} (p : Passing (get_or cuts.at i 0) xs column before full_memory after) where
-      stripe_next : (x : ℕ) → stripe (take (i + 1) (cuts_in cuts)) x ≡ stripe (take i (cuts_in cuts)) x + one_if (leb (get_or cuts.at i 0) x)
-      unfolding stripe cuts_in
-      stripe_next x =
-          rw (add-one i, take-suc (cuts_in cuts) i 0 (rw (length-cuts cuts size fits) more), get_or-take cuts.n cuts.at i 0 more)
-          (sum_last (λ c. one_if (leb c x)) (take i (cuts_in cuts)) (get_or cuts.at i 0))
+  module _ (more : i < length (take cuts.n cuts.at)) {after : List ℕ} (p : Passing (get_or (take cuts.n cuts.at) i 0) xs column before full_memory after) where
+    stripe_next : (x : ℕ) → stripe (take (i + 1) (cuts_in cuts)) x ≡ stripe (take i (cuts_in cuts)) x + one_if (leb (get_or (take cuts.n cuts.at) i 0) x)
+    unfolding stripe cuts_in
+    stripe_next x =
+        rw (add-one i, take-suc (take cuts.n cuts.at) i 0 more)
+        (sum_last (λ c. one_if (leb c x)) (take i (take cuts.n cuts.at)) (get_or (take cuts.n cuts.at) i 0))
 
-      pub Striped_turn : StripedBy cuts xs column (i + 1) after
-      Striped_turn = record {
-        so = record {
-          size = p.size;
-          told = λ k h. omega (arith, p.passed k h, s.so.told k h, stripe_next (get_or xs (column + k) 0));
-        };
-      }
+    pub Striped_turn : StripedBy cuts xs column (i + 1) after
+    Striped_turn = record {
+      so = record {
+        size = p.size;
+        told = λ k h. omega (arith, p.passed k h, s.so.told k h, stripe_next (get_or xs (column + k) 0));
+      };
+    }
 
-    pub Striped_end : cuts.n ≤ i → Striped (cuts_in cuts) xs column before
-    Striped_end h = rw (take_all i (cuts_in cuts) (rw (length-cuts cuts size fits) h)) at s.so
+  pub Striped_end : length (take cuts.n cuts.at) ≤ i → Striped (cuts_in cuts) xs column before
+  unfolding cuts_in
+  Striped_end h = rw (take_all i (take cuts.n cuts.at) h) at s.so
 
 -- ---- both directions
 

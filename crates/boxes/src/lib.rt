@@ -1,15 +1,16 @@
 // Memory cells: that of a place, those of all waiting reports at once, and a table with a number for each.
 #![tactic(auto)]
 
-ghost use Rattle.std.specs.Prelude.{◌≡◌, ℕ, ◌+◌, ◌*◌, ◌<◌, ◌≤◌, leb, length, get_or};
+ghost use Rattle.std.specs.Prelude.{◌≡◌, ℕ, ◌+◌, ◌<◌, ◌≤◌, leb, length, get_or};
+ghost use Rattle.terms.specs.Values.{place_of};
 ghost use Rattle.lists.specs.Tests.{one_if};
 ghost use Rattle.rules.specs.Limits.{full_memory, max_cuts};
 ghost use Rattle.rules.specs.Grid.{stripe, box_of};
-ghost use Rattle.desk.specs.Layout.{report_fields};
 ghost use Rattle.desk.specs.Views.{every_report, cuts_in, cuts_by};
 ghost use Rattle.boxes.specs.Boxes.{box_in, Passing, Striped, Boxed, max_stripes, table_size, box_at};
 
 use desk::{CutList, Desk};
+use terms::Place;
 
 // "If 128 still wait in all": one more than may wait between two calls.
 pub const FULL_MEMORY: usize = Desk::MAX_WAITING + 1;
@@ -28,26 +29,21 @@ pub fn stripe_of(cuts: CutList, x: u16) -> usize
     requires { cuts.n ≤ max_cuts }
     ensures { result ≡ stripe (cuts_in cuts) x }
 {
-    let n = cuts.n as usize;
-    let mut passed: usize = 0;
-    let mut i: usize = 0;
-    while i < n {
-        let c = cuts.at[i];
-        let step = lists::one_if(c <= x);
-        passed = passed + step;
-        i = i + 1;
+    let mut passed = 0;
+    for &cut in &cuts.at[..cuts.n as usize] {
+        passed += usize::from(cut <= x);
     }
     passed
 }
 
 // The memory cell of a place.
-pub fn box_of(easts: CutList, norths: CutList, east: u16, north: u16) -> BoxAt
+pub fn box_of(easts: CutList, norths: CutList, place: Place) -> BoxAt
     requires { (easts.n ≤ max_cuts) × (norths.n ≤ max_cuts) }
-    ensures { box_in result ≡ box_of (cuts_by easts norths) (record { east = east; north = north }) }
+    ensures { box_in result ≡ box_of (cuts_by easts norths) (place_of place) }
 {
     BoxAt {
-        east: stripe_of(easts, east),
-        north: stripe_of(norths, north),
+        east: stripe_of(easts, place.east),
+        north: stripe_of(norths, place.north),
     }
 }
 
@@ -73,60 +69,46 @@ fn further(stripe: u16, cut: u16, x: u16) -> u16
     if cut <= x { stripe + 1 } else { stripe }
 }
 
-// The stripe of every coordinate of a column by one cut more. It never leaves early, so that many coordinates are compared at a time.
-fn pass_cut<'a>(
+// The stripe of every coordinate of a column by one cut more. It never leaves early, so that many coordinates are compared at a time; by index, since nothing is
+// proved of what `iter_mut().zip(..)` writes.
+fn pass_cut(
     cut: u16,
-    waiting: &'a [u16; Desk::WAITING_WORDS],
+    waiting: &[u16; Desk::WAITING_WORDS],
     column: usize,
-    stripes: &'a mut [u16; FULL_MEMORY],
+    stripes: &mut [u16; FULL_MEMORY],
 )
-    requires { (column + full_memory ≤ length waiting.now) × (length waiting.now ≡ report_fields * full_memory) × (length stripes.old ≡ full_memory)
-        × ((i : ℕ) → i < full_memory → get_or stripes.old i 0 ≤ max_cuts) }
+    requires { (column + full_memory ≤ length waiting.now) × ((i : ℕ) → i < full_memory → get_or stripes.old i 0 ≤ max_cuts) }
     ensures { Passing cut waiting.now column stripes.old full_memory stripes.new }
 {
-    let mut i: usize = 0;
-    while i < FULL_MEMORY {
-        let before = stripes[i];
-        let x = waiting[column + i];
-        stripes[i] = further(before, cut, x);
-        i = i + 1;
+    for i in 0..FULL_MEMORY {
+        stripes[i] = further(stripes[i], cut, waiting[column + i]);
     }
 }
 
 // The stripe of every coordinate of a column, cut by cut.
-fn stripes_of<'a>(
+fn stripes_of(
     cuts: CutList,
-    waiting: &'a [u16; Desk::WAITING_WORDS],
+    waiting: &[u16; Desk::WAITING_WORDS],
     column: usize,
 ) -> [u16; FULL_MEMORY]
-    requires { (cuts.n ≤ max_cuts) × (column + full_memory ≤ length waiting.now) × (length waiting.now ≡ report_fields * full_memory) }
+    requires { (cuts.n ≤ max_cuts) × (column + full_memory ≤ length waiting.now) }
     ensures { Striped (cuts_in cuts) waiting.now column result }
 {
-    let n = cuts.n as usize;
     let mut stripes = [0u16; FULL_MEMORY];
-    let mut i: usize = 0;
-    while i < n {
-        let cut = cuts.at[i];
+    for &cut in &cuts.at[..cuts.n as usize] {
         pass_cut(cut, waiting, column, &mut stripes);
-        i = i + 1;
     }
     stripes
 }
 
 // The memory cells of all slots at once: the columns of places are read, and no other.
-pub fn boxes_of<'a>(
-    easts: CutList,
-    norths: CutList,
-    waiting: &'a [u16; Desk::WAITING_WORDS],
-) -> Stripes
-    requires { (easts.n ≤ max_cuts) × (norths.n ≤ max_cuts) × (length waiting.now ≡ report_fields * full_memory) }
+pub fn boxes_of(easts: CutList, norths: CutList, waiting: &[u16; Desk::WAITING_WORDS]) -> Stripes
+    requires { (easts.n ≤ max_cuts) × (norths.n ≤ max_cuts) }
     ensures { Boxed (cuts_by easts norths) (every_report waiting.now) result }
 {
-    let columns = stripes_of(easts, waiting, EASTS);
-    let rows = stripes_of(norths, waiting, NORTHS);
     Stripes {
-        easts: columns,
-        norths: rows,
+        easts: stripes_of(easts, waiting, EASTS),
+        norths: stripes_of(norths, waiting, NORTHS),
     }
 }
 

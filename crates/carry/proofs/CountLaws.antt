@@ -1,7 +1,7 @@
 -- What a record's answer counts are radios on, so that 16 bits hold it.
 use mathlib.Core.Bool.{Bool, true, false}
 use mathlib.Core.List.{List, [], ◌∷◌}
-use mathlib.Core.Option.{Option, none, some}
+use Rattle.std.specs.Prelude.{Option, None, Some}
 use mathlib.Core.Path.{◌≡◌, ap}
 use Prim.Native.Nat.{ℕ, suc, ◌*◌, ◌≤◌}
 use native.Mathlib.Omega.{arith}
@@ -26,8 +26,8 @@ keep_few true x l = omega arith
 keep_few false x l = omega arith
 
 row_few : (rect : Rect) (minute r : ℕ) (o : Option Fix) (l : Rows Place) → length (list_if rect minute r o l) ≤ suc (length l)
-row_few rect minute r none l = omega arith
-row_few rect minute r (some f) l = keep_few (listed rect minute f) (record { key = r; val = f.place }) l
+row_few rect minute r None l = omega arith
+row_few rect minute r (Some f) l = keep_few (listed rect minute f) (record { key = r; val = f.place }) l
 
 -- it names radios on, each once
 list_few : (rect : Rect) (minute : ℕ) (latest_of : ℕ → Option Fix) (l : Rows (Unit {0})) → length (list_of rect minute latest_of l) ≤ length l

@@ -15,7 +15,6 @@ use Rattle.lists.proofs.AmongLaws.{Each-Among}
 use Rattle.lists.proofs.RowsLaws.{Rising-filter}
 use Rattle.lists.proofs.SumsLaws.{sum-cons, sum_middle, length_middle, length-filter-not}
 use Rattle.lists.proofs.TestsLaws.{Each_middle}
-use Rattle.entries.specs.Entries.{table_with, table_words, rows_of}
 use Rattle.page.specs.declared.Chain.{Chain}
 use Rattle.page.specs.Buffer.{there, pages_of, chain_from, entries_on}
 use Rattle.rules.specs.Limits.{max_cells}
@@ -29,11 +28,12 @@ use Rattle.rules.proofs.RoundLaws.{Bounded_total}
 use Rattle.desk.specs.declared.Slot.{Slot}
 use Rattle.desk.specs.declared.Frame.{Frame}
 use Rattle.desk.specs.Held.{Directory, Grid, Memo, directory_in, grid_in}
-use Rattle.desk.specs.Layout.{no_slot, slot_fields, line_slots, cut_list_of, slot_of, directory_of, grid_of, memo_of}
+use Rattle.desk.specs.Layout.{no_slot, line_slots, cut_list_of, slot_of, directory_of, grid_of, memo_of}
 use Rattle.desk.specs.Laid.{LaidMemo}
-use Rattle.desk.specs.Views.{every_slot, slots_in, directory_with}
+use Rattle.desk.specs.Views.{slots_in, directory_with}
 use Rattle.desk.proofs.ReadLaws.{CellRead, cells_read}
-use Rattle.memo.specs.Memo.{lines_of, Whole}
+use Rattle.memo.specs.Memo.{lines_of, GoodMemo}
+use Rattle.sweep.specs.Sweep.{ReadableChain}
 use Rattle.directory.specs.Directory.{WholeDirectory}
 use Rattle.directory.proofs.CellLaws.{whole_size}
 use Rattle.directory.proofs.DirectoryLaws.{directory_whole, directory_count, directory_slots, directory_removed}
@@ -69,7 +69,7 @@ module _ {grid : Grid} {at : ℕ} {chain : List ℕ} {rows : Rows Fix} {memo : M
 
 -- ---- the neighbour
 
-module _ {frame : Frame} {rest : List ℕ} {d : Slot} {k : ℕ} {chain : List ℕ} {rows : Rows Fix} {memo : Memo} {b : List ℕ} (x : BeforeJoin frame rest d k chain rows memo b) where
+module _ {frame : Frame} {rest : List Slot} {d : Slot} {k : ℕ} {chain : List ℕ} {rows : Rows Fix} {memo : Memo} {b : List ℕ} (x : BeforeJoin frame rest d k chain rows memo b) where
   abbrev others : Directory
   others = directory_in (frame.cells - 1) rest
 
@@ -97,8 +97,8 @@ module _ {frame : Frame} {rest : List ℕ} {d : Slot} {k : ℕ} {chain : List �
       let n = directory_count cells x.out.rest_is in
       (directory_whole cells x.out.rest_is, omega (arith, n, x.stands.inside), omega (arith, n, cells_few))
 
-  pub near_reads : (k < max_cells) × (length rest ≡ slot_fields * max_cells)
-  near_reads = (omega (arith, x.stands.inside, cells_few), whole_size near_puts.0 near_puts.2)
+  pub near_reads : k < max_cells
+  near_reads = omega (arith, x.stands.inside, cells_few)
 
   paged : length m.chain ≡ pages_for (length m.entries)
   paged =
@@ -122,45 +122,33 @@ module _ {frame : Frame} {rest : List ℕ} {d : Slot} {k : ℕ} {chain : List �
   near_swept = sweepable b f.store.memo m read paged rowed.rising (omega (arith, few_stay, x.small))
 
   -- its slot
-  module _ {s : Slot} (is_slot : s ≡ get_or (every_slot rest) k no_slot) (other : Chain) (read_first : pages_of other ≡ chain_from pages b s.first) where
+  module _ {s : Slot} (is_slot : s ≡ get_or rest k no_slot) (other : Chain) (read_first : pages_of other ≡ chain_from pages b s.first) where
     pub slot_m : s ≡ slot_of m
     slot_m = is_slot ∙ x.stands.element
 
     from_first : pages_of other ≡ chain_from pages b (chain_head no_page m.chain)
     from_first = read_first ∙ ap (λ (y : Slot). chain_from pages b y.first) slot_m
 
-    pub near_asks : (table : List ℕ) → other.n ≤ pages → length table ≡ table_words
-        → (other.n ≤ pages) × Each (λ p. there b p ≡ true) (pages_of other) × Rising 0 (entries_on b (pages_of other)) × Whole memo × (memo.n ≤ line_slots) × Rising 0 (lines_of memo) × (length (swept_entries (lines_of memo) (entries_on b (pages_of other))) ≤ max_on)
-        × (length table ≡ table_words)
-    near_asks table n l = cell_asks near_swept other memo from_first x.midway.laid.memo_is table n (midway_lines x.midway) x.midway.mid.books.memo_rises l
+    pub near_asks : other.n ≤ pages → ReadableChain b other × GoodMemo memo × (length (swept_entries (lines_of memo) (entries_on b (pages_of other))) ≤ max_on)
+    near_asks n = cell_asks near_swept other memo from_first x.midway.laid.memo_is n (midway_lines x.midway) x.midway.mid.books.memo_rises
 
     pub other_is : pages_of other ≡ m.chain
     other_is = from_first ∙ near_swept.read
 
-    module _ (n : ℕ) (us : List ℕ) {after : Memo} (said : (rows_of (table_with n us) ≡ swept_entries (lines_of memo) (entries_on b (pages_of other))) × (n ≡ length (swept_entries (lines_of memo) (entries_on b (pages_of other)))) × (after ≡ memo_of (swept_memo (lines_of memo) (entries_on b (pages_of other)))) × (length us ≡ table_words)) where
-      abbrev stay : Rows Fix
-      stay = rows_of (table_with n us)
-
-      gives : (stay ≡ (swept f.store.memo m).entries) × (n ≡ length (swept f.store.memo m).entries) × (after ≡ memo_of (swept_memo f.store.memo m.entries)) × (length us ≡ table_words)
-      gives = cell_gives near_swept other memo from_first x.midway.laid.memo_is n us said
+    module _ {stay : Rows Fix} {after : Memo} (said : (stay ≡ swept_entries (lines_of memo) (entries_on b (pages_of other))) × (after ≡ memo_of (swept_memo (lines_of memo) (entries_on b (pages_of other))))) where
+      gives : (stay ≡ (swept f.store.memo m).entries) × (after ≡ memo_of (swept_memo f.store.memo m.entries))
+      gives = cell_gives near_swept other memo from_first x.midway.laid.memo_is said
 
       pub stays : stay ≡ swept_entries f.store.memo m.entries
       unfolding swept
       stays = gives.0
 
-      count_stays : n ≤ length m.entries
-      unfolding swept
-      count_stays = omega (arith, gives.1, few_stay)
-
-      pub near_merges : (count : ℕ) (table : List ℕ) → count ≡ length (rows_of (table_with count table)) → rows ≡ rows_of (table_with count table) → length table ≡ table_words
-          → (n + count ≤ max_on) × (length us ≡ table_words) × (length table ≡ table_words) × Rising 0 stay × Rising 0 (rows_of (table_with count table))
+      pub near_merges : (length stay + length rows ≤ max_on) × Rising 0 stay × Rising 0 rows
       unfolding swept_entries
-      near_merges count table c e l = (
-        omega (arith, count_stays, x.small, c, ap length e, ap length x.midway.entered),
-        said.3,
-        l,
+      near_merges = (
+        omega (arith, ap length stays, few_stay, x.small, ap length x.midway.entered),
         rw stays (Rising-filter (λ e. not (stale f.store.memo e)) 0 m.entries rowed.rising),
-        rw (← e, x.midway.entered) x.midway.mid.books.cells_rowed.0.rising,
+        rw x.midway.entered x.midway.mid.books.cells_rowed.0.rising,
       )
 
       abbrev pub near_joins : (all : Rows Fix) → all ≡ merge stay rows → BeforeJoinPages frame.free d chain s (pages_of other) all b
@@ -185,13 +173,10 @@ module _ {frame : Frame} {rest : List ℕ} {d : Slot} {k : ℕ} {chain : List �
         laid = x.midway.laid.in_grid.laid;
       }
 
-      pub near_fits : (all : Rows Fix) → all ≡ merge stay rows → length all ≤ max_on
-      near_fits all e = omega (arith, few_joined x.midway.mid b x.midway.laid.in_grid.laid m among x.small, x.small, ap length (e ∙ ap₂ merge stays x.midway.entered))
-
       noted : after ≡ memo_of (swept_memo f.store.memo m.entries)
-      noted = gives.2
+      noted = gives.1
 
-      pub near_returns : {ends : Settled} {b' : List ℕ} {vs : List ℕ} {r : Frame} → AfterJoinPages f m ends b'
+      pub near_returns : {ends : Settled} {b' : List ℕ} {vs : List Slot} {r : Frame} → AfterJoinPages f m ends b'
           → directory_in (frame.cells - 1) vs ≡ directory_with (remove_at (slots_in (directory_in (frame.cells - 1) rest)) k ++ (joined_slot d s ends.first ∷ []))
           → r ≡ with_count (frame.cells - 1) ends.free frame
           → LaidMemo (joined_with f m) (grid_in r vs) after b'

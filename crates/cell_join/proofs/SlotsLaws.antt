@@ -9,7 +9,7 @@ use Rattle.desk.specs.Held.{directory_in}
 use Rattle.desk.specs.Views.{slots_in, directory_with}
 use Rattle.cell_last.proofs.CellsLaws.{slots_with}
 
-pub joined_return : (n : ℕ) (ws : List ℕ) {us vs : List ℕ} (at : ℕ) (s t : Slot) → at < n → directory_in (n - 1) us ≡ directory_with (remove_at (slots_in (directory_in n ws)) at) → s ≡ t
+pub joined_return : (n : ℕ) (ws : List Slot) {us vs : List Slot} (at : ℕ) (s t : Slot) → at < n → directory_in (n - 1) us ≡ directory_with (remove_at (slots_in (directory_in n ws)) at) → s ≡ t
     → directory_in (n - 1 + 1) vs ≡ directory_with (slots_in (directory_in (n - 1) us) ++ (s ∷ []))
     → directory_in n vs ≡ directory_with (remove_at (slots_in (directory_in n ws)) at ++ (t ∷ []))
 joined_return n ws {vs = vs} at s t here is_out g e =

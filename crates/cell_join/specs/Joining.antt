@@ -45,9 +45,9 @@ pub record AfterJoinPages (f : Flushed) (m : Cell) (ends : Settled) (bytes : Lis
   pub laid : Laid (joined_with f m) bytes
 
 -- d's slot is taken out of the round, and the cell at place k of the others is to be joined with it: few are together
-pub record BeforeJoin (frame : Frame) (rest : List ℕ) (d : Slot) (k : ℕ) (chain : List ℕ) (rows : Rows Fix) (memo : Memo) (bytes : List ℕ) : Type 0 where
+pub record BeforeJoin (frame : Frame) (rest : List Slot) (d : Slot) (k : ℕ) (chain : List ℕ) (rows : Rows Fix) (memo : Memo) (bytes : List ℕ) : Type 0 where
   -- the directory's array as it was, with d at this place of the round
-  pub words : List ℕ
+  pub words : List Slot
   pub at : ℕ
   pub midway : BeforeReshape (grid_in frame words) at chain rows memo bytes
   pub out : SlotOut frame rest d midway.d (midway.before ++ midway.after)

@@ -1,45 +1,41 @@
 // A cell is joined with a neighbour: this is swept, and all entries go on the pages of the one that survives.
 #![tactic(auto)]
 
-ghost use Rattle.std.specs.Prelude.{◌≡◌, [], ◌∷◌, ◌++◌, ◌<◌, ◌≤◌, length};
-ghost use Rattle.terms.specs.Terms.{pages};
+ghost use Rattle.std.specs.Prelude.{◌≡◌, [], ◌∷◌, ◌++◌, ◌<◌, ◌≤◌};
 ghost use Rattle.lists.specs.Parts.{remove_at};
-ghost use Rattle.entries.specs.Entries.{table_with, table_words, rows_of};
 ghost use Rattle.page.specs.Buffer.{pages_of};
 ghost use Rattle.rules.specs.Limits.{max_cells};
 ghost use Rattle.rules.specs.Flush.{joined_with};
 ghost use Rattle.desk.specs.Laid.{LaidMemo};
 ghost use Rattle.desk.specs.Views.{slots_in, directory_with};
+ghost use Rattle.desk.specs.Held.{directory_in};
 ghost use Rattle.directory.specs.Directory.{WholeDirectory};
 ghost use Rattle.join.specs.Join.{joined_slot};
-ghost use Rattle.desk.specs.Held.{directory_in, grid_in, memo_in};
-ghost use Rattle.cell_last.specs.Settling.{HandFits};
+ghost use Rattle.cell_last.specs.Settling.{HandFits, desk_grid, desk_memo, CellsChanged};
 ghost use Rattle.cell_join.specs.Joining.{BeforeJoinPages, AfterJoinPages, BeforeJoin};
 
-use cell_last::Reshaped;
-use desk::{Desk, Frame, Slot};
-use entries::TABLE_WORDS;
+use desk::{Desk, Slot};
+use entries::Table;
 use page::Chain;
 use settle::Settled;
 
 // d's number is the smaller: all entries go on its pages, and the neighbour's are given up.
 fn join_onto_d(
-    buffer: &mut [u8],
+    pages: &mut [u8],
     free: u16,
     d: Slot,
     chain: Chain,
     m: Slot,
     other: Chain,
-    table: &[u16; TABLE_WORDS],
-    count: usize,
+    table: &Table,
 ) -> Settled
-    requires { HandFits chain count table.now × (other.n ≤ pages) × (d.number < m.number)
-        × BeforeJoinPages free d (pages_of chain) m (pages_of other) (rows_of (table_with count table.now)) buffer.old }
-    ensures { (x : BeforeJoinPages free d (pages_of chain) m (pages_of other) (rows_of (table_with count table.now)) buffer.old)
-        → AfterJoinPages x.flushed x.neighbour result buffer.new }
+    requires { HandFits chain × HandFits other × (d.number < m.number)
+        × BeforeJoinPages free d (pages_of chain) m (pages_of other) table.now pages.old }
+    ensures { (x : BeforeJoinPages free d (pages_of chain) m (pages_of other) table.now pages.old)
+        → AfterJoinPages x.flushed x.neighbour result pages.new }
 {
-    let settled = settle::settle(buffer, chain, free, d.number, table, count);
-    let front = settle::give_up(buffer, other, settled.free, 0);
+    let settled = settle::settle(pages, chain, free, d.number, table.as_slice());
+    let front = settle::give_up(pages, other, settled.free, 0);
     Settled {
         first: settled.first,
         free: front,
@@ -48,55 +44,46 @@ fn join_onto_d(
 
 // The neighbour's is: d's pages are given up, and all entries go on the neighbour's.
 fn join_onto_m(
-    buffer: &mut [u8],
+    pages: &mut [u8],
     free: u16,
     d: Slot,
     chain: Chain,
     m: Slot,
     other: Chain,
-    table: &[u16; TABLE_WORDS],
-    count: usize,
+    table: &Table,
 ) -> Settled
-    requires { HandFits chain count table.now × (other.n ≤ pages) × (m.number ≤ d.number)
-        × BeforeJoinPages free d (pages_of chain) m (pages_of other) (rows_of (table_with count table.now)) buffer.old }
-    ensures { (x : BeforeJoinPages free d (pages_of chain) m (pages_of other) (rows_of (table_with count table.now)) buffer.old)
-        → AfterJoinPages x.flushed x.neighbour result buffer.new }
+    requires { HandFits chain × HandFits other × (m.number ≤ d.number)
+        × BeforeJoinPages free d (pages_of chain) m (pages_of other) table.now pages.old }
+    ensures { (x : BeforeJoinPages free d (pages_of chain) m (pages_of other) table.now pages.old)
+        → AfterJoinPages x.flushed x.neighbour result pages.new }
 {
-    let front = settle::give_up(buffer, chain, free, 0);
-    settle::settle(buffer, other, front, m.number, table, count)
+    let front = settle::give_up(pages, chain, free, 0);
+    settle::settle(pages, other, front, m.number, table.as_slice())
 }
 
 // "The smaller number survives .. pages of the other are freed."
 fn join_pages(
-    buffer: &mut [u8],
+    pages: &mut [u8],
     free: u16,
     d: Slot,
     chain: Chain,
     m: Slot,
     other: Chain,
-    table: &[u16; TABLE_WORDS],
-    count: usize,
+    table: &Table,
 ) -> Settled
-    requires { HandFits chain count table.now × (other.n ≤ pages)
-        × BeforeJoinPages free d (pages_of chain) m (pages_of other) (rows_of (table_with count table.now)) buffer.old }
-    ensures { (x : BeforeJoinPages free d (pages_of chain) m (pages_of other) (rows_of (table_with count table.now)) buffer.old)
-        → AfterJoinPages x.flushed x.neighbour result buffer.new }
+    requires { HandFits chain × HandFits other
+        × BeforeJoinPages free d (pages_of chain) m (pages_of other) table.now pages.old }
+    ensures { (x : BeforeJoinPages free d (pages_of chain) m (pages_of other) table.now pages.old)
+        → AfterJoinPages x.flushed x.neighbour result pages.new }
 {
     if d.number < m.number {
-        return join_onto_d(buffer, free, d, chain, m, other, table, count);
+        return join_onto_d(pages, free, d, chain, m, other, table);
     }
-    join_onto_m(buffer, free, d, chain, m, other, table, count)
+    join_onto_m(pages, free, d, chain, m, other, table)
 }
 
 // The others without the neighbour at place k, and the joined cell last: as many as before.
-fn joined_cells<'a>(
-    rest: &'a mut [u16; Desk::CELL_WORDS],
-    n: u16,
-    k: usize,
-    d: Slot,
-    m: Slot,
-    first: u16,
-)
+fn joined_cells(rest: &mut [Slot; Desk::MAX_CELLS], n: u16, k: usize, d: Slot, m: Slot, first: u16)
     requires { WholeDirectory (directory_in n rest.old) × (k < n) × (n ≤ max_cells) }
     ensures { directory_in n rest.new
         ≡ directory_with (remove_at (slots_in (directory_in n rest.old)) k ++ (joined_slot d m first ∷ [])) }
@@ -107,36 +94,22 @@ fn joined_cells<'a>(
 }
 
 // "sweep that cell and join it": d's slot is taken out of the round, and the neighbour stands at place k of the others. The frame still counts d.
-pub fn join(
-    buffer: &mut [u8],
-    frame: Frame,
-    rest: &mut [u16; Desk::CELL_WORDS],
-    d: Slot,
-    k: usize,
-    chain: Chain,
-    table: &mut [u16; TABLE_WORDS],
-    count: usize,
-    words: &mut [u16; Desk::MEMO_WORDS],
-    lines: u16,
-) -> Reshaped
-    requires { (chain.n ≤ pages) × (count ≡ length (rows_of (table_with count table.old)))
-        × BeforeJoin frame rest.old d k (pages_of chain) (rows_of (table_with count table.old)) (memo_in lines words.old) buffer.old
-        × (length table.old ≡ table_words) }
-    ensures { (x : BeforeJoin frame rest.old d k (pages_of chain) (rows_of (table_with count table.old))
-        (memo_in lines words.old) buffer.old)
-        → LaidMemo (joined_with x.midway.flushed x.neighbour) (grid_in result.frame rest.new) (memo_in result.lines words.new)
-        buffer.new }
+pub fn join(desk: &mut Desk, pages: &mut [u8], d: Slot, k: usize, chain: Chain, table: &mut Table)
+    requires { HandFits chain
+        × BeforeJoin desk.old.parts.frame desk.old.cells d k (pages_of chain) table.old (desk_memo desk.old) pages.old }
+    ensures kept { CellsChanged desk.old desk.new }
+    ensures laid { (x : BeforeJoin desk.old.parts.frame desk.old.cells d k (pages_of chain) table.old (desk_memo desk.old) pages.old)
+        → LaidMemo (joined_with x.midway.flushed x.neighbour) (desk_grid desk.new) (desk_memo desk.new) pages.new }
 {
-    let m = desk::slot_at(rest, k);
-    let other = page_chain::read_chain(buffer, m.first);
-    let mut stays = [0u16; TABLE_WORDS];
-    let swept = sweep::sweep_chain(buffer, other, words, lines, &mut stays);
-    let all = join::merged(&stays, swept.n, table, count);
-    let ends = join_pages(buffer, frame.free, d, chain, m, other, table, all);
+    let frame = desk.parts.frame;
+    let m = desk.cells[k];
+    let other = page_chain::read_chain(pages, m.first);
+    let mut stays = Table::new();
+    let lines = sweep::sweep_chain(pages, other, &mut desk.memo, desk.parts.lines, &mut stays);
+    join::merge(&stays, table);
+    let ends = join_pages(pages, frame.free, d, chain, m, other, table);
     let n = frame.cells - 1;
-    joined_cells(rest, n, k, d, m, ends.first);
-    Reshaped {
-        frame: cell_last::with_cells(frame, n, ends.free),
-        lines: swept.lines,
-    }
+    joined_cells(&mut desk.cells, n, k, d, m, ends.first);
+    desk.parts.frame = cell_last::with_cells(frame, n, ends.free);
+    desk.parts.lines = lines;
 }

@@ -1,7 +1,7 @@
 -- A cell whose entries are at hand is settled and goes to the end of the round: what the code asks for that, and what it leaves.
 use mathlib.Core.List.{List, [], ◌∷◌, ◌++◌, map, append-nil, map-append}
 use mathlib.Core.Path.{◌≡◌, refl, sym, ap, ap₂, subst, ◌∙◌}
-use Prim.Native.Nat.{ℕ, suc, ◌+◌, ◌-◌, ◌*◌, ◌≤◌, ◌<◌}
+use Prim.Native.Nat.{ℕ, suc, ◌+◌, ◌-◌, ◌≤◌, ◌<◌}
 use native.Mathlib.Omega.{arith}
 use lib.ListN.{length, get_or, drop, length-map, length-append}
 use lib.Seq.{take_at}
@@ -10,7 +10,8 @@ use Rattle.lists.specs.Chains.{chain_head}
 use Rattle.lists.specs.Parts.{remove_at}
 use Rattle.lists.specs.Rows.{Rows}
 use Rattle.lists.specs.Tests.{Each}
-use Rattle.entries.specs.Entries.{table_with, table_words, rows_of}
+use Rattle.entries.specs.declared.Entry.{Entry}
+use Rattle.entries.specs.Entries.{rows_of}
 use Rattle.page.specs.Buffer.{buffer_bytes, pages_of, chain_from, at_none, end_from}
 use Rattle.page.specs.declared.Chain.{Chain}
 use Rattle.rules.specs.Limits.{max_cells}
@@ -19,12 +20,12 @@ use Rattle.rules.specs.Store.{Cell, Store, with_cuts, with_cells, with_free, pag
 use Rattle.desk.specs.declared.Slot.{Slot}
 use Rattle.desk.specs.declared.Frame.{Frame}
 use Rattle.desk.specs.Held.{Directory, Grid, directory_in, grid_in}
-use Rattle.desk.specs.Layout.{slotted, slot_fields, slot_words, no_slot, cut_list_of, slot_of, directory_of, grid_of, At, cells_leaves, free_leaves, store_leaves}
-use Rattle.desk.specs.Views.{every_slot, slots_in, directory_with, edges_of}
+use Rattle.desk.specs.Layout.{slotted, no_slot, cut_list_of, slot_of, directory_of, grid_of, At, cells_leaves, free_leaves, store_leaves}
+use Rattle.desk.specs.Views.{slots_in, directory_with, edges_of}
 use Rattle.desk.specs.Laid.{LaidGrid}
 use Rattle.desk.proofs.UniqueLaws.{take_slots}
 use Rattle.directory.specs.Directory.{WholeDirectory}
-use Rattle.directory.proofs.CellLaws.{slots_at, whole_size}
+use Rattle.directory.proofs.CellLaws.{slots_at}
 use Rattle.settle.specs.declared.Settled.{Settled}
 use Rattle.settle.specs.Settle.{written, settled_leaves, settled_ends}
 use Rattle.settle.proofs.SettleLaws.{Apart, Apart_cell, settled_Laid, settle_asks, settle_says}
@@ -48,7 +49,7 @@ slots_of cells = take_slots cells
 
 pub with_slots : (cells : List Cell) → directory_with (map slot_of cells) ≡ directory_of cells
 unfolding directory_with directory_of
-with_slots cells = ap (λ (n : ℕ). directory_in n (slot_words (slotted max_cells no_slot (map slot_of cells)))) (length-map cells slot_of)
+with_slots cells = ap (λ (n : ℕ). directory_in n (slotted max_cells no_slot (map slot_of cells))) (length-map cells slot_of)
 
 whole_of : (cells : List Cell) → WholeDirectory (directory_of cells)
 whole_of cells = sym (with_slots cells) ∙ ap directory_with (sym (slots_of cells))
@@ -127,29 +128,25 @@ module _ {grid : Grid} {at : ℕ} {chain : List ℕ} {rows : Rows Fix} {b : List
   pub loose_takes : WholeDirectory grid.cells × (at < grid.cells.n) × (grid.cells.n ≤ max_cells)
   loose_takes = (rw loose_cells (whole_of (x.before ++ (x.old ∷ x.after))), loose_in, omega (arith, loose_count, loose_length))
 
-  -- the array that is lent
-  pub loose_reads : (at < max_cells) × (length grid.cells.words ≡ slot_fields * max_cells)
-  loose_reads = (loose_in_slots, whole_size loose_takes.0 loose_takes.2)
-
   -- its slot taken out
-  pub slot_out : {d : Slot} {vs : List ℕ} (frame : Frame) → frame.cells ≡ grid.cells.n → d ≡ get_or (every_slot grid.cells.words) at no_slot
+  pub slot_out : {d : Slot} {vs : List Slot} (frame : Frame) → frame.cells ≡ grid.cells.n → d ≡ get_or grid.cells.slots at no_slot
       → directory_in (grid.cells.n - 1) vs ≡ directory_with (remove_at (slots_in grid.cells) at) → SlotOut frame vs d x.old rest
   slot_out {vs = vs} frame n e f = record {
     slot_is = e ∙ sym (slots_at grid.cells at loose_in) ∙ loose_slot;
     rest_is = ap (λ (k : ℕ). directory_in (k - 1) vs) n ∙ f ∙ loose_rest;
   }
 
-abbrev pub settles_out : {frame : Frame} {ws : List ℕ} {at : ℕ} {chain : List ℕ} {rows : Rows Fix} {b : List ℕ} (x : BeforeSettle (grid_in frame ws) at chain rows b) {d : Slot} {vs : List ℕ}
-    → d ≡ get_or (every_slot ws) at no_slot → directory_in (frame.cells - 1) vs ≡ directory_with (remove_at (slots_in (directory_in frame.cells ws)) at) → BeforeLast frame vs d chain rows b
+abbrev pub settles_out : {frame : Frame} {ws : List Slot} {at : ℕ} {chain : List ℕ} {rows : Rows Fix} {b : List ℕ} (x : BeforeSettle (grid_in frame ws) at chain rows b) {d : Slot} {vs : List Slot}
+    → d ≡ get_or ws at no_slot → directory_in (frame.cells - 1) vs ≡ directory_with (remove_at (slots_in (directory_in frame.cells ws)) at) → BeforeLast frame vs d chain rows b
 settles_out {frame} {ws} {at} x e f = record { words = ws; at = at; settles = x; out = slot_out x frame refl e f }
 
-pub loose_settles : (chain : Chain) (n : ℕ) (table : List ℕ) {grid : Grid} {at : ℕ} {b : List ℕ} → BeforeSettle grid at (pages_of chain) (rows_of (table_with n table)) b → HandFits chain n table
-    → (length b ≡ buffer_bytes) × (n ≤ max_on) × (length table ≡ table_words) × (chain.n ≤ pages) × Each (λ p. p < pages) (pages_of chain) × (end_from pages b grid.free ≡ at_none)
-    × (pages_for (length (rows_of (table_with n table))) ≤ length (pages_of chain) + length (chain_from pages b grid.free))
-loose_settles chain n table x f = let q = loose_asks x in (x.laid.laid.size, f.1, f.2, f.0, q.0, q.1, q.2)
+pub loose_settles : (chain : Chain) (es : List Entry) {rows : Rows Fix} {grid : Grid} {at : ℕ} {b : List ℕ} → BeforeSettle grid at (pages_of chain) rows b → HandFits chain → rows_of es ≡ rows → length rows ≤ max_on
+    → (length b ≡ buffer_bytes) × (length (rows_of es) ≤ max_on) × (chain.n ≤ pages) × Each (λ p. p < pages) (pages_of chain) × (end_from pages b grid.free ≡ at_none)
+    × (pages_for (length (rows_of es)) ≤ length (pages_of chain) + length (chain_from pages b grid.free))
+loose_settles chain es x f shown few = let q = loose_asks x in rw shown (x.laid.laid.size, few, f, q.0, q.1, q.2)
 
 -- a cell that is taken out, and then put last
-module _ {frame : Frame} {rest : List ℕ} {d : Slot} {chain : List ℕ} {rows : Rows Fix} {b : List ℕ} (x : BeforeLast frame rest d chain rows b) where
+module _ {frame : Frame} {rest : List Slot} {d : Slot} {chain : List ℕ} {rows : Rows Fix} {b : List ℕ} (x : BeforeLast frame rest d chain rows b) where
   abbrev s : Store
   s = x.settles.store
 
@@ -165,7 +162,7 @@ module _ {frame : Frame} {rest : List ℕ} {d : Slot} {chain : List ℕ} {rows :
   pub hand_puts : WholeDirectory (directory_in (frame.cells - 1) rest) × (frame.cells - 1 < max_cells)
   hand_puts = (subst WholeDirectory (sym x.out.rest_is) (whole_of others), omega (arith, hand_some, (loose_takes x.settles).2))
 
-  pub hand_laid : {b' : List ℕ} {e : Settled} {moved : Slot} {vs : List ℕ} {r : Frame}
+  pub hand_laid : {b' : List ℕ} {e : Settled} {moved : Slot} {vs : List Slot} {r : Frame}
       → b' ≡ written b (settled_leaves d.number chain (chain_from pages b frame.free) rows) → e ≡ settled_ends chain (chain_from pages b frame.free) rows
       → moved ≡ record { number = d.number; west = d.west; east = d.east; south = d.south; north = d.north; first = e.first }
       → directory_in (frame.cells - 1 + 1) vs ≡ directory_with (slots_in (directory_in (frame.cells - 1) rest) ++ (moved ∷ []))
@@ -192,8 +189,3 @@ module _ {frame : Frame} {rest : List ℕ} {d : Slot} {chain : List ℕ} {rows :
         grid_is = ap (λ (y : Frame). grid_in y vs) is_r ∙ (λ t. record { easts = easts t; norths = norths t; cells = all t; free = front t });
         laid = rw says.0 (settled_Laid cell apart (moved_last s others cell) others [] (append-nil others) refl refl);
       }
-
-pub hand_settles : (chain : Chain) (n : ℕ) (table : List ℕ) {frame : Frame} {rest : List ℕ} {d : Slot} {b : List ℕ} → BeforeLast frame rest d (pages_of chain) (rows_of (table_with n table)) b → HandFits chain n table
-    → (length b ≡ buffer_bytes) × (n ≤ max_on) × (length table ≡ table_words) × (chain.n ≤ pages) × Each (λ p. p < pages) (pages_of chain) × (end_from pages b frame.free ≡ at_none)
-    × (pages_for (length (rows_of (table_with n table))) ≤ length (pages_of chain) + length (chain_from pages b frame.free))
-hand_settles chain n table x = loose_settles chain n table x.settles

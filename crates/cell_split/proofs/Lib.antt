@@ -1,4 +1,3 @@
-pub mod CutLaws
 pub mod SlotsLaws
 pub mod LaidLaws
 pub mod SplitLaws

@@ -9,14 +9,14 @@ use Rattle.rules.specs.Cut.{Cut}
 use Rattle.desk.specs.declared.Slot.{Slot}
 use Rattle.desk.specs.Held.{directory_in}
 use Rattle.desk.specs.Layout.{no_slot}
-use Rattle.desk.specs.Views.{every_slot, slots_in, directory_with}
+use Rattle.desk.specs.Views.{slots_in, directory_with}
 use Rattle.directory.specs.Directory.{WholeDirectory}
 use Rattle.directory.proofs.CellLaws.{slots_at}
 use Rattle.split.specs.Split.{low_slot, high_slot}
 use Rattle.cell_last.proofs.CellsLaws.{slots_with, whole_with}
 
 -- one is taken out
-module _ (n : ℕ) (ws : List ℕ) {us vs : List ℕ} (at : ℕ) (here : at < n) (is_out : directory_in (n - 1) us ≡ directory_with (remove_at (slots_in (directory_in n ws)) at))
+module _ (n : ℕ) (ws : List Slot) {us vs : List Slot} (at : ℕ) (here : at < n) (is_out : directory_in (n - 1) us ≡ directory_with (remove_at (slots_in (directory_in n ws)) at))
     (s : Slot) (is_last : directory_in (n - 1 + 1) vs ≡ directory_with (slots_in (directory_in (n - 1) us) ++ (s ∷ []))) where
   -- and another put last
   last_with : directory_in n vs ≡ directory_with (slots_in (directory_in (n - 1) us) ++ (s ∷ []))
@@ -31,7 +31,7 @@ module _ (n : ℕ) (ws : List ℕ) {us vs : List ℕ} (at : ℕ) (here : at < n)
   last_puts = whole_with (slots_in (directory_in (n - 1) us) ++ (s ∷ [])) last_with
 
   -- d's two sides
-  pub sides_return : (cut : Cut) (number first high_first : ℕ) {d h : Slot} {ts : List ℕ} → d ≡ get_or (every_slot ws) at no_slot → s ≡ low_slot cut d first → h ≡ high_slot cut d number high_first
+  pub sides_return : (cut : Cut) (number first high_first : ℕ) {d h : Slot} {ts : List Slot} → d ≡ get_or ws at no_slot → s ≡ low_slot cut d first → h ≡ high_slot cut d number high_first
       → directory_in (n + 1) ts ≡ directory_with (slots_in (directory_in n vs) ++ (h ∷ []))
       → directory_in (n + 1) ts ≡ directory_with ((remove_at (slots_in (directory_in n ws)) at ++ (low_slot cut (get_or (slots_in (directory_in n ws)) at no_slot) first ∷ [])) ++ (high_slot cut (get_or (slots_in (directory_in n ws)) at no_slot) number high_first ∷ []))
   sides_return cut number first high_first {d} read e g k =

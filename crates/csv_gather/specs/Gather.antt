@@ -1,10 +1,8 @@
 -- A file's lines gathered (02, Job 6): "Lines are taken by rising minute, then radio, then line.", and no more than 513 can be.
-use Rattle.std.specs.Prelude.{List, [], ◌≡◌, ℕ, take}
+use Rattle.std.specs.Prelude.{List, [], ℕ, take}
 use Rattle.csv_grammar.specs.Csv.{Listed, File, lines, bad, file_read}
 use Rattle.csv_grammar.specs.Order.{sort_all}
-use Rattle.csv_order.specs.Table.{table_lines, listed_in, Table}
-use Rattle.csv_gather.specs.declared.Gathered.{Gathered}
-use Rattle.csv_gather.specs.declared.Gathered.TheVariants.{Lines, Bad}
+use Rattle.csv_order.specs.Table.{table_lines}
 
 -- the lines that may be taken, or the number of the first bad one
 pub data Taken : Type 0 where
@@ -21,8 +19,3 @@ gather = gather_among []
 
 unfoldable pub gather_file : List ℕ → Taken
 gather_file file = gather (file_read file)
-
--- this is in the table, or told
-abbrev pub HasGathered : Taken → List ℕ → Gathered → Type 0
-HasGathered t words (Lines n) = Table n words × (t ≡ least (listed_in n words))
-HasGathered t words (Bad line) = t ≡ wrong line

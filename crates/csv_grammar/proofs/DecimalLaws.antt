@@ -2,7 +2,7 @@
 use mathlib.Core.Path.{◌≡◌, refl, ap, ◌∙◌}
 use mathlib.Core.Bool.{true}
 use mathlib.Core.List.{List, [], ◌∷◌, ◌++◌, append_assoc}
-use mathlib.Core.Option.{some}
+use Rattle.std.specs.Prelude.{Some}
 use Prim.Native.Nat.{ℕ, zero, suc, ◌+◌, ◌*◌, ◌/◌, ◌%◌, ◌≤◌, ◌<◌}
 use native.Mathlib.Omega.{arith}
 use lib.Dec.{ltb}
@@ -48,7 +48,7 @@ digits_after_digit : (v n : ℕ) (l : List ℕ) → n < 10 → digits_after v ((
 unfolding digits_after
 digits_after_digit v n l h = rw (is_digit_digit n h) (ap (λ (k : ℕ). digits_after k l) (omega arith))
 
-plain_number_digit : (n : ℕ) (l : List ℕ) → n < 10 → plain_number ((digit_zero + n) ∷ l) ≡ some (digits_after 0 ((digit_zero + n) ∷ l))
+plain_number_digit : (n : ℕ) (l : List ℕ) → n < 10 → plain_number ((digit_zero + n) ∷ l) ≡ Some (digits_after 0 ((digit_zero + n) ∷ l))
 unfolding plain_number
 plain_number_digit n l h = rw (is_digit_digit n h)
 
@@ -67,7 +67,7 @@ digits_after-digits_in (suc d) n l h =
     ∙ ap (λ (k : ℕ). digits_after k l) (omega arith)))
 
 -- there is one at least
-plain_number-digits_in : (d n : ℕ) (l : List ℕ) → plain_number (digits_in (suc d) n ++ l) ≡ some (digits_after 0 (digits_in (suc d) n ++ l))
+plain_number-digits_in : (d n : ℕ) (l : List ℕ) → plain_number (digits_in (suc d) n ++ l) ≡ Some (digits_after 0 (digits_in (suc d) n ++ l))
 unfolding digits_in
 plain_number-digits_in zero n l =
     by_cases (ltb n 10)
@@ -82,9 +82,9 @@ pub digits_after-decimal : (n : ℕ) (l : List ℕ) → n ≤ max_minute → dig
 unfolding decimal
 digits_after-decimal n l h = digits_after-digits_in 10 n l (omega arith)
 
-pub plain_number-decimal : (n : ℕ) (l : List ℕ) → n ≤ max_minute → plain_number (decimal n ++ l) ≡ some (digits_after n l)
+pub plain_number-decimal : (n : ℕ) (l : List ℕ) → n ≤ max_minute → plain_number (decimal n ++ l) ≡ Some (digits_after n l)
 unfolding decimal
-plain_number-decimal n l h = plain_number-digits_in 9 n l ∙ ap some (digits_after-decimal n l h)
+plain_number-decimal n l h = plain_number-digits_in 9 n l ∙ ap Some (digits_after-decimal n l h)
 
 -- ---- how long
 

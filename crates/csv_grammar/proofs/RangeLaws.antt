@@ -2,7 +2,7 @@
 use mathlib.Core.Path.{◌≡◌, refl, ap}
 use mathlib.Core.Bool.{Bool, true, false, cond}
 use mathlib.Core.List.{List, [], ◌∷◌, map}
-use mathlib.Core.Option.{Option, none, some}
+use Rattle.std.specs.Prelude.{Option, None, Some}
 use Prim.Native.Nat.{ℕ, zero, suc, ◌+◌, ◌-◌, ◌*◌, ◌≤◌, ◌<◌}
 use native.Mathlib.Omega.{arith}
 use lib.Dec.{eqb, leb}
@@ -15,23 +15,23 @@ use Rattle.csv_grammar.specs.Csv.{comma, digit_zero, and_then, after_byte, after
 
 -- ---- what is read takes bytes
 
-and_then-some {ℓ} : {A B : Type 0} {P : Type ℓ} (o : Option A) (next : A → Option B) (b : B) → and_then o next ≡ some b → ((a : A) → o ≡ some a → next a ≡ some b → P) → P
+and_then-some {ℓ} : {A B : Type 0} {P : Type ℓ} (o : Option A) (next : A → Option B) (b : B) → and_then o next ≡ Some b → ((a : A) → o ≡ Some a → next a ≡ Some b → P) → P
 unfolding and_then
-and_then-some none next b e k = none-some e
-and_then-some (some a) next b e k = k a refl e
+and_then-some None next b e k = none-some e
+and_then-some (Some a) next b e k = k a refl e
 
-cond-some {ℓ} : {A : Type 0} {P : Type ℓ} (t : Bool) (o : Option A) (a : A) → cond t o none ≡ some a → (t ≡ true → o ≡ some a → P) → P
+cond-some {ℓ} : {A : Type 0} {P : Type ℓ} (t : Bool) (o : Option A) (a : A) → cond t o None ≡ Some a → (t ≡ true → o ≡ Some a → P) → P
 cond-some true o a e k = k refl e
 cond-some false o a e k = none-some e
 
 -- what is left has no more bytes than there were
 abbrev NoLonger : (List ℕ → Option (List ℕ)) → Type 0
-NoLonger after = (l rest : List ℕ) → after l ≡ some rest → length rest ≤ length l
+NoLonger after = (l rest : List ℕ) → after l ≡ Some rest → length rest ≤ length l
 
-after_byte_takes : (b : ℕ) (l rest : List ℕ) → after_byte b l ≡ some rest → length rest < length l
+after_byte_takes : (b : ℕ) (l rest : List ℕ) → after_byte b l ≡ Some rest → length rest < length l
 unfolding after_byte
 after_byte_takes b [] rest e = none-some e
-after_byte_takes b (x ∷ l) rest e = cond-some (eqb b x) (some l) rest e (λ t s. let z : l ≡ rest = cc in omega (arith, ap length z))
+after_byte_takes b (x ∷ l) rest e = cond-some (eqb b x) (Some l) rest e (λ t s. let z : l ≡ rest = cc in omega (arith, ap length z))
 
 after_byte-NoLonger : (b : ℕ) → NoLonger (after_byte b)
 after_byte-NoLonger b l rest e = omega (arith, after_byte_takes b l rest e)
@@ -56,7 +56,7 @@ digits_after_NoLonger v (b ∷ l) =
     (λ t. rw t (omega (arith, digits_after_NoLonger (v * 10 + (b - digit_zero)) l)))
     (λ t. rw t (omega arith))
 
-plain_number_takes : (l : List ℕ) (n : Number) → plain_number l ≡ some n → length n.rest < length l
+plain_number_takes : (l : List ℕ) (n : Number) → plain_number l ≡ Some n → length n.rest < length l
 unfolding plain_number digits_after
 plain_number_takes [] n e = none-some e
 plain_number_takes (b ∷ l) n e =
@@ -65,7 +65,7 @@ plain_number_takes (b ∷ l) n e =
     rw (← z) (omega (arith, digits_after_NoLonger (0 * 10 + (b - digit_zero)) l)))
     (λ t. none-some (rw t at e))
 
-quoted_number_takes : (l : List ℕ) (n : Number) → quoted_number l ≡ some n → length n.rest < length l
+quoted_number_takes : (l : List ℕ) (n : Number) → quoted_number l ≡ Some n → length n.rest < length l
 unfolding quoted_number
 quoted_number_takes l n e =
     and_then-some _ _ n e (λ inner e₁ f₁.
@@ -73,7 +73,7 @@ quoted_number_takes l n e =
     and_then-some _ _ n f₂ (λ rest e₃ f₃.
     rw (← some_injective f₃) (omega (arith, after_byte_takes _ l inner e₁, plain_number_takes inner m e₂, after_byte_takes _ m.rest rest e₃)))))
 
-number_takes : (l : List ℕ) (n : Number) → number l ≡ some n → length n.rest < length l
+number_takes : (l : List ℕ) (n : Number) → number l ≡ Some n → length n.rest < length l
 unfolding number
 number_takes l n e = or_else_cases (plain_number l) (quoted_number l) n e (plain_number_takes l n) (quoted_number_takes l n)
 
@@ -83,7 +83,7 @@ record FieldRead (least most : ℕ) (l : List ℕ) (n : Number) : Type 0 where
   high : n.value ≤ most
   takes : length n.rest < length l
 
-field_read : (least most : ℕ) (behind : List ℕ → Option (List ℕ)) (l : List ℕ) (n : Number) → NoLonger behind → field least most behind l ≡ some n → FieldRead least most l n
+field_read : (least most : ℕ) (behind : List ℕ → Option (List ℕ)) (l : List ℕ) (n : Number) → NoLonger behind → field least most behind l ≡ Some n → FieldRead least most l n
 unfolding field
 field_read least most behind l n short e =
     and_then-some _ _ n e (λ m e₁ f₁.
@@ -100,7 +100,7 @@ pub record LineRead (l : List ℕ) (p : Parsed) : Type 0 where
   pub fits : Fits p.row
   pub takes : length p.rest < length l
 
-pub line_read : (l : List ℕ) (p : Parsed) → line l ≡ some p → LineRead l p
+pub line_read : (l : List ℕ) (p : Parsed) → line l ≡ Some p → LineRead l p
 unfolding line
 line_read l p e =
     and_then-some _ _ p e (λ radio e₁ f₁.
@@ -182,7 +182,7 @@ after_name-NoLonger name l rest e =
     omega (arith, after_byte_takes _ l inner e₁, after_bytes-NoLonger _ inner l' e₂, after_byte_takes _ l' rest e₃))))
 
 -- three commas at least
-pub after_header_takes : (l rest : List ℕ) → after_header l ≡ some rest → 3 + length rest ≤ length l
+pub after_header_takes : (l rest : List ℕ) → after_header l ≡ Some rest → 3 + length rest ≤ length l
 unfolding after_header
 after_header_takes l rest e =
     and_then-some _ _ rest e (λ l₁ e₁ f₁.

@@ -2,7 +2,7 @@
 use mathlib.Core.Path.{◌≡◌, refl, ap, ◌∙◌}
 use mathlib.Core.Bool.{false}
 use mathlib.Core.List.{List, [], ◌∷◌, ◌++◌, append_assoc, append-nil}
-use mathlib.Core.Option.{Option, some}
+use Rattle.std.specs.Prelude.{Option, Some}
 use Prim.Native.Nat.{ℕ, zero, suc, ◌≤◌}
 use native.Mathlib.Omega.{arith}
 use lib.ListN.{length, replicate, length-append}
@@ -21,12 +21,12 @@ digits_after_end : (v b : ℕ) (l : List ℕ) → is_digit b ≡ false → digit
 unfolding digits_after
 digits_after_end v b l e = rw e
 
-number-decimal : (n b : ℕ) (l : List ℕ) → n ≤ max_minute → is_digit b ≡ false → number (decimal n ++ (b ∷ l)) ≡ some (record { value = n; rest = b ∷ l })
+number-decimal : (n b : ℕ) (l : List ℕ) → n ≤ max_minute → is_digit b ≡ false → number (decimal n ++ (b ∷ l)) ≡ Some (record { value = n; rest = b ∷ l })
 unfolding number
 number-decimal n b l h e = rw (plain_number-decimal n (b ∷ l) h, digits_after_end n b l e)
 
 field-decimal : (least most n b : ℕ) (behind : List ℕ → Option (List ℕ)) (l rest : List ℕ) → least ≤ n → n ≤ most → n ≤ max_minute → is_digit b ≡ false →
-    behind (b ∷ l) ≡ some rest → field least most behind (decimal n ++ (b ∷ l)) ≡ some (record { value = n; rest = rest })
+    behind (b ∷ l) ≡ Some rest → field least most behind (decimal n ++ (b ∷ l)) ≡ Some (record { value = n; rest = rest })
 unfolding field and_then
 field-decimal least most n b behind l rest low high h e f = rw (number-decimal n b l h e, both_intro (le-leb least n low) (le-leb n most high), f)
 
@@ -38,11 +38,11 @@ line_ends : is_digit carriage_return ≡ false
 unfolding both
 line_ends = refl
 
-after_byte-comma : (l : List ℕ) → after_byte comma (comma ∷ l) ≡ some l
+after_byte-comma : (l : List ℕ) → after_byte comma (comma ∷ l) ≡ Some l
 unfolding after_byte
 after_byte-comma l = refl
 
-after_line_crlf : (l : List ℕ) → after_line (carriage_return ∷ line_feed ∷ l) ≡ some l
+after_line_crlf : (l : List ℕ) → after_line (carriage_return ∷ line_feed ∷ l) ≡ Some l
 unfolding after_line after_bytes and_then after_byte
 after_line_crlf l = refl
 
@@ -53,7 +53,7 @@ line_with-append : (radio east north minute l : List ℕ) →
 unfolding line_with
 line_with-append radio east north minute l = simp append_assoc
 
-pub line-line_of : (x : Row Fix) (l : List ℕ) → Fits x → line (line_of x ++ l) ≡ some (record { row = x; rest = l })
+pub line-line_of : (x : Row Fix) (l : List ℕ) → Fits x → line (line_of x ++ l) ≡ Some (record { row = x; rest = l })
 unfolding line line_of and_then
 line-line_of x l h =
     let radio = decimal x.key in
@@ -77,12 +77,12 @@ length-line_of_pos x = simp length-append (omega (arith, length-decimal_pos x.ke
 
 -- ---- the file as written is read back
 
-after_header-header_line : (l : List ℕ) → after_header (header_line ++ l) ≡ some l
+after_header-header_line : (l : List ℕ) → after_header (header_line ++ l) ≡ Some l
 unfolding after_header header_line line_with after_name after_bytes after_byte after_line and_then
 after_header-header_line l = refl
 
 -- a turn
-lines_from-line : (turns n : ℕ) (l : List ℕ) (p : Parsed) → line l ≡ some p →
+lines_from-line : (turns n : ℕ) (l : List ℕ) (p : Parsed) → line l ≡ Some p →
     lines_from (suc turns) n l ≡ also_line (record { line = n; row = p.row }) (lines_from turns (suc n) p.rest)
 unfolding lines_from line field number plain_number quoted_number and_then after_byte
 lines_from-line turns n [] p e = none-some e
@@ -104,7 +104,7 @@ read_written rows fit = rw (after_header-header_line (lines_of rows)) (lines_fro
 
 -- ---- "also with quotes in any line, leading zeros or no last CRLF"
 
-pub number_quoted : (n : ℕ) (l : List ℕ) → n ≤ max_minute → number (quote ∷ (decimal n ++ (quote ∷ l))) ≡ some (record { value = n; rest = l })
+pub number_quoted : (n : ℕ) (l : List ℕ) → n ≤ max_minute → number (quote ∷ (decimal n ++ (quote ∷ l))) ≡ Some (record { value = n; rest = l })
 unfolding number plain_number quoted_number and_then after_byte both
 number_quoted n l h = rw (plain_number-decimal n (quote ∷ l) h, digits_after_end n quote l refl)
 
@@ -113,21 +113,21 @@ unfolding digits_after both
 digits_after_zeros zero l = refl
 digits_after_zeros (suc zeros) l = digits_after_zeros zeros l
 
-pub plain_number_zeros : (zeros n : ℕ) (l : List ℕ) → n ≤ max_minute → plain_number (replicate zeros digit_zero ++ (decimal n ++ l)) ≡ some (digits_after n l)
+pub plain_number_zeros : (zeros n : ℕ) (l : List ℕ) → n ≤ max_minute → plain_number (replicate zeros digit_zero ++ (decimal n ++ l)) ≡ Some (digits_after n l)
 unfolding plain_number digits_after both
 plain_number_zeros zero n l h = plain_number-decimal n l h
-plain_number_zeros (suc zeros) n l h = ap some (digits_after_zeros zeros (decimal n ++ l) ∙ digits_after-decimal n l h)
+plain_number_zeros (suc zeros) n l h = ap Some (digits_after_zeros zeros (decimal n ++ l) ∙ digits_after-decimal n l h)
 
-pub field_last : (n : ℕ) → n ≤ max_minute → field 0 max_minute after_line (decimal n) ≡ some (record { value = n; rest = [] })
+pub field_last : (n : ℕ) → n ≤ max_minute → field 0 max_minute after_line (decimal n) ≡ Some (record { value = n; rest = [] })
 unfolding field number digits_after and_then after_line
 field_last n h =
-    let e : plain_number (decimal n) ≡ some (digits_after n []) = rw append-nil at (plain_number-decimal n [] h) in
+    let e : plain_number (decimal n) ≡ Some (digits_after n []) = rw append-nil at (plain_number-decimal n [] h) in
     rw (e, both_intro (le-leb 0 n (omega arith)) (le-leb n max_minute h))
 
 -- the header with quotes in each field
 abbrev pub header_quoted : List ℕ
 header_quoted = quote ∷ (radio_name ++ (quote ∷ comma ∷ quote ∷ (east_name ++ (quote ∷ comma ∷ quote ∷ (north_name ++ (quote ∷ comma ∷ quote ∷ (minute_name ++ (quote ∷ carriage_return ∷ line_feed ∷ []))))))))
 
-pub after_header_quoted : (l : List ℕ) → after_header (header_quoted ++ l) ≡ some l
+pub after_header_quoted : (l : List ℕ) → after_header (header_quoted ++ l) ≡ Some l
 unfolding after_header after_name after_bytes after_byte after_line and_then
 after_header_quoted l = refl

@@ -1,6 +1,5 @@
 -- A file of comma-separated lines (02, Job 6; RFC 4180): how it is written, and how it is read.
-use Rattle.std.specs.Prelude.{Bool, cond, List, [], ◌∷◌, ◌++◌, ℕ, zero, suc, ◌+◌, ◌-◌, ◌*◌, ◌/◌, ◌%◌, ◌≤◌, eqb, leb, ltb, length}
-use Rattle.std.proofs.Math.Option.{Option, none, some}
+use Rattle.std.specs.Prelude.{Bool, cond, List, [], ◌∷◌, ◌++◌, ℕ, zero, suc, ◌+◌, ◌-◌, ◌*◌, ◌/◌, ◌%◌, ◌≤◌, eqb, leb, ltb, length, Option, None, Some}
 use Rattle.terms.specs.Terms.{Fix, fix_at, max_radio}
 use Rattle.lists.specs.Rows.{Row, Rows}
 use Rattle.lists.specs.Tests.{both, or_else}
@@ -78,17 +77,17 @@ file_of rows = header_line ++ lines_of rows
 
 -- the first, then the next on what it left; none if either fails
 unfoldable pub and_then : {A B : Type 0} → Option A → (A → Option B) → Option B
-and_then none next = none
-and_then (some a) next = next a
+and_then None next = None
+and_then (Some a) next = next a
 
 -- what comes after this byte
 unfoldable pub after_byte : ℕ → List ℕ → Option (List ℕ)
-after_byte b [] = none
-after_byte b (x ∷ l) = cond (eqb b x) (some l) none
+after_byte b [] = None
+after_byte b (x ∷ l) = cond (eqb b x) (Some l) None
 
 -- what comes after these bytes
 unfoldable pub after_bytes : List ℕ → List ℕ → Option (List ℕ)
-after_bytes [] l = some l
+after_bytes [] l = Some l
 after_bytes (b ∷ bs) l = and_then (after_byte b l) (after_bytes bs)
 
 -- a number, and what comes after it
@@ -106,8 +105,8 @@ digits_after v (b ∷ l) = cond (is_digit b) (digits_after (v * 10 + (b - digit_
 
 -- "plain digits", at least one
 unfoldable pub plain_number : List ℕ → Option Number
-plain_number [] = none
-plain_number (b ∷ l) = cond (is_digit b) (some (digits_after 0 (b ∷ l))) none
+plain_number [] = None
+plain_number (b ∷ l) = cond (is_digit b) (Some (digits_after 0 (b ∷ l))) None
 
 -- the same in quotes
 unfoldable pub quoted_number : List ℕ → Option Number
@@ -115,7 +114,7 @@ quoted_number l =
     and_then (after_byte quote l) (λ inner.
     and_then (plain_number inner) (λ n.
     and_then (after_byte quote n.rest) (λ rest.
-    some (record { value = n.value; rest = rest }))))
+    Some (record { value = n.value; rest = rest }))))
 
 -- "also with quotes in any line"
 unfoldable pub number : List ℕ → Option Number
@@ -127,7 +126,7 @@ after_name name l = or_else (after_bytes name l) (and_then (after_byte quote l) 
 
 -- what comes after the end of a line: CRLF, "or no last CRLF" at the file's end
 unfoldable pub after_line : List ℕ → Option (List ℕ)
-after_line [] = some []
+after_line [] = Some []
 after_line (b ∷ l) = after_bytes (carriage_return ∷ line_feed ∷ []) (b ∷ l)
 
 -- a field "in range", and what comes after the comma or the line's end behind it
@@ -135,8 +134,8 @@ unfoldable pub field : (least most : ℕ) → (List ℕ → Option (List ℕ)) �
 field least most behind l =
     and_then (number l) (λ n.
     cond (both (leb least n.value) (leb n.value most))
-    (and_then (behind n.rest) (λ rest. some (record { value = n.value; rest = rest })))
-    none)
+    (and_then (behind n.rest) (λ rest. Some (record { value = n.value; rest = rest })))
+    None)
 
 -- a line's radio and what it tells, and what comes after the line
 pub record Parsed : Type 0 where
@@ -150,7 +149,7 @@ line l =
     and_then (field 0 max_metre (after_byte comma) radio.rest) (λ east.
     and_then (field 0 max_metre (after_byte comma) east.rest) (λ north.
     and_then (field 0 max_minute after_line north.rest) (λ minute.
-    some (record { row = record { key = radio.value; val = fix_at east.value north.value minute.value }; rest = minute.rest })))))
+    Some (record { row = record { key = radio.value; val = fix_at east.value north.value minute.value }; rest = minute.rest })))))
 
 -- what comes after the header
 unfoldable pub after_header : List ℕ → Option (List ℕ)
@@ -181,8 +180,8 @@ also_line x (bad n) = bad n
 
 -- the line under number n, then those after it
 abbrev pub line_then : ℕ → Option Parsed → (List ℕ → File) → File
-line_then n none next = bad n
-line_then n (some p) next = also_line (record { line = n; row = p.row }) (next p.rest)
+line_then n None next = bad n
+line_then n (Some p) next = also_line (record { line = n; row = p.row }) (next p.rest)
 
 -- the lines from number n on. Each takes a byte at least, so as many turns as there are bytes are enough
 unfoldable pub lines_from : (turns n : ℕ) → List ℕ → File
@@ -191,8 +190,8 @@ lines_from (suc turns) n [] = lines []
 lines_from (suc turns) n (b ∷ l) = line_then n (line (b ∷ l)) (lines_from turns (suc n))
 
 abbrev pub header_then : Option (List ℕ) → (List ℕ → File) → File
-header_then none next = bad 1
-header_then (some l) next = next l
+header_then None next = bad 1
+header_then (Some l) next = next l
 
 -- 15: "a line that isn't four fields of plain digits in range (radio 1 to 4,095), or a wrong header, given with the first such line's number, the header
 -- being 1"

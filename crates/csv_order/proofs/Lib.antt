@@ -1,4 +1,3 @@
 pub mod OrderLaws
 pub mod TableLaws
-pub mod SortLaws
 pub mod StopLaws

@@ -1,157 +1,139 @@
 -- Where bytes, lines and names end, in the words of the code's tests.
+use mathlib.Core.Bool.{Bool, true, false, cond}
 use mathlib.Core.Logic.{◌≢◌}
 use mathlib.Core.List.{List, [], ◌∷◌}
-use mathlib.Core.Option.{Option, none, some}
+use Rattle.std.specs.Prelude.{Option, None, Some}
+use Rattle.std.specs.Option.{MatchOption}
+use Rattle.std.specs.Cmp.Lexicographic.{pointwise}
 use mathlib.Core.Path.{◌≡◌, refl, sym, ap, ◌∙◌}
-use Prim.Native.Nat.{ℕ, ◌+◌, ◌≤◌, ◌<◌}
+use Prim.Native.Nat.{ℕ, ◌+◌, ◌-◌, ◌≤◌, ◌<◌}
 use native.Mathlib.Numerals.{add-one}
 use native.Mathlib.Omega.{arith}
-use lib.ListN.{length, drop, get_or, drop_of_length-le}
-use lib.Seq.{drop-cons}
-use borrow.Author.Tests.{eq-eqb, ne_eqb}
+use lib.Dec.{eqb, ltb}
+use lib.ListN.{length, take, drop, get_or, drop_of_length-le, length-drop, length-append}
+use lib.Seq.{drop-cons, take_all}
+use borrow.Author.Tests.{eq-eqb, ne_eqb, ltb-true, ltb-false}
+use Rattle.std.proofs.lemmas.List.{drop-drop, get_or_default}
+use Rattle.std.proofs.lemmas.Slice.Eq.{starts_is}
+use Rattle.std.proofs.lemmas.Bool.Decides.{Decides-eqb}
 use Rattle.lists.specs.Tests.{or_else}
-use Rattle.csv_grammar.specs.Csv.{and_then, quote, comma, radio_name, east_name, north_name, minute_name, after_byte, after_bytes, after_line, after_name, after_header}
-use Rattle.csv_reader.specs.Reading.{Ends, bytes_after, EndWithin, after_quoted, after_column}
-use Rattle.csv_reader.specs.declared.End.{End}
-use Rattle.csv_reader.specs.declared.End.TheVariants.{At, Missing}
+use Rattle.lists.proofs.Cases.{by_cases}
+use Rattle.csv_grammar.specs.Csv.{and_then, comma, after_byte, after_bytes, after_line, after_name}
+use Rattle.csv_reader.specs.Reading.{Ends, EndWithin, after_column}
 
 -- ---- what an end says
 
-module _ {file : List ℕ} {at : ℕ} {o : Option (List ℕ)} {r : End} (e : Ends file at o r) where
-  pub left_none : r ≡ Missing → o ≡ none
-  left_none k = sym e.leaves ∙ ap (bytes_after file) k
+module _ {file : List ℕ} {at : ℕ} {o : Option (List ℕ)} where
+  pub left_none : Ends file at o None → o ≡ None
+  left_none e = sym e.leaves
 
-  module _ {next : ℕ} (k : r ≡ At next) where
-    pub left_some : o ≡ some (drop next file)
-    left_some = sym e.leaves ∙ ap (bytes_after file) k
+  module _ {next : ℕ} (e : Ends file at o (Some next)) where
+    pub left_some : o ≡ Some (drop next file)
+    left_some = sym e.leaves
 
-    left_within : (at ≤ next) × (next ≤ length file)
-    left_within = rw k at e.within
-
-    pub left_behind : {from : ℕ} → from ≤ at → from ≤ next
-    left_behind h = omega (arith, left_within.0)
+    pub left_behind : at ≤ next
+    left_behind = e.within.0
 
     pub left_inside : next ≤ length file
-    left_inside = left_within.1
+    left_inside = e.within.1
 
 -- ---- one after the other
 
-within_from : (at next size : ℕ) (s : End) → at ≤ next → EndWithin next size s → EndWithin at size s
-within_from at next size (At end) h w = (omega arith, w.1)
-within_from at next size Missing h w = tt
+within_from : (at next size : ℕ) (s : Option ℕ) → at ≤ next → EndWithin next size s → EndWithin at size s
+within_from at next size (Some end) h w = (omega arith, w.1)
+within_from at next size None h w = tt
 
-module _ {file : List ℕ} {at : ℕ} {o : Option (List ℕ)} {r : End} (e : Ends file at o r) (f : List ℕ → Option (List ℕ)) where
-  pub then_none : r ≡ Missing → Ends file at (and_then o f) Missing
+module _ {file : List ℕ} {at : ℕ} {o : Option (List ℕ)} (f : List ℕ → Option (List ℕ)) where
+  pub then_none : Ends file at o None → Ends file at (and_then o f) None
   unfolding and_then
-  then_none k = record { leaves = rw (left_none e k); within = tt }
+  then_none e = record { leaves = rw (left_none e); within = tt }
 
-  pub then_some : {next : ℕ} {s : End} → r ≡ At next → Ends file next (f (drop next file)) s → Ends file at (and_then o f) s
+  pub then_some : {next : ℕ} {s : Option ℕ} → Ends file at o (Some next) → Ends file next (f (drop next file)) s → Ends file at (and_then o f) s
   unfolding and_then
-  then_some {next} {s} k d = record { leaves = rw (left_some e k) d.leaves; within = within_from at next (length file) s (left_behind e k (omega arith)) d.within }
+  then_some {next} {s} e d = record { leaves = rw (left_some e) d.leaves; within = within_from at next (length file) s (left_behind e) d.within }
 
--- ---- a byte
+-- ---- a byte, as `get` gives it
+
+module _ (file : List ℕ) (at : ℕ) where
+  pub got_none : false ≡ ltb at (length file) → length file ≤ at
+  got_none e = ltb-false at (length file) (sym e)
+
+  module _ (e : true ≡ ltb at (length file)) where
+    pub got_inside : at < length file
+    got_inside = ltb-true at (length file) (sym e)
+
+    pub got_byte : {x : ℕ} → x ≡ get_or file at x → x ≡ get_or file at 0
+    got_byte {x} k = k ∙ get_or_default file at x 0 got_inside
 
 module _ (file : List ℕ) (at b : ℕ) where
-  pub byte_past : length file ≤ at → Ends file at (after_byte b (drop at file)) Missing
+  pub byte_past : length file ≤ at → Ends file at (after_byte b (drop at file)) None
   unfolding after_byte
   byte_past h = record { leaves = rw (drop_of_length-le file {i = at} h); within = tt }
 
   module _ (h : at < length file) where
-    pub byte_other : get_or file at 0 ≢ b → Ends file at (after_byte b (drop at file)) Missing
+    pub byte_other : get_or file at 0 ≢ b → Ends file at (after_byte b (drop at file)) None
     unfolding after_byte
     byte_other e = record { leaves = rw (drop-cons file at 0 h, ne_eqb b (get_or file at 0) (λ z. e (sym z))); within = tt }
 
-    pub byte_there : get_or file at 0 ≡ b → Ends file at (after_byte b (drop at file)) (At (at + 1))
+    pub byte_there : get_or file at 0 ≡ b → Ends file at (after_byte b (drop at file)) (Some (at + 1))
     unfolding after_byte
     byte_there e = record { leaves = rw (drop-cons file at 0 h, eq-eqb b (get_or file at 0) (sym e), add-one); within = (omega arith, omega arith) }
 
--- ---- bytes: all that is looked for from `at` on is o
+-- ---- bytes
 
-module _ (file bytes : List ℕ) (at next i : ℕ) {o : Option (List ℕ)} (all : after_bytes (drop i bytes) (drop next file) ≡ o) where
-  pub bytes_all : at ≤ next → next ≤ length file → length bytes ≤ i → Ends file at o (At next)
-  unfolding after_bytes
-  bytes_all h k l = record { leaves = rw (drop_of_length-le bytes {i = i} l) at all; within = (h, k) }
+-- the file from `at` on, as it is lent
+abbrev pub rest_of : List ℕ → ℕ → List ℕ
+rest_of file at = take (length file - at) (drop at file)
 
-  module _ (h : i < length bytes) {r : End} (e : Ends file next (after_byte (get_or bytes i 0) (drop next file)) r) where
-    pub bytes_none : r ≡ Missing → Ends file at o Missing
-    unfolding after_bytes and_then
-    bytes_none k = record { leaves = rw (drop-cons bytes i 0 h, left_none e k) at all; within = tt }
+pub rest_is : (file : List ℕ) (at : ℕ) → rest_of file at ≡ drop at file
+rest_is file at = take_all (length file - at) (drop at file) (omega (arith, length-drop at file))
 
-    pub bytes_turn : {behind : ℕ} → r ≡ At behind → after_bytes (drop (i + 1) bytes) (drop behind file) ≡ o
-    unfolding after_bytes and_then
-    bytes_turn k = rw add-one (rw (drop-cons bytes i 0 h, left_some e k) at all)
+after_starts : (bytes l : List ℕ) → after_bytes bytes l ≡ cond (pointwise eqb bytes (take (length bytes) l)) (Some (drop (length bytes) l)) None
+unfolding after_bytes after_byte and_then
+after_starts [] l = refl
+after_starts (b ∷ bytes) [] = refl
+after_starts (b ∷ bytes) (x ∷ l) = by_cases (eqb b x) (λ t. rw t (after_starts bytes l)) (λ t. rw t)
+
+module _ (file bytes : List ℕ) (at : ℕ) {r : Bool} (lent : r ≡ pointwise eqb bytes (take (length bytes) (rest_of file at))) where
+  test : r ≡ pointwise eqb bytes (take (length bytes) (drop at file))
+  test = rw (rest_is file at) at lent
+
+  pub bytes_none : r ≡ false → Ends file at (after_bytes bytes (drop at file)) None
+  bytes_none e = record { leaves = rw (after_starts bytes (drop at file), ← test, e); within = tt }
+
+  pub bytes_there : at ≤ length file → r ≡ true → Ends file at (after_bytes bytes (drop at file)) (Some (at + length bytes))
+  bytes_there h e =
+      let s = (starts_is Decides-eqb (drop at file) bytes r test).0 e in
+      let n : length (drop at file) ≡ length bytes + length (drop (length bytes) (drop at file)) = ap length s ∙ length-append bytes (drop (length bytes) (drop at file)) in
+      record { leaves = rw (after_starts bytes (drop at file), ← test, e, drop-drop); within = (omega arith, omega (arith, n, length-drop at file)) }
 
 -- ---- a line's end
 
-pub line_file : (file : List ℕ) (at : ℕ) → at ≤ length file → length file ≤ at → Ends file at (after_line (drop at file)) (At at)
+pub line_file : (file : List ℕ) (at : ℕ) → at ≡ length file → Ends file at (after_line (drop at file)) (Some at)
 unfolding after_line
-line_file file at k h = record { leaves = rw (drop_of_length-le file {i = at} h); within = (omega arith, k) }
+line_file file at h = record { leaves = rw (drop_of_length-le file {i = at} (omega arith)); within = (omega arith, omega arith) }
 
-pub line_there : (file : List ℕ) (at : ℕ) {r : End} → at < length file → Ends file at (after_bytes (13 ∷ 10 ∷ []) (drop at file)) r → Ends file at (after_line (drop at file)) r
+pub line_there : (file : List ℕ) (at : ℕ) {r : Option ℕ} → at < length file → Ends file at (after_bytes (13 ∷ 10 ∷ []) (drop at file)) r → Ends file at (after_line (drop at file)) r
 unfolding after_line
 line_there file at h e = record { leaves = rw (drop-cons file at 0 h) (rw (drop-cons file at 0 h) at e.leaves); within = e.within }
 
 -- ---- a name, in quotes or not; a name and a comma
 
-module _ {file : List ℕ} {at : ℕ} {o : Option (List ℕ)} {r : End} (e : Ends file at o r) (p : Option (List ℕ)) where
-  pub else_some : {next : ℕ} → r ≡ At next → Ends file at (or_else o p) (At next)
-  else_some k = record { leaves = rw (left_some e k); within = (left_behind e k (omega arith), left_inside e k) }
-
-  pub else_none : {s : End} → r ≡ Missing → Ends file at p s → Ends file at (or_else o p) s
-  else_none k d = record { leaves = rw (left_none e k) d.leaves; within = d.within }
+pub ends_or_else : {file : List ℕ} {at : ℕ} {o p : Option (List ℕ)} (a : Option ℕ) {r : Option ℕ} {P : Type 0} → Ends file at o a → MatchOption a P (λ x. r ≡ Some x) → (P → Ends file at p r) → Ends file at (or_else o p) r
+ends_or_else None e m k = rw (left_none e) (k m)
+ends_or_else (Some x) e m k = rw (left_some e, m) (record { leaves = refl; within = e.within })
 
 and_then_lem : (o : Option (List ℕ)) (f g : List ℕ → Option (List ℕ)) → and_then (and_then o f) g ≡ and_then o (λ l. and_then (f l) g)
 unfolding and_then
-and_then_lem none f g = refl
-and_then_lem (some l) f g = refl
+and_then_lem None f g = refl
+and_then_lem (Some l) f g = refl
 
-module _ (name : List ℕ) {file : List ℕ} {at : ℕ} {r : End} (e : Ends file at (after_column name (drop at file)) r) (f : List ℕ → Option (List ℕ)) where
-  pub column_none : r ≡ Missing → Ends file at (and_then (after_name name (drop at file)) (λ l. and_then (after_byte comma l) f)) Missing
+module _ (name : List ℕ) {file : List ℕ} {at : ℕ} (f : List ℕ → Option (List ℕ)) where
+  pub column_none : Ends file at (after_column name (drop at file)) None → Ends file at (and_then (after_name name (drop at file)) (λ l. and_then (after_byte comma l) f)) None
   unfolding after_column
-  column_none k = rw (and_then_lem (after_name name (drop at file)) (after_byte comma) f) at (then_none e f k)
+  column_none e = rw (and_then_lem (after_name name (drop at file)) (after_byte comma) f) at (then_none f e)
 
-  pub column_some : {next : ℕ} {s : End} → r ≡ At next → Ends file next (f (drop next file)) s → Ends file at (and_then (after_name name (drop at file)) (λ l. and_then (after_byte comma l) f)) s
+  pub column_some : {next : ℕ} {s : Option ℕ} → Ends file at (after_column name (drop at file)) (Some next) → Ends file next (f (drop next file)) s
+      → Ends file at (and_then (after_name name (drop at file)) (λ l. and_then (after_byte comma l) f)) s
   unfolding after_column
-  column_some k d = rw (and_then_lem (after_name name (drop at file)) (after_byte comma) f) at (then_some e f k d)
-
--- ---- a name in quotes
-
-module _ (name : List ℕ) {file : List ℕ} {at : ℕ} {r₁ : End} (e₁ : Ends file at (after_byte quote (drop at file)) r₁) where
-  pub quoted_none : r₁ ≡ Missing → Ends file at (after_quoted name (drop at file)) Missing
-  unfolding after_quoted
-  quoted_none k = then_none e₁ _ k
-
-  module _ {inner : ℕ} (k₁ : r₁ ≡ At inner) {r₂ : End} (e₂ : Ends file inner (after_bytes name (drop inner file)) r₂) where
-    pub quoted_other : r₂ ≡ Missing → Ends file at (after_quoted name (drop at file)) Missing
-    unfolding after_quoted
-    quoted_other k = then_some e₁ _ k₁ (then_none e₂ _ k)
-
-    pub quoted_there : {behind : ℕ} {r₃ : End} → r₂ ≡ At behind → Ends file behind (after_byte quote (drop behind file)) r₃ → Ends file at (after_quoted name (drop at file)) r₃
-    unfolding after_quoted
-    quoted_there k e = then_some e₁ _ k₁ (then_some e₂ _ k e)
-
--- ---- the header: three names with a comma behind each, one with the line's end
-
-module _ {file : List ℕ} {r₁ : End} (e₁ : Ends file 0 (after_column radio_name (drop 0 file)) r₁) where
-  pub header_none : r₁ ≡ Missing → Ends file 0 (after_header file) Missing
-  unfolding after_header
-  header_none k = column_none radio_name e₁ _ k
-
-  module _ {at₁ : ℕ} (k₁ : r₁ ≡ At at₁) {r₂ : End} (e₂ : Ends file at₁ (after_column east_name (drop at₁ file)) r₂) where
-    pub header_none₂ : r₂ ≡ Missing → Ends file 0 (after_header file) Missing
-    unfolding after_header
-    header_none₂ k = column_some radio_name e₁ _ k₁ (column_none east_name e₂ _ k)
-
-    module _ {at₂ : ℕ} (k₂ : r₂ ≡ At at₂) {r₃ : End} (e₃ : Ends file at₂ (after_column north_name (drop at₂ file)) r₃) where
-      pub header_none₃ : r₃ ≡ Missing → Ends file 0 (after_header file) Missing
-      unfolding after_header
-      header_none₃ k = column_some radio_name e₁ _ k₁ (column_some east_name e₂ _ k₂ (column_none north_name e₃ _ k))
-
-      module _ {at₃ : ℕ} (k₃ : r₃ ≡ At at₃) {r₄ : End} (e₄ : Ends file at₃ (after_name minute_name (drop at₃ file)) r₄) where
-        pub header_none₄ : r₄ ≡ Missing → Ends file 0 (after_header file) Missing
-        unfolding after_header
-        header_none₄ k = column_some radio_name e₁ _ k₁ (column_some east_name e₂ _ k₂ (column_some north_name e₃ _ k₃ (then_none e₄ _ k)))
-
-        pub header_there : {at₄ : ℕ} {r₅ : End} → r₄ ≡ At at₄ → Ends file at₄ (after_line (drop at₄ file)) r₅ → Ends file 0 (after_header file) r₅
-        unfolding after_header
-        header_there k e = column_some radio_name e₁ _ k₁ (column_some east_name e₂ _ k₂ (column_some north_name e₃ _ k₃ (then_some e₄ _ k e)))
+  column_some e d = rw (and_then_lem (after_name name (drop at file)) (after_byte comma) f) at (then_some f e d)

@@ -5,6 +5,10 @@ use Prim.Native.Nat.{ℕ, ◌+◌, ◌≤◌}
 use native.Mathlib.Omega.{arith}
 use lib.ListN.{length, set, length-append}
 use Rattle.terms.specs.Terms.{fix_at}
+use Rattle.terms.specs.Values.{fix_of}
+use Rattle.terms.specs.declared.Fix.{Fix as HeldFix}
+use borrow.Rule.Slice.PartMut.{put_mid}
+use Rattle.std.proofs.lemmas.List.{drop-drop}
 use Rattle.lists.specs.Parts.{put}
 use Rattle.lists.proofs.PartsLaws.{put_snoc, put_then}
 use Rattle.csv_grammar.specs.Csv.{comma, carriage_return, line_feed, decimal, line_with, line_of}
@@ -26,11 +30,17 @@ pub line_takes : (r e n m : ℕ) {a b c d : ℕ} → a ≡ length (decimal r) �
     → a + b + c + d + 5 ≡ length (line_of (record { key = r; val = fix_at e n m }))
 line_takes r e n m f g h k = omega (arith, length-line_of r e n m)
 
-pub length-line_of-le : (r e n m : ℕ) → length (line_of (record { key = r; val = fix_at e n m })) ≤ 45
-length-line_of-le r e n m =
-    omega (arith, length-line_of r e n m, length-decimal-le r, length-decimal-le e, length-decimal-le n, length-decimal-le m)
+pub length-line_of-le : (r : ℕ) (f : HeldFix) → length (line_of (record { key = r; val = fix_of f })) ≤ 45
+length-line_of-le r f =
+    let p = f.place in
+    omega (arith, length-line_of r p.east p.north f.minute, length-decimal-le r, length-decimal-le p.east, length-decimal-le p.north, length-decimal-le f.minute)
 
 -- ---- writes in a row
+
+-- bytes copied into a part of the buffer
+pub copied : (xs : List ℕ) (at k : ℕ) {ys : List ℕ} (zs : List ℕ) → ys ≡ zs → k ≡ length zs → put_mid at k xs ys ≡ put xs at zs
+unfolding put
+copied xs at k zs e h = rw (e, h, drop-drop)
 
 pub field_put : (xs : List ℕ) {ys : List ℕ} (at n : ℕ) {b : ℕ} → at + length (decimal n) + 1 ≤ length xs → ys ≡ put xs at (decimal n) → b ≡ at + length (decimal n)
     → set ys b comma ≡ put xs at (decimal n ++ (comma ∷ []))

@@ -83,65 +83,66 @@ set_before xs i v vs h =
     set_split (put xs (i + 1) vs) i v (omega arith)
     ∙ rw (take-put-le xs (i + 1) vs i (omega arith) (omega arith), ← add-one i, drop_into xs (i + 1) vs (omega arith), put_def xs i (v ∷ vs), e)
 
--- of the digits of n, to stand in xs from `at` on, those behind i stand in ys, and those of `left` up to i are still to come
+-- of the digits of n, to stand in xs from `at` on, those from i on stand in ys; those up to i are still to come, and if there are any, they are those of `left`
 pub record Going (xs : List ℕ) (at n : ℕ) (ys : List ℕ) (i left : ℕ) : Type 0 where
+  pub rest : List ℕ
   pub behind : List ℕ
-  pub whole : decimal n ≡ decimal left ++ behind
-  pub place : at + length (decimal left) ≡ i + 1
+  pub whole : decimal n ≡ rest ++ behind
+  pub place : at + length rest ≡ i
+  pub more : at < i → rest ≡ decimal left
   pub fits : at + length (decimal n) ≤ length xs
-  pub list : ys ≡ put xs (i + 1) behind
+  pub list : ys ≡ put xs i behind
 
-length-decimal_pos : (n : ℕ) → n ≤ max_minute → 1 ≤ length (decimal n)
-length-decimal_pos n h =
-    by_cases (ltb n 10)
-    (λ t. rw (decimal_one n (ltb-true n 10 t)) (omega arith))
-    (λ t. rw (decimal_step n (ltb-false n 10 t) h, length-append) (omega arith))
-
--- where the digits end, and where the last one stands
-pub digits_end : (xs : List ℕ) (at n : ℕ) {r : ℕ} → n ≤ max_minute → r ≡ length (decimal n) → at + length (decimal n) ≤ length xs → (at + r ≤ length xs) × (1 ≤ at + r)
-digits_end xs at n m e h = (omega arith, omega (arith, length-decimal_pos n m))
-
-pub Going_start : (xs : List ℕ) (at n : ℕ) {r : ℕ} → n ≤ max_minute → r ≡ length (decimal n) → at + length (decimal n) ≤ length xs → Going xs at n xs (at + r - 1) n
-Going_start xs at n m e h =
+pub Going_start : (xs : List ℕ) (at n : ℕ) {r : ℕ} → r ≡ length (decimal n) → at + length (decimal n) ≤ length xs → Going xs at n xs (at + r) n
+Going_start xs at n e h =
     record {
+      rest = decimal n;
       behind = [];
       whole = sym (append-nil (decimal n));
-      place = omega (arith, length-decimal_pos n m);
+      place = omega arith;
+      more = λ _. refl;
       fits = h;
       list = sym (put-nil xs _);
     }
 
-lengths : {xs : List ℕ} {at n : ℕ} {ys : List ℕ} {i left : ℕ} (g : Going xs at n ys i left) → length (decimal n) ≡ length (decimal left) + length g.behind
-lengths {left = left} g = ap length g.whole ∙ length-append (decimal left) g.behind
+module _ {xs : List ℕ} {at n : ℕ} {ys : List ℕ} {i left : ℕ} (g : Going xs at n ys i left) where
+  lengths : length (decimal n) ≡ length g.rest + length g.behind
+  lengths = ap length g.whole ∙ length-append g.rest g.behind
 
-pub Going_within : {xs : List ℕ} {at n : ℕ} {ys : List ℕ} {i left : ℕ} → Going xs at n ys i left → i < length xs
-Going_within g = omega (arith, g.place, g.fits, lengths g)
+  pub Going_within : i ≤ length xs
+  Going_within = omega (arith, g.place, g.fits, lengths)
 
--- another digit comes before
-pub Going_more : {xs : List ℕ} {at n : ℕ} {ys : List ℕ} {i left : ℕ} → Going xs at n ys i left → 10 ≤ left → left ≤ max_minute → 1 ≤ i
-Going_more {left = left} g h m =
-    omega (arith, g.place, ap length (decimal_step left h m), length-append (decimal (left / 10)) ((digit_zero + left % 10) ∷ []), length-decimal_pos (left / 10) (omega arith))
+  module _ (h : at < i) (m : left ≤ max_minute) {v : ℕ} (e : v ≡ digit_zero + left % 10) where
+    -- what comes before the digit that is written
+    ahead : (rest : List ℕ) → g.rest ≡ rest ++ (v ∷ []) → (at < i - 1 → rest ≡ decimal (left / 10)) → Going xs at n (set ys (i - 1) v) (i - 1) (left / 10)
+    ahead rest q more =
+        let l : length g.rest ≡ length rest + 1 = ap length q ∙ length-append rest (v ∷ []) in
+        let p = g.place in
+        let k : i - 1 + 1 ≡ i = omega arith in
+        record {
+          rest = rest;
+          behind = v ∷ g.behind;
+          whole = g.whole ∙ rw q (append_assoc rest (v ∷ []) g.behind);
+          place = omega arith;
+          more = more;
+          fits = g.fits;
+          list = ap (λ (zs : List ℕ). set zs (i - 1) v) (g.list ∙ ap (λ (j : ℕ). put xs j g.behind) (sym k)) ∙ set_before xs (i - 1) v g.behind (omega (arith, lengths, g.fits));
+        }
 
-pub Going_turn : {xs : List ℕ} {at n : ℕ} {ys : List ℕ} {i left v : ℕ} → Going xs at n ys i left → 10 ≤ left → left ≤ max_minute → v ≡ digit_zero + left % 10
-    → Going xs at n (set ys i v) (i - 1) (left / 10)
-Going_turn {xs} {at} {n} {ys} {i} {left} {v} g h m e =
-    let s = decimal_step left h m in
-    let l : length (decimal left) ≡ length (decimal (left / 10)) + 1 = ap length s ∙ length-append (decimal (left / 10)) _ in
-    let p = length-decimal_pos (left / 10) (omega arith) in
-    let d = g.place in
-    let q : i - 1 + 1 ≡ i = omega arith in
-    record {
-      behind = v ∷ g.behind;
-      whole = g.whole ∙ rw (s, e) (append_assoc (decimal (left / 10)) _ _);
-      place = omega arith;
-      fits = g.fits;
-      list = rw (q, g.list) (set_before xs i v g.behind (omega (arith, lengths g, g.fits)));
-    }
+    pub Going_turn : Going xs at n (set ys (i - 1) v) (i - 1) (left / 10)
+    Going_turn =
+        by_cases (ltb left 10)
+        (λ t.
+        let s = ltb-true left 10 t in
+        let w : digit_zero + left ≡ v = omega arith in
+        ahead [] (g.more h ∙ (decimal_one left s ∙ ap (λ (x : ℕ). x ∷ []) w)) (λ k. absurd (omega (arith, g.place, ap length (g.more h ∙ decimal_one left s)))))
+        (λ t. ahead (decimal (left / 10)) (g.more h ∙ (decimal_step left (ltb-false left 10 t) m ∙ ap (λ (x : ℕ). decimal (left / 10) ++ (x ∷ [])) (sym e))) (λ _. refl))
 
-pub Going_end : {xs : List ℕ} {at n : ℕ} {ys : List ℕ} {i left v : ℕ} → Going xs at n ys i left → left < 10 → v ≡ digit_zero + left % 10 → set ys i v ≡ put xs at (decimal n)
-Going_end {xs} {at} {n} {ys} {i} {left} {v} g h e =
-    let s = decimal_one left h in
-    let q : left % 10 ≡ left = omega arith in
-    let z : i ≡ at = omega (arith, g.place, ap length s) in
-    let w : v ∷ g.behind ≡ decimal n = sym (g.whole ∙ rw (s, e, q)) in
-    rw (g.list, ← w) (set_before xs i v g.behind (omega (arith, lengths g, g.fits, g.place)) ∙ rw z)
+pub Going_end : {xs : List ℕ} {at n : ℕ} {ys : List ℕ} {i left : ℕ} → Going xs at n ys i left → i ≤ at → ys ≡ put xs at (decimal n)
+Going_end {xs} {at} {n} {ys} {i} g h =
+    let z : i ≡ at = omega (arith, g.place) in
+    g.list ∙ (ap (λ (j : ℕ). put xs j g.behind) z ∙ ap (put xs at) (sym (g.whole ∙ ap (λ (r : List ℕ). r ++ g.behind) (none g.rest (omega (arith, g.place))))))
+  where
+    none : (r : List ℕ) → length r ≤ 0 → r ≡ []
+    none [] h = refl
+    none (x ∷ r) h = absurd (omega arith)

@@ -1,50 +1,36 @@
--- The choice of the cut (01, "Split") on what the desk holds: what its fields mean, and the walks by which the choice is made.
-use Rattle.std.specs.Prelude.{cond, List, [], ◌∷◌, map, ◌≡◌, ℕ, zero, suc, ◌+◌, ◌-◌, ◌≤◌, leb, ltb, length, take}
-use Rattle.std.proofs.Math.Option.{Option, none, some}
-use Rattle.terms.specs.Terms.{Fix, max_on, page_entries}
+-- The choice of the cut ("Split") on what the desk holds: what its fields mean, and the walks by which the choice is made.
+use Rattle.std.specs.Prelude.{cond, List, [], ◌∷◌, map, ℕ, ◌+◌, ◌-◌, leb, ltb, length, Option, None, Some}
+use Rattle.terms.specs.Terms.{Fix, page_entries}
 use Rattle.lists.specs.Rows.{Rows}
 use Rattle.lists.specs.Sums.{sum_by}
 use Rattle.lists.specs.Tests.{one_if, both, or_else}
 use Rattle.rules.specs.Grid.{Axis, eastward, northward, along, across, Rect, span_of, Cuts}
 use Rattle.rules.specs.Cut.{Cut, through, median, valid_at}
-use Rattle.desk.specs.Views.{axis_of}
-use Rattle.cut.specs.declared.CutChoice.{CutChoice}
-use Rattle.cut.specs.declared.CutChoice.TheVariants.{At, NoCut}
-use Rattle.cut.specs.declared.Best.{Best}
-use Rattle.cut.specs.declared.Best.TheVariants.{Fit, NoFit}
+use Rattle.cut.specs.declared.Axis.{Axis as CodeAxis}
+use Rattle.cut.specs.declared.Axis.TheVariants.{Eastward, Northward}
+use Rattle.cut.specs.declared.Cut.{Cut as CodeCut}
+use Rattle.cut.specs.declared.Fit.{Fit}
 
 -- ---- what the fields mean
 
-abbrev pub directions : ℕ
-directions = 2
+abbrev pub axis_of : CodeAxis → Axis
+axis_of Eastward = eastward
+axis_of Northward = northward
 
-abbrev pub cut_at : ℕ → ℕ → Cut
-cut_at a c = record { axis = axis_of a; at = c }
-
--- the cut that an answer names, if any
-abbrev pub choice_of : CutChoice → Option Cut
-choice_of (At a c) = some (cut_at a c)
-choice_of NoCut = none
+abbrev pub cut_of : CodeCut → Cut
+cut_of c = record { axis = axis_of c.axis; at = c.at }
 
 -- the rows' coordinates in a direction
 unfoldable pub coordinates : Axis → Rows Fix → List ℕ
 coordinates axis rows = map (λ e. along axis e.val.place) rows
 
--- a direction's column, with the coordinates of n entries first
-abbrev pub HasFirst : ℕ → List ℕ → Type 0
-HasFirst n xs = (length xs ≡ max_on) × (n ≤ max_on)
+-- of the lists of both directions that of one
+abbrev pub by_axis : List ℕ → List ℕ → Axis → List ℕ
+by_axis easts norths eastward = easts
+by_axis easts norths northward = norths
 
--- of the columns of both directions that of one, and its first n coordinates
-abbrev pub column_along : Axis → List ℕ → List ℕ → List ℕ
-column_along eastward eastings northings = eastings
-column_along northward eastings northings = northings
-
-abbrev pub coordinates_in : ℕ → List ℕ → List ℕ → Axis → List ℕ
-coordinates_in n eastings northings axis = take n (column_along axis eastings northings)
-
--- rows whose coordinates these are
-abbrev pub StandIn : ℕ → List ℕ → List ℕ → Rows Fix → Type 0
-StandIn n eastings northings rows = (axis : Axis) → coordinates axis rows ≡ coordinates_in n eastings northings axis
+abbrev pub with_cuts : List ℕ → List ℕ → Cuts
+with_cuts easts norths = record { easts = easts; norths = norths }
 
 -- how many coordinates lie below one
 unfoldable pub below : ℕ → List ℕ → ℕ
@@ -61,14 +47,13 @@ pub record Fitting : Type 0 where
   pub cut : Cut
   pub difference : ℕ
 
-abbrev pub best_of : Best → Option Fitting
-best_of (Fit a c m) = some (record { cut = cut_at a c; difference = m })
-best_of NoFit = none
+abbrev pub fitting_of : Fit → Fitting
+fitting_of f = record { cut = cut_of f.cut; difference = f.difference }
 
 -- of the best so far and one cut more, the better; of two that are as good the first
 abbrev pub better : Option Fitting → Cut → ℕ → Option Fitting
-better none c m = some (record { cut = c; difference = m })
-better (some b) c m = cond (ltb m b.difference) (some (record { cut = c; difference = m })) (some b)
+better None c m = Some (record { cut = c; difference = m })
+better (Some b) c m = cond (ltb m b.difference) (Some (record { cut = c; difference = m })) (Some b)
 
 -- the best so far, after one cut more
 unfoldable pub considered : Rect → List ℕ → Option Fitting → Cut → Option Fitting
@@ -84,10 +69,9 @@ best_from d l axis best (c ∷ cs) = best_from d l axis (considered d l best (re
 
 -- east cuts first
 unfoldable pub best_by : Cuts → Rect → (Axis → List ℕ) → Option Fitting
-best_by cuts d l = best_from d (l northward) northward (best_from d (l eastward) eastward none cuts.easts) cuts.norths
+best_by cuts d l = best_from d (l northward) northward (best_from d (l eastward) eastward None cuts.easts) cuts.norths
 
--- ---- the first valid median cut, with so many directions left to try, this one first
+-- ---- the first valid median cut, this direction first
 
-unfoldable pub first_valid : ℕ → Axis → Cuts → (Axis → List ℕ) → Option Cut
-first_valid zero axis cuts l = none
-first_valid (suc k) axis cuts l = or_else (valid_at axis cuts (median (l axis))) (first_valid k (across axis) cuts l)
+unfoldable pub first_valid : Axis → Cuts → (Axis → List ℕ) → Option Cut
+first_valid axis cuts l = or_else (valid_at axis cuts (median (l axis))) (valid_at (across axis) cuts (median (l (across axis))))

@@ -1,7 +1,7 @@
 -- Demands 2 and 3 hold of every list of calls: beside each list goes a well-formed store that desk and pages lay out, and that is linked to the plain rule.
 use mathlib.Core.Bool.{true, false, not, cond}
 use mathlib.Core.List.{List}
-use mathlib.Core.Option.{none, some}
+use Rattle.std.specs.Prelude.{None, Some}
 use mathlib.Core.Path.{◌≡◌, refl, sym, ap, ◌∙◌, subst}
 use Prim.Native.Nat.{ℕ}
 use native.Mathlib.Omega.{arith}
@@ -57,7 +57,7 @@ watched {l = l} k = record { store = k.store; watches = l }
 abbrev pub sound : {d : Desk} {b : List ℕ} {x : Plain} {l : List Watch} → Beside d b x l → Sound d b
 sound k = record { watched = watched k; well = k.well; right = k.right; held = k.held; laid = k.laid }
 
-unfoldable pub begins : Beside fresh_desk fresh_pages plain_fresh (replicate max_watches none)
+unfoldable pub begins : Beside fresh_desk fresh_pages plain_fresh (replicate max_watches None)
 unfolding fresh_watched
 begins = record { store = fresh; well = fresh_well; right = fresh_right; held = refl; laid = fresh-Laid; link = fresh-Link }
 
@@ -115,8 +115,8 @@ upright w rect e =
 pub right_then : (call : Call) {l : List Watch} → RightWatches l → RightWatches (watches_then call l)
 right_then (hands bytes) h = h
 right_then (sets w rect) {l} h =
-    by_cases (eqb (set_refusal w rect) 0) (λ t. rw t (right_set l w (some rect) (upright w rect t) h)) (λ t. rw t h)
-right_then (clears w) {l} h = by_cases (eqb (clear_refusal w l) 0) (λ t. rw t (right_set l w none tt h)) (λ t. rw t h)
+    by_cases (eqb (set_refusal w rect) 0) (λ t. rw t (right_set l w (Some rect) (upright w rect t) h)) (λ t. rw t h)
+right_then (clears w) {l} h = by_cases (eqb (clear_refusal w l) 0) (λ t. rw t (right_set l w None tt h)) (λ t. rw t h)
 right_then writes h = h
 
 -- under number 0 the watches are changed, under any other all stays
@@ -131,9 +131,9 @@ unfoldable pub follows : {d : Desk} {b : List ℕ} {x : Plain} {l : List Watch} 
 unfolding carry_call
 follows k (hands bytes) buffer e small = outcome k bytes buffer e small
 follows {l = l} k (sets w rect) buffer e small =
-    rewatched k (watches_then (sets w rect) l) (set_refusal w rect) buffer (right_then (sets w rect) k.right) (e ∙ ap laid_out (watched_then k.store l (set_refusal w rect) w (some rect) buffer))
+    rewatched k (watches_then (sets w rect) l) (set_refusal w rect) buffer (right_then (sets w rect) k.right) (e ∙ ap laid_out (watched_then k.store l (set_refusal w rect) w (Some rect) buffer))
 follows {l = l} k (clears w) buffer e small =
-    rewatched k (watches_then (clears w) l) (clear_refusal w l) buffer (right_then (clears w) k.right) (e ∙ ap laid_out (watched_then k.store l (clear_refusal w l) w none buffer))
+    rewatched k (watches_then (clears w) l) (clear_refusal w l) buffer (right_then (clears w) k.right) (e ∙ ap laid_out (watched_then k.store l (clear_refusal w l) w None buffer))
 follows k writes buffer e small = wrote k (told_file (file_of (everyone k.store)) buffer) e
 
 pub beside : {d : Desk} {b : List ℕ} {x : Plain} (t : Trace d b x) → Beside d b x (watches_set t)
@@ -167,8 +167,8 @@ module _ {d : Desk} {b : List ℕ} {x : Plain} {l : List Watch} (k : Beside d b 
         count = ap (λ (z : After). z.count) c ∙ t.1;
         buffer = ap (λ (z : After). z.buffer) c ∙ t.2;
       }
-  as_told (sets w rect) buffer a = let t = watch_told (set_refusal w rect) w (some rect) buffer (answers_Sound a (sound k)) in record { number = t.0; count = t.1; buffer = t.2 }
-  as_told (clears w) buffer a = let t = watch_told (clear_refusal w l) w none buffer (answers_Sound a (sound k)) in record { number = t.0; count = t.1; buffer = t.2 }
+  as_told (sets w rect) buffer a = let t = watch_told (set_refusal w rect) w (Some rect) buffer (answers_Sound a (sound k)) in record { number = t.0; count = t.1; buffer = t.2 }
+  as_told (clears w) buffer a = let t = watch_told (clear_refusal w l) w None buffer (answers_Sound a (sound k)) in record { number = t.0; count = t.1; buffer = t.2 }
   as_told writes buffer a =
       let c = answers_Sound a (sound k) in
       let t = ap (λ (r : Rows Fix). told_file (file_of r) buffer) (everyone_same k.store x k.link (well_Core k.store k.well).signed) in

@@ -1,7 +1,7 @@
 -- A file that is read is a run of sign-ons from a fresh store, so it begins a list of calls; and a file that was written is read back.
 use mathlib.Core.Bool.{false}
 use mathlib.Core.List.{List, [], ◌∷◌}
-use mathlib.Core.Option.{Option, none, some}
+use Rattle.std.specs.Prelude.{Option, None, Some}
 use mathlib.Core.Path.{◌≡◌, refl, sym, ap, ap₂, ◌∙◌, subst, fun_ext}
 use Prim.Native.Nat.{ℕ, ◌≤◌}
 use native.Mathlib.Nat.{zero-add}
@@ -160,12 +160,12 @@ take_file file buffer =
     (λ t. rw t (λ e. absurd (omega (arith, e))))
     (λ t. rw t (λ e. ap (λ (n : ℕ). take n (put buffer 0 file)) (sym (zero-add (length file))) ∙ take-put buffer 0 file (omega arith)))
 
-module _ (s : Store) (w : WellFormed s) (narrow : (r : ℕ) (f : Fix) → latest s r ≡ some f → Narrow f) (fixed : NoneAtOrigin (latest s)) where
+module _ (s : Store) (w : WellFormed s) (narrow : (r : ℕ) (f : Fix) → latest s r ≡ Some f → Narrow f) (fixed : NoneAtOrigin (latest s)) where
   rows_fit : Each Fits (everyone s)
   unfolding everyone
   rows_fit = Each-rows_of Fits (latest s) s.on (Each_zip (λ r. r.key ≤ max_radio) (λ r. 1 ≤ r.key) _ s.on fit w.radios_on (Rising_above 0 s.on w.rising_on))
     where
-      fit : (r : Row (Unit {0})) → r.key ≤ max_radio → 1 ≤ r.key → (f : Fix) → latest s r.key ≡ some f → Fits (record { key = r.key; val = f })
+      fit : (r : Row (Unit {0})) → r.key ≤ max_radio → 1 ≤ r.key → (f : Fix) → latest s r.key ≡ Some f → Fits (record { key = r.key; val = f })
       fit r most least f e = let n = narrow r.key f e in record { radio_least = least; radio = most; east = n.east; north = n.north; minute = n.minute }
 
   rows_fixed : Each HasFix (everyone s)
@@ -187,9 +187,9 @@ module _ (s : Store) (w : WellFormed s) (narrow : (r : ℕ) (f : Fix) → latest
       (λ u. rw u)
       (λ u. rw u (sym (none_of (latest s r) (latest_on s w r ∙ u))))
     where
-      none_of : (o : Option Fix) → is_some o ≡ false → o ≡ none
-      none_of none e = refl
-      none_of (some f) e = false-true (sym e)
+      none_of : (o : Option Fix) → is_some o ≡ false → o ≡ None
+      none_of None e = refl
+      none_of (Some f) e = false-true (sym e)
 
   -- read into a desk and pages in whatever condition
   came_back : (file : List ℕ) → file ≡ file_of (everyone s) → (u : Found) (z : Made) → length u.pages ≡ buffer_bytes → Reads file u z → CameBack (latest s) file z
@@ -199,7 +199,7 @@ module _ (s : Store) (w : WellFormed s) (narrow : (r : ℕ) (f : Fix) → latest
   }
 
 -- a store that is sound, with what is told in its fields
-comes_back : (d : Desk) (b : List ℕ) (s : Sound d b) → ((r : ℕ) (f : Fix) → latest s.watched.store r ≡ some f → Narrow f) → NoneAtOrigin (latest s.watched.store)
+comes_back : (d : Desk) (b : List ℕ) (s : Sound d b) → ((r : ℕ) (f : Fix) → latest s.watched.store r ≡ Some f → Narrow f) → NoneAtOrigin (latest s.watched.store)
     → ComesBack d b (latest s.watched.store)
 unfolding laid_out carry_call
 comes_back d b s narrow fixed buffer y a zero u z size reads =

@@ -2,7 +2,7 @@
 use mathlib.Core.Bool.{Bool, true, not}
 use Rattle.desk.specs.Views.{every_report}
 use mathlib.Core.List.{List, [], ◌∷◌, ◌++◌, map}
-use mathlib.Core.Option.{Option, none, some}
+use Rattle.std.specs.Prelude.{Option, None, Some}
 use mathlib.Core.Path.{◌≡◌, refl, sym, ap, ap₂, ◌∙◌, subst}
 use Prim.Native.Nat.{ℕ, suc, ◌+◌, ◌≤◌}
 use native.Mathlib.Omega.{arith}
@@ -52,12 +52,12 @@ unfolding desk_cuts desk_of ledger_of grid_of
 desk_cuts_lem s vs = let a = take_cuts s.cuts.easts in let o = take_cuts s.cuts.norths in λ i. record { easts = a i; norths = o i }
 
 line_radio : (r m : ℕ) (o : Option Place) → (line_with r m o).radio ≡ r
-line_radio r m none = refl
-line_radio r m (some p) = refl
+line_radio r m None = refl
+line_radio r m (Some p) = refl
 
 line_missed : (r m : ℕ) (o : Option Place) → (line_with r m o).missed ≡ m
-line_missed r m none = refl
-line_missed r m (some p) = refl
+line_missed r m None = refl
+line_missed r m (Some p) = refl
 
 missed_found : (l : Rows StoreLine) (r : ℕ) → missed_in (map line_of l) r ≡ missed_of (find l r)
 unfolding missed_in find
@@ -76,8 +76,8 @@ lines_keys [] r = refl
 lines_keys (x ∷ xs) r = rw (line_radio x.key x.val.missed x.val.last, lines_keys xs r)
 
 count_line : (r : ℕ) (o : Option StoreLine) → count_found (λ k _. one_if (eqb r k)) r o ≡ one_if (is_some o)
-count_line r none = refl
-count_line r (some l) = rw (eq-eqb r r refl)
+count_line r None = refl
+count_line r (Some l) = rw (eq-eqb r r refl)
 
 pub memo_lines_lem : (s : Store) (vs : List Watch) → WellFormed s → (r : ℕ) → memo_lines (desk_at s vs) r ≡ one_if (is_some (find s.memo r))
 unfolding memo_lines desk_of ledger_of
@@ -156,8 +156,8 @@ module _ (s : Store) (w : WellFormed s) (b : List ℕ) (l : Laid s b) (f : Row F
 
 count_stale : (x : Plain) (r : ℕ) (o : Option Fix) → count_found (λ k v. one_if (stale_entry x r (record { key = k; val = v }))) r o ≡ count_if (λ f. not (is_at (x.flushed r) f.place)) o
 unfolding stale_entry both
-count_stale x r none = refl
-count_stale x r (some v) = rw (eq-eqb r r refl)
+count_stale x r None = refl
+count_stale x r (Some v) = rw (eq-eqb r r refl)
 
 stale_rows : (x : Plain) (r : ℕ) (l : Rows Fix) → Rising 0 l → sum_by (λ e. one_if (stale_entry x r e)) l ≡ count_if (λ f. not (is_at (x.flushed r) f.place)) (find l r)
 unfolding stale_entry both
@@ -178,15 +178,15 @@ abbrev held_of : ℕ → List Cell → ℕ
 held_of r cells = sum_by (λ c. count_if (λ _. true) (find c.entries r)) cells
 
 count_le : (t : Fix → Bool) (o : Option Fix) → count_if t o ≤ count_if (λ _. true) o
-count_le t none = omega arith
-count_le t (some f) = one_if-le (t f)
+count_le t None = omega arith
+count_le t (Some f) = one_if-le (t f)
 
 stale_le : (last : Option Place) (r : ℕ) (cells : List Cell) → stale_of last r cells ≤ held_of r cells
 unfolding stale_of
 stale_le last r cells = sum-le _ _ cells (λ c. count_le (λ f. not (is_at last f.place)) (find c.entries r))
 
 -- without a line, the one entry of a radio is the live one
-module _ (memo : Rows StoreLine) (r : ℕ) (n : find memo r ≡ none) where
+module _ (memo : Rows StoreLine) (r : ℕ) (n : find memo r ≡ None) where
   held_live : (cells : List Cell) → held_of r cells ≡ live_of memo r cells
   unfolding live_of
   held_live cells = rw n
@@ -199,7 +199,7 @@ module _ (memo : Rows StoreLine) (r : ℕ) (n : find memo r ≡ none) where
       count_if (λ f. not (is_at last f.place)) o + stale_of last r cs ≡ 0 in
       option_cases (find c.entries r)
       (λ e. subst P (sym e) (omega (arith, only_stored cs (omega (arith, rw e at h)))))
-      (λ v e. subst P (sym e) (rw (n, same_place_refl v.place) (omega (arith, stale_le (some v.place) r cs, rw e at h))))
+      (λ v e. subst P (sym e) (rw (n, same_place_refl v.place) (omega (arith, stale_le (Some v.place) r cs, rw e at h))))
 
 pub stale_flushed : (s : Store) (x : Plain) → WellFormed s → Link s x → (r : ℕ) → stale_of (x.flushed r) r s.cells ≡ missed_of (find s.memo r)
 stale_flushed s x w k r =

@@ -2,7 +2,7 @@
 -- each record brings it nearer to its sweep. It stands at place 63 of the round at the most, and 16 × 64 = 1,024.
 use mathlib.Core.Bool.{Bool, true, false, not, cond}
 use mathlib.Core.List.{List, [], ◌∷◌}
-use mathlib.Core.Option.{Option, none, some}
+use Rattle.std.specs.Prelude.{Option, None, Some}
 use mathlib.Core.Path.{◌≡◌, refl, sym, ap, ◌∙◌, subst}
 use Prim.Native.Nat.{ℕ, ◌+◌, ◌*◌, ◌≤◌, ◌<◌}
 use native.Mathlib.Omega.{arith}
@@ -76,7 +76,7 @@ live_none (called {d} {b} {x} t call buffer y small a) r p e =
 -- ---- a stale entry is one by the memo
 
 module _ (s : Store) (x : Plain) (w : WellFormed s) (k : Link s x) {c : Cell} (a : Among s.cells c) (r : ℕ) (f : Fix)
-    (held : find c.entries r ≡ some f) (stale : is_at (x.flushed r) f.place ≡ false) where
+    (held : find c.entries r ≡ Some f) (stale : is_at (x.flushed r) f.place ≡ false) where
   -- it is one of those that the missed count counts, so its radio has a memo line; and a line's place is the last place flushed
   counted : 1 ≤ missed_of (find s.memo r)
   unfolding stale_of
@@ -102,7 +102,7 @@ module _ (s : Store) (x : Plain) (w : WellFormed s) (k : Link s x) {c : Cell} (a
 
 -- a cell's entry of radio r is at p
 abbrev HeldAt : Cell → ℕ → Place → Type 0
-HeldAt c r p = (f : Fix) × (find c.entries r ≡ some f) × (f.place ≡ p)
+HeldAt c r p = (f : Fix) × (find c.entries r ≡ Some f) × (f.place ≡ p)
 
 -- it became stale n records ago, and at place k of the round it is swept with the (16 × (k + 1) − c)-th from here: less than 1,024 together
 abbrev Soon : Store → Plain → ℕ → Place → ℕ → Type 0
@@ -207,8 +207,8 @@ module _ (r : ℕ) (p : Place) where
 
   count_entry : (o : Option Fix) → count_found (λ k v. one_if (is_entry r p (record { key = k; val = v }))) r o ≡ count_if (λ f. same_place p f.place) o
   unfolding is_entry both
-  count_entry none = refl
-  count_entry (some f) = rw (eq-eqb r r refl)
+  count_entry None = refl
+  count_entry (Some f) = rw (eq-eqb r r refl)
 
   entries_in_lem : (c : Cell) → Rising 0 c.entries → entries_in c ≡ count_if (λ f. same_place p f.place) (find c.entries r)
   unfolding is_entry both

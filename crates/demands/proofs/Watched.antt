@@ -2,7 +2,7 @@
 use mathlib.Core.Bool.{Bool, true, false, not, cond}
 use mathlib.Core.List.{List, ◌∷◌}
 use mathlib.Core.Logic.{◌≢◌}
-use mathlib.Core.Option.{Option, none, some}
+use Rattle.std.specs.Prelude.{Option, None, Some}
 use mathlib.Core.Path.{◌≡◌, refl, sym, ap, ap₂, ◌∙◌}
 use Prim.Native.Nat.{ℕ, ◌+◌, ◌*◌, ◌<◌}
 use native.Mathlib.Omega.{arith}
@@ -30,15 +30,17 @@ use Rattle.rules.specs.Calls.{Call, hands, sets, clears, writes, filed, carry_re
 use Rattle.rules.specs.WellFormed.{WellFormed}
 use Rattle.rules.proofs.LatestLaws.{latest_by, step_latest}
 use Rattle.rules.proofs.LinkLaws.{latest_same}
+use Rattle.desk.specs.declared.Watch.{Watch as DeskWatch}
 use Rattle.desk.specs.declared.Desk.{Desk}
-use Rattle.desk.specs.Layout.{member_words, members_of, area_of, watch_fields, watch_words, watches_of}
+use Rattle.desk.specs.Layout.{member_words, members_of, watch_of, no_watch, watches_of}
 use Rattle.desk.specs.Views.{watch_in, member_in}
 use Rattle.desk.specs.Call.{After, handed, Answers, laid_out}
 use Rattle.desk.proofs.CallLaws.{answers_Sound}
 use Rattle.desk.proofs.UniqueLaws.{desk_watches}
-use Rattle.desk.proofs.WatchesLaws.{length_watch, length_watches, field_at, watch_laid, member_laid}
+use Rattle.desk.proofs.WatchesLaws.{laid_at, watch_laid, member_laid}
 use Rattle.demands.specs.Trace.{InBytes, Trace, begun, called, desk_cuts, watches_set, EveryState, Step, EveryCall}
-use Rattle.demands.specs.Watched.{Watching, was_member, now_member, Moves, Changes, Stays, MovedBy, WatchedAlways}
+use Rattle.std.specs.Prelude.{get_or}
+use Rattle.demands.specs.Watched.{watch_part, Watching, was_member, now_member, Moves, Changes, Stays, MovedBy, WatchedAlways}
 use Rattle.demands.proofs.Demands.{Beside, watched, sound, begins, outcome, beside, watched_then}
 
 -- ---- the watches of a desk beside its store
@@ -50,30 +52,25 @@ module _ {d : Desk} {b : List ℕ} {x : Plain} {l : List Watch} (k : Beside d b 
   place_same : (r : ℕ) → latest_place k.store r ≡ place_of (x.latest r)
   place_same r = ap place_of (latest_same k.store x k.link r)
 
+  watch_is : (w : ℕ) → w < max_watches → watch_part d w ≡ watch_of (latest_place k.store) (watch_at l w)
+  watch_is w h = ap (λ (vs : List DeskWatch). get_or vs w no_watch) watches_are ∙ laid_at (latest_place k.store) l w no_watch (omega (arith, k.right.sixteen))
+
   watching : Watching d b x l
   watching = record {
-    watch = λ w h. ap (λ (ws : List ℕ). watch_in ws w) watches_are ∙ watch_laid (latest_place k.store) l w (omega (arith, k.right.sixteen));
+    watch = λ w h. ap watch_in (watch_is w h) ∙ watch_laid (latest_place k.store) (watch_at l w);
     members = λ w r h i.
-        ap (λ (ws : List ℕ). member_in ws w r) watches_are ∙ member_laid (latest_place k.store) l w (omega (arith, k.right.sixteen)) r i
-        ∙ ap (is_member (watch_at l w)) (place_same r);
+        ap (λ (v : DeskWatch). member_in v r) (watch_is w h) ∙ member_laid (latest_place k.store) (watch_at l w) r i ∙ ap (is_member (watch_at l w)) (place_same r);
   }
 
--- ---- the numbers of one watch
+-- ---- one watch
 
-part_watch : (places : ℕ → Option Place) (l : List Watch) (w : ℕ) → w < length l → part (watches_of places l) (watch_fields * w) watch_fields ≡ watch_words places (watch_at l w)
-part_watch places l w h =
-    let size = length-part (watches_of places l) (watch_fields * w) watch_fields (omega (arith, length_watches places l)) in
-    ext_get_or 0 _ _ (size ∙ sym (length_watch places (watch_at l w))) λ k i.
-    let j : k < watch_fields = omega (arith, size) in
-    get_or-part (watches_of places l) (watch_fields * w) watch_fields k 0 j ∙ field_at places l w k h j
-
--- they depend on who is a member alone
-words_same : (f g : ℕ → Option Place) (watch : Watch) → ((r : ℕ) → is_member watch (f r) ≡ is_member watch (g r)) → watch_words f watch ≡ watch_words g watch
-unfolding watch_words members_of
-words_same f g watch e =
+-- it depends on who is a member alone
+members_same : (f g : ℕ → Option Place) (watch : Watch) → ((r : ℕ) → is_member watch (f r) ≡ is_member watch (g r)) → watch_of f watch ≡ watch_of g watch
+unfolding watch_of members_of
+members_same f g watch e =
     let m = tab_ext member_words (λ i. bits 16 (λ j. is_member watch (f (16 * i + j)))) (λ i. bits 16 (λ j. is_member watch (g (16 * i + j))))
     (λ i h. bits_same 16 (λ j. is_member watch (f (16 * i + j))) (λ j. is_member watch (g (16 * i + j))) (λ j k. e (16 * i + j))) in
-    ap (λ (n : List ℕ). one_if (is_some watch) ∷ (area_of watch).easts.low ∷ (area_of watch).easts.high ∷ (area_of watch).norths.low ∷ (area_of watch).norths.high ∷ n) m
+    ap (λ (n : List ℕ). record (watch_of f watch) { members = n }) m
 
 -- ---- a record
 
@@ -148,10 +145,8 @@ module _ {d : Desk} {b : List ℕ} {x : Plain} {l : List Watch} (k : Beside d b 
     gains = gains;
     losses = losses;
     others = λ w h g o.
-        let j : w < length l = omega (arith, k.right.sixteen) in
-        ap (λ (ws : List ℕ). part ws (watch_fields * w) watch_fields) watches_then ∙ part_watch (latest_place s') l w j
-        ∙ words_same (latest_place s') (latest_place s) (watch_at l w) (members_stay w h g o)
-        ∙ sym (ap (λ (ws : List ℕ). part ws (watch_fields * w) watch_fields) (watches_are k) ∙ part_watch (latest_place s) l w j);
+        ap (λ (vs : List DeskWatch). get_or vs w no_watch) watches_then ∙ laid_at (latest_place s') l w no_watch (omega (arith, k.right.sixteen))
+        ∙ members_same (latest_place s') (latest_place s) (watch_at l w) (members_stay w h g o) ∙ sym (watch_is k w h);
   }
 
 -- ---- a watch that is set or cleared
@@ -172,7 +167,7 @@ module _ {d : Desk} {b : List ℕ} {x : Plain} {l : List Watch} (k : Beside d b 
   now_sixteen = by_cases (eqb number 0) (λ t. rw t (length-set l w watch ∙ k.right.sixteen)) (λ t. rw t k.right.sixteen)
 
   other_watch : (v : ℕ) → v ≢ w → watch_at z v ≡ watch_at l v
-  other_watch v n = by_cases (eqb number 0) (λ t. rw t (get_or-set_other l w v watch none n)) (λ t. rw t)
+  other_watch v n = by_cases (eqb number 0) (λ t. rw t (get_or-set_other l w v watch None n)) (λ t. rw t)
 
   changes : Changes (record { desk = d; plain = x; watches = l; call = call; buffer = buffer; after = y }) w
   unfolding laid_out
@@ -180,9 +175,8 @@ module _ {d : Desk} {b : List ℕ} {x : Plain} {l : List Watch} (k : Beside d b 
     none_gained = ap (λ (a : After). a.gained) told;
     none_lost = ap (λ (a : After). a.lost) told;
     others = λ v h n.
-        ap (λ (ws : List ℕ). part ws (watch_fields * v) watch_fields) now_watches ∙ part_watch (latest_place k.store) z v (omega (arith, now_sixteen))
-        ∙ ap (watch_words (latest_place k.store)) (other_watch v n)
-        ∙ sym (ap (λ (ws : List ℕ). part ws (watch_fields * v) watch_fields) (watches_are k) ∙ part_watch (latest_place k.store) l v (omega (arith, k.right.sixteen)));
+        ap (λ (vs : List DeskWatch). get_or vs v no_watch) now_watches ∙ laid_at (latest_place k.store) z v no_watch (omega (arith, now_sixteen))
+        ∙ ap (watch_of (latest_place k.store)) (other_watch v n) ∙ sym (watch_is k v h);
   }
 
 -- ---- a file that is written
@@ -202,8 +196,8 @@ moved_by : {d : Desk} {b : List ℕ} {x : Plain} {l : List Watch} (k : Beside d 
     → MovedBy (record { desk = d; plain = x; watches = l; call = call; buffer = buffer; after = y }) call
 unfolding carry_call
 moved_by k (hands bytes) buffer y small a = moves k bytes buffer (answers_Sound a (sound k)) small
-moved_by {l = l} k (sets w rect) buffer y small a = changes k (set_refusal w rect) w (some rect) (sets w rect) buffer (answers_Sound a (sound k))
-moved_by {l = l} k (clears w) buffer y small a = changes k (clear_refusal w l) w none (clears w) buffer (answers_Sound a (sound k))
+moved_by {l = l} k (sets w rect) buffer y small a = changes k (set_refusal w rect) w (Some rect) (sets w rect) buffer (answers_Sound a (sound k))
+moved_by {l = l} k (clears w) buffer y small a = changes k (clear_refusal w l) w None (clears w) buffer (answers_Sound a (sound k))
 moved_by k writes buffer y small a = stays k (told_file (file_of (everyone k.store)) buffer) buffer (answers_Sound a (sound k))
 
 every_state : {d : Desk} {b : List ℕ} {x : Plain} (t : Trace d b x) → EveryState Watching t

@@ -1,6 +1,5 @@
 -- Demands 2 and 3, over desk and page bytes (01, "The plain rule": "Demand 3 is a single claim about the whole list").
-use Rattle.std.specs.Prelude.{Bool, true, not, cond, List, [], ◌∷◌, ◌++◌, map, ◌≡◌, ℕ, suc, ◌+◌, ◌≤◌, eqb, ltb, take}
-use Rattle.std.proofs.Math.Option.{Option, none, some}
+use Rattle.std.specs.Prelude.{Bool, true, not, cond, List, [], ◌∷◌, ◌++◌, map, ◌≡◌, ℕ, suc, ◌+◌, ◌≤◌, eqb, ltb, take, Option, None, Some}
 use Rattle.terms.specs.Terms.{Fix, fix_at, max_radio, pages, no_page}
 use Rattle.lists.specs.Chains.{walk}
 use Rattle.lists.specs.Rows.{Row}
@@ -20,7 +19,7 @@ use Rattle.rules.specs.Calls.{Call, hands, sets, clears, writes, set_refusal, cl
 use Rattle.desk.specs.declared.Desk.{Desk}
 use Rattle.desk.specs.declared.Line.{Line}
 use Rattle.desk.specs.declared.Report.{Report}
-use Rattle.desk.specs.Views.{every_report, every_slot, lines_in}
+use Rattle.desk.specs.Views.{every_report}
 use Rattle.demands.specs.Trace.{Trace, EveryState, Step, EveryCall}
 
 -- ---- Demand 2
@@ -53,7 +52,7 @@ chain_at b p = walk no_page (λ q. next (page_at b q)) (suc pages) p
 
 unfoldable pub all_chains : Desk → List ℕ → List ℕ
 all_chains d b =
-    concat (map (λ c. chain_at b c.first) (take d.parts.frame.cells (every_slot d.cells))) ++ chain_at b d.parts.frame.free
+    concat (map (λ c. chain_at b c.first) (take d.parts.frame.cells d.cells)) ++ chain_at b d.parts.frame.free
 
 -- "a stored entry is stale unless its place is the last place flushed for its radio, by the plain rule .., and the radio has not signed off since"
 unfoldable pub stale_entry : Plain → ℕ → Row Fix → Bool
@@ -69,11 +68,11 @@ missed_in [] r = 0
 missed_in (l ∷ ls) r = cond (eqb r l.radio) l.missed (missed_in ls r)
 
 unfoldable pub missed_count : Desk → ℕ → ℕ
-missed_count d r = missed_in (take d.parts.lines (lines_in d.memo)) r
+missed_count d r = missed_in (take d.parts.lines d.memo) r
 
 -- how many memo lines a radio has
 unfoldable pub memo_lines : Desk → ℕ → ℕ
-memo_lines d r = sum_by (λ l. one_if (eqb r l.radio)) (take d.parts.lines (lines_in d.memo))
+memo_lines d r = sum_by (λ l. one_if (eqb r l.radio)) (take d.parts.lines d.memo)
 
 -- "A radio number is 1 to 4,095."
 unfoldable pub is_radio : ℕ → Bool
@@ -81,11 +80,11 @@ is_radio r = both (ltb 0 r) (ltb r (suc max_radio))
 
 -- what the report of a radio that waits in the desk told
 unfoldable pub waiting_fix : List Report → ℕ → Option Fix
-waiting_fix [] r = none
-waiting_fix (w ∷ ws) r = cond (eqb r w.radio) (some (fix_at w.east w.north (wide w.low w.high))) (waiting_fix ws r)
+waiting_fix [] r = None
+waiting_fix (w ∷ ws) r = cond (eqb r w.radio) (Some (fix_at w.east w.north (wide w.low w.high))) (waiting_fix ws r)
 
 abbrev pub fix_if : Bool → Option Fix → Option Fix
-fix_if b o = cond b o none
+fix_if b o = cond b o None
 
 -- "16 × 63 + 15 + 127 = 1,150 bounds stale and waiting together"
 abbrev pub stale_bound : ℕ

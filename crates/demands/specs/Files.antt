@@ -1,6 +1,5 @@
 -- Files read and written (02, Job 6), over desk and page bytes and every list of calls.
-use Rattle.std.specs.Prelude.{false, List, [], ◌∷◌, ◌≡◌, ℕ, ◌≤◌, eqb, length, take}
-use Rattle.std.proofs.Math.Option.{Option, some}
+use Rattle.std.specs.Prelude.{false, List, [], ◌∷◌, ◌≡◌, ℕ, ◌≤◌, eqb, length, take, Option, Some}
 use Rattle.terms.specs.Terms.{Fix}
 use Rattle.lists.specs.Tests.{both}
 use Rattle.csv_grammar.specs.Csv.{Listed, lines, file_read, max_minute}
@@ -44,7 +43,7 @@ abbrev pub Latest : Type 0
 Latest = ℕ → Option Fix
 
 abbrev pub NoneAtOrigin : Latest → Type 0
-NoneAtOrigin latest_of = (r : ℕ) (f : Fix) → latest_of r ≡ some f → both (eqb f.place.east 0) (eqb f.place.north 0) ≡ false
+NoneAtOrigin latest_of = (r : ℕ) (f : Fix) → latest_of r ≡ Some f → both (eqb f.place.east 0) (eqb f.place.north 0) ≡ false
 
 -- the file is accepted, and the plain rule beside the store that is made has the same
 pub record CameBack (latest_of : Latest) (file : List ℕ) (z : Made) : Type 0 where

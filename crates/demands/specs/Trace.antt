@@ -1,7 +1,6 @@
 -- Lists of calls from a fresh store, the plain rule beside them (01, "The plain rule": "Each call gets desk and pages as the last one returned or left
 -- them, with record bytes and answer buffer of its own."). The calls that set and clear a watch (02, Job 5) or write a file (Job 6) are among them.
-use Rattle.std.specs.Prelude.{cond, List, ℕ, eqb, take, set, replicate}
-use Rattle.std.proofs.Math.Option.{none, some}
+use Rattle.std.specs.Prelude.{cond, List, ℕ, eqb, take, set, replicate, None, Some}
 use Rattle.lists.specs.Words.{Bytes}
 use Rattle.rules.specs.Grid.{Cuts}
 use Rattle.rules.specs.Plain.{Plain, plain_fresh}
@@ -40,12 +39,12 @@ pub data Trace : Desk → List ℕ → Plain → Type 0 where
 -- the watches that are set: "none in a fresh store", "setting again meaning replaced"
 abbrev pub watches_then : Call → List Watch → List Watch
 watches_then (hands bytes) l = l
-watches_then (sets w rect) l = cond (eqb (set_refusal w rect) 0) (set l w (some rect)) l
-watches_then (clears w) l = cond (eqb (clear_refusal w l) 0) (set l w none) l
+watches_then (sets w rect) l = cond (eqb (set_refusal w rect) 0) (set l w (Some rect)) l
+watches_then (clears w) l = cond (eqb (clear_refusal w l) 0) (set l w None) l
 watches_then writes l = l
 
 unfoldable pub watches_set : {d : Desk} {b : List ℕ} {x : Plain} → Trace d b x → List Watch
-watches_set begun = replicate max_watches none
+watches_set begun = replicate max_watches None
 watches_set (called before call buffer y small a) = watches_then call (watches_set before)
 
 -- a fact of the fresh store and of what each call leaves

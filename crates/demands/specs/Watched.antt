@@ -1,26 +1,30 @@
 -- Watched rectangles (02, Job 5), over desk and page bytes and every list of calls.
-use Rattle.std.specs.Prelude.{Bool, false, not, List, ◌≢◌, ◌≡◌, ℕ, ◌*◌, ◌≤◌, ◌<◌}
+use Rattle.std.specs.Prelude.{Bool, false, not, List, ◌≢◌, ◌≡◌, ℕ, ◌≤◌, ◌<◌, get_or}
 use Rattle.terms.specs.Terms.{max_radio}
 use Rattle.lists.specs.Bits.{bit}
-use Rattle.lists.specs.Parts.{part}
 use Rattle.lists.specs.Tests.{both}
 use Rattle.rules.specs.Plain.{Plain, place_of, plain_step}
 use Rattle.rules.specs.Records.{radio_field}
 use Rattle.rules.specs.Watches.{max_watches, Watch, watch_at, is_member}
 use Rattle.rules.specs.Calls.{Call, hands, sets, clears, writes}
+use Rattle.desk.specs.declared.Watch.{Watch as DeskWatch}
 use Rattle.desk.specs.declared.Desk.{Desk}
-use Rattle.desk.specs.Layout.{watch_fields}
+use Rattle.desk.specs.Layout.{no_watch}
 use Rattle.desk.specs.Views.{watch_in, member_in}
 use Rattle.demands.specs.Trace.{Trace, desk_cuts, EveryState, Step, EveryCall}
+
+-- a watch as the desk has it
+abbrev pub watch_part : Desk → ℕ → DeskWatch
+watch_part d w = get_or d.watches w no_watch
 
 -- ---- the members
 
 -- what the desk holds of each watch, beside the plain rule and the watches that the calls have set
 pub record Watching (d : Desk) (b : List ℕ) (x : Plain) (l : List Watch) : Type 0 where
   -- its rectangle is the one that was set last, or none
-  pub watch : (w : ℕ) → w < max_watches → watch_in d.watches w ≡ watch_at l w
+  pub watch : (w : ℕ) → w < max_watches → watch_in (watch_part d w) ≡ watch_at l w
   -- its members are the radios on whose latest place lies in it, by the plain rule
-  pub members : (w r : ℕ) → w < max_watches → r ≤ max_radio → member_in d.watches w r ≡ is_member (watch_at l w) (place_of (x.latest r))
+  pub members : (w r : ℕ) → w < max_watches → r ≤ max_radio → member_in (watch_part d w) r ≡ is_member (watch_at l w) (place_of (x.latest r))
 
 -- ---- gained and lost
 
@@ -30,10 +34,6 @@ was_member c bytes w = is_member (watch_at c.watches w) (place_of (c.plain.lates
 
 abbrev pub now_member : Step → List ℕ → ℕ → Bool
 now_member c bytes w = is_member (watch_at c.watches w) (place_of ((plain_step (desk_cuts c.desk) bytes c.plain).latest (radio_field bytes)))
-
--- the numbers of a watch in the desk
-abbrev pub watch_part : Desk → ℕ → List ℕ
-watch_part d w = part d.watches (watch_fields * w) watch_fields
 
 -- a record
 pub record Moves (c : Step) (bytes : List ℕ) : Type 0 where

@@ -1,12 +1,12 @@
 -- A fresh store is sound: it is well-formed, and `fresh_pages` are its pages.
-use mathlib.Core.Path.{◌≡◌, refl, sym, ap, ap₂, ◌∙◌}
+use mathlib.Core.Path.{◌≡◌, refl, sym, ap, ◌∙◌}
 use mathlib.Core.Bool.{cond}
 use mathlib.Core.List.{List, [], ◌∷◌}
-use mathlib.Core.Option.{none}
+use Rattle.std.specs.Prelude.{None}
 use Prim.Native.Nat.{ℕ, zero, suc, ◌+◌, ◌-◌, ◌*◌, ◌<◌}
 use native.Mathlib.Omega.{arith}
 use lib.Dec.{eqb}
-use lib.ListN.{length, drop, set, replicate}
+use lib.ListN.{length, drop, replicate}
 use borrow.Author.Tests.{eq-eqb, ne_eqb}
 use Rattle.terms.specs.Terms.{pages, no_page, no_cell, max_on}
 use Rattle.lists.specs.Chains.{chain_head}
@@ -26,11 +26,11 @@ use Rattle.rules.specs.Store.{Cell, fresh, pages_for}
 use Rattle.rules.specs.Carry.{is_on, waiting_in}
 use Rattle.rules.specs.Watches.{max_watches, latest_place, NotReversed, RightWatches, fresh_watched}
 use Rattle.rules.specs.WellFormed.{live_of, stale_in, chains, GoodCell, WellFormed, PagesOnce}
-use Rattle.desk.specs.Layout.{ledger_of, watch_fields, desk_of, grid_of, cut_list_of, slot_of, slot_fields, slotted, directory_of, report_fields, report_words, waiting_of, line_fields, line_slots, memo_of, on_of, leaves, cell_leaves, cells_leaves, free_leaves, store_leaves, At, Laid, pages_of, fresh_pages}
+use Rattle.desk.specs.Layout.{ledger_of, unset_watch, desk_of, grid_of, cut_list_of, slot_of, no_slot, slotted, directory_of, report_fields, report_words, waiting_of, line_slots, no_line, memo_of, on_of, leaves, cell_leaves, cells_leaves, free_leaves, store_leaves, At, Laid, pages_of, fresh_pages}
 use Rattle.desk.specs.Sound.{Sound}
-use Rattle.desk.specs.Views.{every_slot}
+use Rattle.desk.specs.declared.Slot.{Slot}
+use Rattle.desk.specs.declared.Watch.{Watch}
 use Rattle.desk.specs.declared.Desk.{Desk}
-use Rattle.desk.proofs.SlotsLaws.{slot_alone}
 use Rattle.desk.proofs.PagesLaws.{pages_Laid}
 use Rattle.desk.proofs.WatchesLaws.{blank_watches}
 use Rattle.rules.proofs.TilingLaws.{Tiling-fresh}
@@ -129,7 +129,7 @@ fresh_well = record {
 
 -- ---- no watch is set
 
-fresh_none : (n : ℕ) → Each NotReversed (replicate n none)
+fresh_none : (n : ℕ) → Each NotReversed (replicate n None)
 fresh_none zero = tt
 fresh_none (suc n) = (tt, fresh_none n)
 
@@ -144,7 +144,7 @@ fresh_Sound = record { watched = fresh_watched; well = fresh_well; right = fresh
 -- ---- its desk
 
 -- what `Desk::fresh` makes, cell 0 being written in a blank array
-abbrev fresh_with : List ℕ → List ℕ → Desk
+abbrev fresh_with : List Slot → List Watch → Desk
 fresh_with cells watches = record {
   parts = record {
     frame = record { easts = record { n = 0; at = replicate max_cuts 0 }; norths = record { n = 0; at = replicate max_cuts 0 }; cells = 1; free = 1 };
@@ -156,12 +156,11 @@ fresh_with cells watches = record {
   };
   cells = cells;
   waiting = replicate (report_fields * full_memory) 0;
-  memo = replicate (line_fields * line_slots) 0;
+  memo = replicate line_slots no_line;
   on = replicate max_on 0;
   watches = watches;
 }
 
-pub fresh_desk : (cells : List ℕ) → every_slot cells ≡ set (every_slot (replicate (slot_fields * max_cells) 0)) 0 (slot_of fresh_cell) → length cells ≡ slot_fields * max_cells
-    → fresh_with cells (replicate (watch_fields * max_watches) 0) ≡ desk_of fresh_watched
+pub fresh_desk : fresh_with (slot_of fresh_cell ∷ replicate (max_cells - 1) no_slot) (replicate max_watches unset_watch) ≡ desk_of fresh_watched
 unfolding fresh_watched fresh desk_of ledger_of grid_of cut_list_of directory_of waiting_of memo_of on_of slotted tab concat report_words
-fresh_desk cells e l = ap₂ fresh_with (slot_alone cells (slot_of fresh_cell) e l) (sym (blank_watches (latest_place fresh) max_watches))
+fresh_desk = ap (fresh_with _) (sym (blank_watches (latest_place fresh) max_watches))

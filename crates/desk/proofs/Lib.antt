@@ -1,6 +1,6 @@
 pub mod CallLaws
 pub mod FreshLaws
-pub mod LinesLaws
+pub mod HeldLaws
 pub mod PagesLaws
 pub mod ReadLaws
 pub mod ReportsLaws

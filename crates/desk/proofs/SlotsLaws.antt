@@ -1,155 +1,159 @@
--- The directory's array as slots: what is read of it, what a slot written in it makes of the others, and the array from its slots.
-use mathlib.Core.List.{List, [], ◌∷◌, map, append_assoc}
-use mathlib.Core.Path.{◌≡◌, refl, sym, ap, ◌∙◌}
-use Prim.Native.Nat.{ℕ, zero, suc, ◌+◌, ◌*◌, ◌/◌, ◌<◌, ◌≤◌}
+-- Rows in an array whose unused slots hold one value: what a place opened or closed there and stores do to the rows.
+use mathlib.Core.List.{List, [], ◌∷◌, ◌++◌, map}
+use mathlib.Core.Path.{◌≡◌, refl, sym, ap, ap₂, ◌∙◌}
+use Prim.Native.Nat.{ℕ, zero, suc, ◌+◌, ◌-◌, ◌≤◌, ◌<◌}
+use native.Mathlib.Nat.{le_of_suc-le-suc, not-suc-le-zero}
+use native.Mathlib.Numerals.{add-one}
 use native.Mathlib.Omega.{arith}
-use lib.ListN.{length, get_or, set, take, drop, replicate}
-use lib.Dec.{ltb}
-use lib.Seq.{sets, sets-eq}
-use borrow.Author.Tests.{ltb-true, ltb-false}
-use Rattle.lists.specs.Parts.{part, put, tab}
-use Rattle.lists.specs.Sums.{concat}
-use Rattle.lists.proofs.Cases.{by_cases}
-use Rattle.lists.proofs.PartsLaws.{length-tab, get_or-tab, tab_of, tab_ext, set-tab, length-put, get_or-part, part-put, part-put_before, part-put_after, part-cons, part_zero, pieces_of, put_def}
-use Rattle.rules.specs.Limits.{max_cells}
-use Rattle.desk.specs.declared.Slot.{Slot}
-use Rattle.desk.specs.Held.{directory_in}
-use Rattle.desk.specs.Layout.{slotted, slot_fields, slot_fields_of, slot_words, no_slot}
-use Rattle.desk.specs.Views.{slot_in, every_slot, directory_with}
+use lib.ListN.{length, get_or, set, take, drop, replicate, replicate-append-replicate, length-map, length-append, length-take, length-drop, length-set, length-replicate, take-append-drop, get_or-append}
+use lib.Seq.{drop-append-add, set-append_left, set_split, drop-set-lt, drop_at, drop-drop, take-set-le, take-suc-set, length-take-le}
+use Rattle.lists.specs.Parts.{part, insert_at, remove_at}
+use Rattle.lists.specs.Rows.{Row, Rows}
+use Rattle.lists.proofs.MapLaws.{map-set, map-insert_at, map-remove_at}
+use Rattle.lists.proofs.PartsLaws.{length-part, drop-put}
+use Rattle.lists.proofs.ShiftLaws.{Opened, open_end, Closed, close_end}
+use Rattle.desk.specs.Layout.{slotted}
+use Rattle.desk.proofs.UniqueLaws.{take-slotted}
 
--- ---- a slot and the part of the array that has its fields
+-- ---- lists
 
--- slots are equal if the parts with their fields are
-slot_same : (ws vs : List ℕ) (i : ℕ) → part vs (slot_fields * i) slot_fields ≡ part ws (slot_fields * i) slot_fields → slot_in vs i ≡ slot_in ws i
-slot_same ws vs i e =
-    let f : (k : ℕ) → k < slot_fields → get_or vs (slot_fields * i + k) 0 ≡ get_or ws (slot_fields * i + k) 0 = λ k h.
-    sym (get_or-part vs (slot_fields * i) slot_fields k 0 h) ∙ ap (λ (l : List ℕ). get_or l k 0) e ∙ get_or-part ws (slot_fields * i) slot_fields k 0 h in
-    let o : slot_fields * i + 0 ≡ slot_fields * i = omega arith in
-    let z = ap (λ (n : ℕ). get_or vs n 0) (sym o) ∙ f 0 (omega arith) ∙ ap (λ (n : ℕ). get_or ws n 0) o in
-    let a = f 1 (omega arith) in
-    let b = f 2 (omega arith) in
-    let c = f 3 (omega arith) in
-    let d = f 4 (omega arith) in
-    let g = f 5 (omega arith) in
-    λ t. record { number = z t; west = a t; east = b t; south = c t; north = d t; first = g t }
+pub length-insert_at : {A : Type 0} (l : List A) (a : ℕ) (v : A) → length (insert_at l a v) ≡ length l + 1
+unfolding insert_at
+length-insert_at l a v = simp (length-append, length-take, length-drop) (omega arith)
 
--- the slot whose fields stand there
-slot_there : (ws : List ℕ) (i : ℕ) (x : Slot) → part ws (slot_fields * i) slot_fields ≡ slot_fields_of x → slot_in ws i ≡ x
-slot_there ws i x e =
-    let f : (k : ℕ) → k < slot_fields → get_or ws (slot_fields * i + k) 0 ≡ get_or (slot_fields_of x) k 0 = λ k h.
-    sym (get_or-part ws (slot_fields * i) slot_fields k 0 h) ∙ ap (λ (l : List ℕ). get_or l k 0) e in
-    let o : slot_fields * i ≡ slot_fields * i + 0 = omega arith in
-    let z : get_or ws (slot_fields * i) 0 ≡ x.number = ap (λ (n : ℕ). get_or ws n 0) o ∙ f 0 (omega arith) in
-    let a : get_or ws (slot_fields * i + 1) 0 ≡ x.west = f 1 (omega arith) in
-    let b : get_or ws (slot_fields * i + 2) 0 ≡ x.east = f 2 (omega arith) in
-    let c : get_or ws (slot_fields * i + 3) 0 ≡ x.south = f 3 (omega arith) in
-    let d : get_or ws (slot_fields * i + 4) 0 ≡ x.north = f 4 (omega arith) in
-    let g : get_or ws (slot_fields * i + 5) 0 ≡ x.first = f 5 (omega arith) in
-    λ t. record { number = z t; west = a t; east = b t; south = c t; north = d t; first = g t }
+pub length-remove_at : {A : Type 0} (l : List A) (a : ℕ) → a < length l → length (remove_at l a) ≡ length l - 1
+unfolding remove_at
+length-remove_at l a h = simp (length-append, length-take, length-drop) (omega arith)
 
-six_more : (i : ℕ) → slot_fields * suc i ≡ suc (suc (suc (suc (suc (suc (slot_fields * i))))))
-six_more i = omega arith
+-- past the place that was opened, or closed, nothing changes
+pub open_rest : {A : Type 0} {xs ys : List A} {n : ℕ} (a : ℕ) (v : A) → Opened xs n a ys → drop (n + 1) (set ys a v) ≡ drop (n + 1) xs
+open_rest {A} {xs} {ys} {n} a v d =
+    let f = d.fits in
+    let g = d.low in
+    let l : length (part xs a (n - a)) ≡ n - a = length-part xs a (n - a) (omega arith) in
+    let q : a + 1 + length (part xs a (n - a)) ≡ n + 1 = omega arith in
+    drop-set-lt (n + 1) ys a v (omega arith) ∙ rw d.list (rw q at (drop-put xs (a + 1) (part xs a (n - a)) (omega arith)))
 
--- and the fields of the slot that is there
-slot_fields_lem : (ws : List ℕ) (i : ℕ) → slot_fields * i + slot_fields ≤ length ws → slot_fields_of (slot_in ws i) ≡ part ws (slot_fields * i) slot_fields
-slot_fields_lem ws i h =
-    let k = slot_fields * i in
-    let n₁ : k + 1 + 1 ≡ k + 2 = omega arith in
-    let n₂ : k + 2 + 1 ≡ k + 3 = omega arith in
-    let n₃ : k + 3 + 1 ≡ k + 4 = omega arith in
-    let n₄ : k + 4 + 1 ≡ k + 5 = omega arith in
-    sym (part-cons ws k 5 0 (omega arith)
-    ∙ ap (λ (l : List ℕ). get_or ws k 0 ∷ l) (part-cons ws (k + 1) 4 0 (omega arith))
-    ∙ ap (λ (l : List ℕ). get_or ws k 0 ∷ get_or ws (k + 1) 0 ∷ l) (ap (λ (n : ℕ). part ws n 4) n₁ ∙ part-cons ws (k + 2) 3 0 (omega arith))
-    ∙ ap (λ (l : List ℕ). get_or ws k 0 ∷ get_or ws (k + 1) 0 ∷ get_or ws (k + 2) 0 ∷ l) (ap (λ (n : ℕ). part ws n 3) n₂ ∙ part-cons ws (k + 3) 2 0 (omega arith))
-    ∙ ap (λ (l : List ℕ). get_or ws k 0 ∷ get_or ws (k + 1) 0 ∷ get_or ws (k + 2) 0 ∷ get_or ws (k + 3) 0 ∷ l) (ap (λ (n : ℕ). part ws n 2) n₃ ∙ part-cons ws (k + 4) 1 0 (omega arith))
-    ∙ ap (λ (l : List ℕ). get_or ws k 0 ∷ get_or ws (k + 1) 0 ∷ get_or ws (k + 2) 0 ∷ get_or ws (k + 3) 0 ∷ get_or ws (k + 4) 0 ∷ l)
-    (ap (λ (n : ℕ). part ws n 1) n₄ ∙ part-cons ws (k + 5) 0 0 (omega arith) ∙ ap (λ (l : List ℕ). get_or ws (k + 5) 0 ∷ l) (part_zero ws (k + 5 + 1))))
+pub close_rest : {A : Type 0} {xs ys : List A} {a : ℕ} (i : ℕ) → Closed xs a i ys → drop i ys ≡ drop i xs
+close_rest {A} {xs} {ys} {a} i d =
+    let f = d.fits in
+    let g = d.low in
+    let l : length (part xs (a + 1) (i - a)) ≡ i - a = length-part xs (a + 1) (i - a) (omega arith) in
+    let q : a + length (part xs (a + 1) (i - a)) ≡ i = omega arith in
+    rw d.list (rw q at (drop-put xs a (part xs (a + 1) (i - a)) (omega arith)))
 
--- ---- the array from its slots
+pub get_or_mapped : {A B : Type 0} (f : A → B) (l : List A) (i : ℕ) (d : A) (e : B) → i < length l → get_or (map f l) i e ≡ f (get_or l i d)
+get_or_mapped f [] i d e h = absurd (not-suc-le-zero h)
+get_or_mapped f (x ∷ xs) zero d e h = refl
+get_or_mapped f (x ∷ xs) (suc i) d e h = get_or_mapped f xs i d e (le_of_suc-le-suc h)
 
-pub length-slot_words : (l : List Slot) → length (slot_words l) ≡ slot_fields * length l
-unfolding slot_words concat
-length-slot_words [] = refl
-length-slot_words (x ∷ l) = let e = length-slot_words l in omega arith
+-- ---- slots
 
-part_slot : (l : List Slot) (i : ℕ) → i < length l → part (slot_words l) (slot_fields * i) slot_fields ≡ slot_fields_of (get_or l i no_slot)
-unfolding slot_words concat part
-part_slot [] i h = absurd (omega arith)
-part_slot (x ∷ l) zero h = refl
-part_slot (x ∷ l) (suc i) h = rw (six_more i) (part_slot l i (omega arith))
+module _ {A : Type 0} (size : ℕ) (z : A) where
+  pub length-slotted : (l : List A) → length l ≤ size → length (slotted size z l) ≡ size
+  unfolding slotted
+  length-slotted l h = simp (length-append, length-replicate) (omega arith)
 
-pub slots_of_words : (l : List Slot) → every_slot (slot_words l) ≡ l
-unfolding every_slot
-slots_of_words l =
-    let n : length (slot_words l) / slot_fields ≡ length l = omega (arith, length-slot_words l) in
-    ap (λ (k : ℕ). tab k (slot_in (slot_words l))) n
-    ∙ sym (tab_of l (length l) no_slot (slot_in (slot_words l)) refl (λ i h. sym (slot_there (slot_words l) i (get_or l i no_slot) (part_slot l i h))))
+  pub get_or-slotted : (l : List A) (i : ℕ) (d : A) → i < length l → get_or (slotted size z l) i d ≡ get_or l i d
+  unfolding slotted
+  get_or-slotted l i d h = get_or-append l _ d i h
 
-map-tab : {A B : Type 0} (g : A → B) (n : ℕ) (f : ℕ → A) → map g (tab n f) ≡ tab n (λ i. g (f i))
-unfolding tab
-map-tab g zero f = refl
-map-tab g (suc n) f = ap (λ l. g (f 0) ∷ l) (map-tab g n (λ k. f (suc k)))
+  pub set-slotted : (l : List A) (i : ℕ) (v : A) → i < length l → set (slotted size z l) i v ≡ slotted size z (set l i v)
+  unfolding slotted
+  set-slotted l i v h = rw length-set (set-append_left l _ i v h)
 
-pub words_of_slots : (ws : List ℕ) (k : ℕ) → length ws ≡ slot_fields * k → slot_words (every_slot ws) ≡ ws
-unfolding every_slot slot_words
-words_of_slots ws k h =
-    let n : length ws / slot_fields ≡ k = omega arith in
-    ap (λ (m : ℕ). concat (map slot_fields_of (tab m (slot_in ws)))) n
-    ∙ ap concat (map-tab slot_fields_of k (slot_in ws) ∙ tab_ext k _ _ (λ i d. slot_fields_lem ws i (omega arith)))
-    ∙ sym (pieces_of slot_fields k ws h)
+  -- the slots from k on, all unused
+  Slots_rest : (l : List A) (k : ℕ) → length l ≤ k → k ≤ size → drop k (slotted size z l) ≡ replicate (size - k) z
+  unfolding slotted
+  Slots_rest l k g h =
+      let m : ℕ = k - length l in
+      let e : k ≡ length l + m = omega arith in
+      let q : size - length l ≡ m + (size - k) = omega arith in
+      ap (λ (i : ℕ). drop i (l ++ replicate (size - length l) z)) e
+      ∙ drop-append-add l _ m
+      ∙ ap (λ (i : ℕ). drop m (replicate i z)) q
+      ∙ rw (← replicate-append-replicate m (size - k) z) (drop_at (replicate m z) _ m (length-replicate m z))
 
--- ---- what reads and writes a slot
+  -- a list is in slots if its first are it, and the others unused
+  slotted_from : (xs l : List A) (k : ℕ) → length l ≡ k → take k xs ≡ l → drop k xs ≡ replicate (size - k) z → xs ≡ slotted size z l
+  unfolding slotted
+  slotted_from xs l k e t d = sym (take-append-drop k xs) ∙ ap₂ ◌++◌ t (d ∙ rw e)
 
-pub length_slots : (ws : List ℕ) → length ws ≡ slot_fields * max_cells → length (every_slot ws) ≡ max_cells
-unfolding every_slot
-length_slots ws h = length-tab (length ws / slot_fields) (slot_in ws) ∙ omega arith
+  pub open_slotted : (l : List A) (a : ℕ) (v : A) {ys : List A} → length l < size → Opened (slotted size z l) (length l) a ys → set ys a v ≡ slotted size z (insert_at l a v)
+  open_slotted l a v {ys} h o =
+      slotted_from (set ys a v) (insert_at l a v) (length l + 1) (length-insert_at l a v)
+      (open_end a v o ∙ ap (λ (x : List A). insert_at x a v) (take-slotted size z l))
+      (open_rest a v o ∙ Slots_rest l (length l + 1) (omega arith) (omega arith))
 
-pub slot_read : (ws : List ℕ) (i : ℕ) → i < max_cells → length ws ≡ slot_fields * max_cells → slot_in ws i ≡ get_or (every_slot ws) i no_slot
-unfolding every_slot
-slot_read ws i h l = sym (get_or-tab (length ws / slot_fields) (slot_in ws) i no_slot (omega arith))
+  -- the slot after the list is cleared
+  clear_slot : (xs l : List A) (k : ℕ) → k < length xs → k < size → length l ≡ k → take k xs ≡ l → drop (suc k) xs ≡ replicate (size - suc k) z → set xs k z ≡ slotted size z l
+  clear_slot xs l k f h e t d =
+      let q : size - k ≡ suc (size - suc k) = omega arith in
+      slotted_from (set xs k z) l k e
+      (take-set-le k xs k z (omega arith) ∙ t)
+      (ap (drop k) (set_split xs k z f) ∙ drop_at (take k xs) _ k (length-take-le k xs (omega arith)) ∙ ap (λ (r : List A). z ∷ r) d ∙ rw q)
 
--- the fields of a slot written at its place
-abbrev with_slot : List ℕ → ℕ → Slot → List ℕ
-with_slot ws k x = set (set (set (set (set (set ws k x.number) (k + 1) x.west) (k + 2) x.east) (k + 3) x.south) (k + 4) x.north) (k + 5) x.first
+  pub close_slotted : (l : List A) (a : ℕ) {ys : List A} → length l ≤ size → a < length l → Closed (slotted size z l) a (length l - 1) ys → set ys (length l - 1) z ≡ slotted size z (remove_at l a)
+  close_slotted l a {ys} h b c =
+      let k : ℕ = length l - 1 in
+      let e : suc k ≡ length l = omega arith in
+      let s = length-slotted l h in
+      let r : drop k ys ≡ drop k (slotted size z l) = close_rest k c in
+      let n : length (drop k ys) ≡ size - k = rw r (length-drop k (slotted size z l) ∙ rw s) in
+      let o = length-drop k ys in
+      clear_slot ys (remove_at l a) k (omega arith) (omega arith) (length-remove_at l a b)
+      (close_end (length l) c b ∙ ap (λ (x : List A). remove_at x a) (take-slotted size z l))
+      (rw (← add-one k) (sym (drop-drop 1 k ys) ∙ ap (drop 1) r ∙ drop-drop 1 k (slotted size z l) ∙ Slots_rest l (k + 1) (omega arith) (omega arith)))
 
-with_put : (ws : List ℕ) (k : ℕ) (x : Slot) → k + slot_fields ≤ length ws → with_slot ws k x ≡ put ws k (slot_fields_of x)
-with_put ws k x h =
-    let a : k + 1 ≡ suc k = omega arith in
-    let b : k + 2 ≡ suc (suc k) = omega arith in
-    let c : k + 3 ≡ suc (suc (suc k)) = omega arith in
-    let d : k + 4 ≡ suc (suc (suc (suc k))) = omega arith in
-    let e : k + 5 ≡ suc (suc (suc (suc (suc k)))) = omega arith in
-    let s : with_slot ws k x ≡ sets ws k (slot_fields_of x) =
-    λ t. set (set (set (set (set (set ws k x.number) (a t) x.west) (b t) x.east) (c t) x.south) (d t) x.north) (e t) x.first in
-    s ∙ sets-eq (slot_fields_of x) ws k h ∙ append_assoc (take k ws) (slot_fields_of x) (drop (k + slot_fields) ws) ∙ sym (put_def ws k (slot_fields_of x))
+  pub push_slotted : (l : List A) (v : A) → length l < size → set (slotted size z l) (length l) v ≡ slotted size z (l ++ (v ∷ []))
+  push_slotted l v h =
+      let s = length-slotted l (omega arith) in
+      slotted_from (set (slotted size z l) (length l) v) (l ++ (v ∷ [])) (suc (length l)) (simp length-append (omega arith))
+      (take-suc-set (slotted size z l) (length l) v (omega arith) ∙ ap (λ (x : List A). x ++ (v ∷ [])) (take-slotted size z l))
+      (drop-set-lt (suc (length l)) (slotted size z l) (length l) v (omega arith) ∙ Slots_rest l (suc (length l)) (omega arith) (omega arith))
 
-slot_put : (ws : List ℕ) (i n : ℕ) (x : Slot) → i < n → length ws ≡ slot_fields * n → every_slot (put ws (slot_fields * i) (slot_fields_of x)) ≡ set (every_slot ws) i x
-unfolding every_slot
-slot_put ws i n x h l =
-    let vs = put ws (slot_fields * i) (slot_fields_of x) in
-    let f : slot_fields * i + length (slot_fields_of x) ≤ length ws = omega arith in
-    let m : length vs ≡ length ws = length-put ws (slot_fields * i) (slot_fields_of x) f in
-    ap (λ (k : ℕ). tab (k / slot_fields) (slot_in vs)) m
-    ∙ set-tab (length ws / slot_fields) (slot_in ws) (slot_in vs) i x (omega arith)
-    (slot_there vs i x (part-put ws (slot_fields * i) (slot_fields_of x) f))
-    (λ j d. slot_same ws vs j (by_cases (ltb j i)
-    (λ t. let g = ltb-true j i t in part-put_before ws (slot_fields * i) (slot_fields_of x) (slot_fields * j) slot_fields (omega arith) f)
-    (λ t. let g = ltb-false j i t in let u : i < j = omega (arith, d) in part-put_after ws (slot_fields * i) (slot_fields_of x) (slot_fields * j) slot_fields (omega arith) f)))
+  pub skip_slotted : (l : List A) → length l < size → set (slotted size z l) (length l) z ≡ slotted size z l
+  skip_slotted l h =
+      let s = length-slotted l (omega arith) in
+      clear_slot (slotted size z l) l (length l) (omega arith) h refl (take-slotted size z l) (Slots_rest l (suc (length l)) (omega arith) (omega arith))
 
-pub slot_written : (ws : List ℕ) (i : ℕ) (x : Slot) → i < max_cells → length ws ≡ slot_fields * max_cells → every_slot (with_slot ws (slot_fields * i) x) ≡ set (every_slot ws) i x
-slot_written ws i x h l = ap every_slot (with_put ws (slot_fields * i) x (omega arith)) ∙ slot_put ws i max_cells x h l
+-- ---- rows in slots
 
--- an array with the slots of a directory that is laid out is that directory's
-pub directory_is : (ws : List ℕ) (n : ℕ) (l : List Slot) → length ws ≡ slot_fields * max_cells → n ≡ length l → every_slot ws ≡ slotted max_cells no_slot l → directory_in n ws ≡ directory_with l
-unfolding directory_with
-directory_is ws n l h e s =
-    let w = sym (words_of_slots ws max_cells h) ∙ ap slot_words s in
-    λ t. record { n = e t; words = w t }
+-- the rows l, each as g lays it out, in so many slots
+pub record Slots {A Val : Type 0} (size : ℕ) (z : A) (g : Row Val → A) (l : Rows Val) (n : ℕ) (xs : List A) : Type 0 where
+  pub count : n ≡ length l
+  pub list : xs ≡ slotted size z (map g l)
 
--- one slot in an array that was blank
-pub slot_alone : (ws : List ℕ) (x : Slot) → every_slot ws ≡ set (every_slot (replicate (slot_fields * max_cells) 0)) 0 x → length ws ≡ slot_fields * max_cells
-    → ws ≡ slot_words (slotted max_cells no_slot (x ∷ []))
-slot_alone ws x e l =
-    let blank : set (every_slot (replicate (slot_fields * max_cells) 0)) 0 x ≡ slotted max_cells no_slot (x ∷ []) = unfold every_slot tab slotted in refl in
-    sym (words_of_slots ws max_cells l) ∙ ap slot_words (e ∙ blank)
+module _ {A Val : Type 0} {size : ℕ} {z : A} {g : Row Val → A} {l : Rows Val} {n : ℕ} {xs : List A} (s : Slots size z g l n xs) where
+  pub Slots_get : (i : ℕ) (d : Row Val) → i < n → get_or xs i z ≡ g (get_or l i d)
+  Slots_get i d h =
+      let e = s.count in
+      let m = length-map l g in
+      rw s.list (get_or-slotted size z (map g l) i z (omega arith) ∙ get_or_mapped g l i d z (omega arith))
+
+  pub Slots-set : (i : ℕ) (x : Row Val) → i < n → Slots size z g (set l i x) n (set xs i (g x))
+  Slots-set i x h =
+      let e = s.count in
+      let m = length-map l g in
+      record {
+        count = rw length-set e;
+        list = rw (s.list, map-set g l i x) (set-slotted size z (map g l) i (g x) (omega arith));
+      }
+
+  pub Slots_open : (a : ℕ) (x : Row Val) {ys : List A} → n < size → Opened xs n a ys → Slots size z g (insert_at l a x) (n + 1) (set ys a (g x))
+  Slots_open a x {ys} h o =
+      let e = s.count in
+      let m : length (map g l) ≡ n = length-map l g ∙ sym e in
+      record {
+        count = rw (length-insert_at l a x, e);
+        list = rw (map-insert_at g l a x) (open_slotted size z (map g l) a (g x) {ys = ys} (rw m h) (rw (m, ← s.list) o));
+      }
+
+  pub Slots_close : (a : ℕ) {ys : List A} → n ≤ size → a < n → Closed xs a (n - 1) ys → Slots size z g (remove_at l a) (n - 1) (set ys (n - 1) z)
+  Slots_close a {ys} h b c =
+      let e = s.count in
+      let m : length (map g l) ≡ n = length-map l g ∙ sym e in
+      record {
+        count = rw (length-remove_at l a (rw (← e) b), e);
+        list = rw (map-remove_at g l a) (rw m at (close_slotted size z (map g l) a {ys = ys} (rw m h) (rw m b) (rw (m, ← s.list) c)));
+      }

@@ -1,7 +1,7 @@
 -- What a desk's fields say of its store, and that desk and bytes are those of one store at most: the cells' chains and entries are read off the bytes.
 use mathlib.Core.Path.{◌≡◌, refl, sym, ap, ap₂, ◌∙◌}
 use mathlib.Core.List.{List, [], ◌∷◌, map}
-use mathlib.Core.Option.{Option, none, some}
+use Rattle.std.specs.Prelude.{Option, None, Some}
 use Prim.Native.Nat.{ℕ}
 use native.Mathlib.Omega.{arith}
 use lib.ListN.{length, take, length-map}
@@ -24,10 +24,8 @@ use Rattle.desk.specs.declared.CutList.{CutList}
 use Rattle.desk.specs.declared.Desk.{Desk}
 use Rattle.desk.specs.Held.{Ledger, desk_ledger}
 use Rattle.desk.specs.Layout.{slotted, cut_list_of, slot_of, directory_of, grid_of, report_of, waiting_of, line_with, line_of, memo_of, on_of, ledger_of, watches_of, desk_of, Laid}
-use Rattle.desk.specs.Views.{cuts_in, every_slot, every_report, lines_in, watches_in}
+use Rattle.desk.specs.Views.{cuts_in, every_report, watches_in}
 use Rattle.desk.specs.Sound.{SoundLedger, Sound}
-use Rattle.desk.proofs.LinesLaws.{lines_laid}
-use Rattle.desk.proofs.SlotsLaws.{slots_of_words}
 use Rattle.desk.proofs.ReportsLaws.{reports_of_words}
 use Rattle.desk.proofs.WatchesLaws.{watches_read}
 use Rattle.desk.proofs.ReadLaws.{CellRead, cells_read, free_read, Paged, pages_enough}
@@ -47,16 +45,17 @@ pub cuts_Laid : {c : CutList} {l : List ℕ} → c ≡ cut_list_of l → cuts_in
 unfolding cuts_in
 cuts_Laid {c} {l} e = ap (λ (x : CutList). take x.n x.at) e ∙ take_cuts l
 
-pub take_slots : (l : List Cell) → take (directory_of l).n (every_slot (directory_of l).words) ≡ map slot_of l
+pub take_slots : (l : List Cell) → take (directory_of l).n (directory_of l).slots ≡ map slot_of l
 unfolding directory_of
-take_slots l = rw (slots_of_words, ← length-map l slot_of) (take-slotted _ _ (map slot_of l))
+take_slots l = rw (← length-map l slot_of) (take-slotted _ _ (map slot_of l))
 
 pub take_waiting : (l : Rows StoreReport) → take (waiting_of l).n (every_report (waiting_of l).words) ≡ map report_of l
 unfolding waiting_of
 take_waiting l = rw (reports_of_words, ← length-map l report_of) (take-slotted _ _ (map report_of l))
 
-pub take_memo : (l : Rows StoreLine) → take (memo_of l).n (lines_in (memo_of l).words) ≡ map line_of l
-take_memo l = rw lines_laid (unfold memo_of in rw (← length-map l line_of) (take-slotted _ _ (map line_of l)))
+pub take_memo : (l : Rows StoreLine) → take (memo_of l).n (memo_of l).lines ≡ map line_of l
+unfolding memo_of
+take_memo l = rw (← length-map l line_of) (take-slotted _ _ (map line_of l))
 
 pub take_on : (l : Rows (Unit {0})) → take (on_of l).n (on_of l).radios ≡ map (λ x. x.key) l
 unfolding on_of
@@ -74,13 +73,13 @@ report_injective x y e =
     λ i. record { key = r i; val = record { fix = record { place = record { east = a i; north = o i }; minute = m i }; new = n i } }
 
 line_with_injective : (r q m k : ℕ) (o u : Option Place) → line_with r m o ≡ line_with q k u → (r ≡ q) × (m ≡ k) × (o ≡ u)
-line_with_injective r q m k none none e = (ap (λ l. l.radio) e, ap (λ l. l.missed) e, refl)
-line_with_injective r q m k none (some v) e = absurd (omega (arith, ap (λ l. l.placed) e))
-line_with_injective r q m k (some p) none e = absurd (omega (arith, ap (λ l. l.placed) e))
-line_with_injective r q m k (some p) (some v) e =
+line_with_injective r q m k None None e = (ap (λ l. l.radio) e, ap (λ l. l.missed) e, refl)
+line_with_injective r q m k None (Some v) e = absurd (omega (arith, ap (λ l. l.placed) e))
+line_with_injective r q m k (Some p) None e = absurd (omega (arith, ap (λ l. l.placed) e))
+line_with_injective r q m k (Some p) (Some v) e =
     let a = ap (λ l. l.east) e in
     let o = ap (λ l. l.north) e in
-    (ap (λ l. l.radio) e, ap (λ l. l.missed) e, λ i. some (record { east = a i; north = o i }))
+    (ap (λ l. l.radio) e, ap (λ l. l.missed) e, λ i. Some (record { east = a i; north = o i }))
 
 line_injective : (x y : Row StoreLine) → line_of x ≡ line_of y → x ≡ y
 line_injective x y e =
@@ -102,7 +101,7 @@ module _ (s t : Store) (e : ledger_of s ≡ ledger_of t) where
 
   pub same_slots : map slot_of s.cells ≡ map slot_of t.cells
   unfolding ledger_of grid_of
-  same_slots = sym (take_slots s.cells) ∙ ap (λ d. take d.parts.frame.cells (every_slot d.cells)) e ∙ take_slots t.cells
+  same_slots = sym (take_slots s.cells) ∙ ap (λ d. take d.parts.frame.cells d.cells) e ∙ take_slots t.cells
 
   pub same_front : chain_head no_page s.free ≡ chain_head no_page t.free
   unfolding ledger_of grid_of
@@ -115,7 +114,7 @@ module _ (s t : Store) (e : ledger_of s ≡ ledger_of t) where
 
   pub same_memo : s.memo ≡ t.memo
   unfolding ledger_of
-  same_memo = map_injective line_of line_injective s.memo t.memo (sym (take_memo s.memo) ∙ ap (λ d. take d.parts.lines (lines_in d.memo)) e ∙ take_memo t.memo)
+  same_memo = map_injective line_of line_injective s.memo t.memo (sym (take_memo s.memo) ∙ ap (λ d. take d.parts.lines d.memo) e ∙ take_memo t.memo)
 
   pub same_on : s.on ≡ t.on
   unfolding ledger_of
@@ -192,6 +191,6 @@ pub one_watched : (d : Desk) (b : List ℕ) (x y : Sound d b) → x.watched ≡ 
 one_watched d b x y =
     let s = unique (desk_ledger d) b (Sound_ledger x) (Sound_ledger y) in
     let w : x.watched.watches ≡ y.watched.watches
-    = sym (watches_read _ x.watched.watches x.right.sixteen) ∙ ap watches_in (sym (desk_watches x.watched) ∙ ap (λ (e : Desk). e.watches) (sym x.held ∙ y.held) ∙ desk_watches y.watched)
-    ∙ watches_read _ y.watched.watches y.right.sixteen in
+    = sym (watches_read _ x.watched.watches) ∙ ap watches_in (sym (desk_watches x.watched) ∙ ap (λ (e : Desk). e.watches) (sym x.held ∙ y.held) ∙ desk_watches y.watched)
+    ∙ watches_read _ y.watched.watches in
     λ i. record { store = s i; watches = w i }

@@ -1,6 +1,5 @@
 -- How a store is laid out: the desk's fields, and the bytes of the pages (01, "What the desk holds", "Records and pages").
-use Rattle.std.specs.Prelude.{Bool, cond, List, [], ◌∷◌, ◌++◌, map, ◌≡◌, ℕ, ◌+◌, ◌-◌, ◌*◌, eqb, length, take, drop, replicate}
-use Rattle.std.proofs.Math.Option.{Option, none, some}
+use Rattle.std.specs.Prelude.{Bool, cond, List, [], ◌∷◌, ◌++◌, map, ◌≡◌, ℕ, ◌+◌, ◌-◌, ◌*◌, eqb, length, take, drop, replicate, Option, None, Some}
 use Rattle.terms.specs.Terms.{Place, Fix, pages, page_entries, no_page, max_on}
 use Rattle.lists.specs.Bits.{bits}
 use Rattle.lists.specs.Chains.{chain_head}
@@ -19,6 +18,7 @@ use Rattle.desk.specs.declared.CutList.{CutList}
 use Rattle.desk.specs.declared.Slot.{Slot}
 use Rattle.desk.specs.declared.Report.{Report}
 use Rattle.desk.specs.declared.Line.{Line}
+use Rattle.desk.specs.declared.Watch.{Watch as DeskWatch}
 use Rattle.desk.specs.declared.Desk.{Desk}
 use Rattle.desk.specs.Held.{Directory, Grid, Waiting, Memo, On, Ledger, desk_with}
 
@@ -48,19 +48,8 @@ slot_of c = record {
 abbrev pub no_slot : Slot
 no_slot = record { number = 0; west = 0; east = 0; south = 0; north = 0; first = 0 }
 
-abbrev pub slot_fields : ℕ
-slot_fields = 6
-
--- a cell's fields, as the directory's array has them one after the other
-abbrev pub slot_fields_of : Slot → List ℕ
-slot_fields_of s = s.number ∷ s.west ∷ s.east ∷ s.south ∷ s.north ∷ s.first ∷ []
-
--- an array's numbers, from what its slots hold
-unfoldable pub slot_words : List Slot → List ℕ
-slot_words l = concat (map slot_fields_of l)
-
 unfoldable pub directory_of : List Cell → Directory
-directory_of cells = record { n = length cells; words = slot_words (slotted max_cells no_slot (map slot_of cells)) }
+directory_of cells = record { n = length cells; slots = slotted max_cells no_slot (map slot_of cells) }
 
 unfoldable pub grid_of : Store → Grid
 grid_of s = record {
@@ -97,8 +86,8 @@ waiting_of l = record { n = length l; words = report_words (slotted full_memory 
 
 -- a line with a place, and one with none
 abbrev pub line_with : ℕ → ℕ → Option Place → Line
-line_with r missed none = record { radio = r; missed = missed; placed = 0; east = 0; north = 0 }
-line_with r missed (some p) = record { radio = r; missed = missed; placed = 1; east = p.east; north = p.north }
+line_with r missed None = record { radio = r; missed = missed; placed = 0; east = 0; north = 0 }
+line_with r missed (Some p) = record { radio = r; missed = missed; placed = 1; east = p.east; north = p.north }
 
 abbrev pub line_of : Row StoreLine → Line
 line_of l = line_with l.key l.val.missed l.val.last
@@ -106,15 +95,8 @@ line_of l = line_with l.key l.val.missed l.val.last
 abbrev pub no_line : Line
 no_line = record { radio = 0; missed = 0; placed = 0; east = 0; north = 0 }
 
-abbrev pub line_fields : ℕ
-line_fields = 5
-
--- a line's fields, as the memo has them one after the other
-abbrev pub fields_of : Line → List ℕ
-fields_of l = l.radio ∷ l.missed ∷ l.placed ∷ l.east ∷ l.north ∷ []
-
 unfoldable pub memo_of : Rows StoreLine → Memo
-memo_of l = record { n = length l; words = slotted (line_fields * line_slots) 0 (concat (map fields_of (map line_of l))) }
+memo_of l = record { n = length l; lines = slotted line_slots no_line (map line_of l) }
 
 unfoldable pub on_of : Rows (Unit {0}) → On
 on_of l = record { n = length l; radios = slotted max_on 0 (map (λ x. x.key) l) }
@@ -130,9 +112,9 @@ ledger_holding grid waiting memo on tally highest = record {
     tally = tally;
     highest = highest;
   };
-  cells = grid.cells.words;
+  cells = grid.cells.slots;
   waiting = waiting.words;
-  memo = memo.words;
+  memo = memo.lines;
   on = on.radios;
 }
 
@@ -150,26 +132,31 @@ member_words = 256
 unfoldable pub members_of : (ℕ → Bool) → List ℕ
 members_of is_member = tab member_words (λ i. bits 16 (λ j. is_member (16 * i + j)))
 
--- a mark, the rectangle and the members
-abbrev pub area_fields : ℕ
-area_fields = 5
-
-abbrev pub watch_fields : ℕ
-watch_fields = area_fields + member_words
-
 abbrev pub area_of : Watch → Rect
-area_of none = record { easts = record { low = 0; high = 0 }; norths = record { low = 0; high = 0 } }
-area_of (some rect) = rect
+area_of None = record { easts = record { low = 0; high = 0 }; norths = record { low = 0; high = 0 } }
+area_of (Some rect) = rect
 
--- what a watch takes, from its rectangle and the place of each radio; none of it is another's, so that "watches whose list didn't change keep every byte".
--- A watch that is not set is zero throughout: a rectangle from 0 to 0 takes in nothing
-unfoldable pub watch_words : (ℕ → Option Place) → Watch → List ℕ
-watch_words places watch =
-    one_if (is_some watch) ∷ (area_of watch).easts.low ∷ (area_of watch).easts.high ∷ (area_of watch).norths.low ∷ (area_of watch).norths.high
-    ∷ members_of (λ r. is_member watch (places r))
+-- a watch from its rectangle and the place of each radio; none of it is another's, so that "watches whose list didn't change keep every byte". One that is not
+-- set is zero throughout: a rectangle from 0 to 0 takes in nothing
+unfoldable pub watch_of : (ℕ → Option Place) → Watch → DeskWatch
+watch_of places watch = record {
+  set = one_if (is_some watch);
+  west = (area_of watch).easts.low;
+  east = (area_of watch).easts.high;
+  south = (area_of watch).norths.low;
+  north = (area_of watch).norths.high;
+  members = members_of (λ r. is_member watch (places r));
+}
 
-unfoldable pub watches_of : (ℕ → Option Place) → List Watch → List ℕ
-watches_of places watches = concat (map (watch_words places) watches)
+abbrev pub unset_watch : DeskWatch
+unset_watch = record { set = 0; west = 0; east = 0; south = 0; north = 0; members = replicate member_words 0 }
+
+-- what is read where no watch is: behind the last
+abbrev pub no_watch : DeskWatch
+no_watch = record { set = 0; west = 0; east = 0; south = 0; north = 0; members = [] }
+
+unfoldable pub watches_of : (ℕ → Option Place) → List Watch → List DeskWatch
+watches_of places watches = map (watch_of places) watches
 
 -- the whole desk
 unfoldable pub desk_of : Watched → Desk
@@ -213,8 +200,8 @@ pub record Laid (s : Store) (b : List ℕ) : Type 0 where
 
 -- the same as a function: page after page
 abbrev pub or_zeros : Option (List ℕ) → List ℕ
-or_zeros none = replicate page_bytes 0
-or_zeros (some v) = v
+or_zeros None = replicate page_bytes 0
+or_zeros (Some v) = v
 
 unfoldable pub pages_of : Store → List ℕ
 pages_of s = concat (tab pages (λ p. or_zeros (find (store_leaves s) p)))

@@ -3,6 +3,5 @@ pub mod Held
 pub mod Laid
 pub mod Layout
 pub mod Making
-pub mod Sizes
 pub mod Sound
 pub mod Views

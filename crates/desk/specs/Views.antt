@@ -1,19 +1,20 @@
 -- The parts of a desk in any condition, each as far as its count says: what a store would have there.
-use Rattle.std.specs.Prelude.{Bool, cond, List, [], ◌∷◌, map, ℕ, ◌+◌, ◌*◌, ◌/◌, ◌%◌, eqb, length, get_or, take}
-use Rattle.std.proofs.Math.Option.{none, some}
+use Rattle.std.specs.Prelude.{Bool, cond, List, map, ℕ, ◌+◌, ◌*◌, ◌/◌, ◌%◌, eqb, length, get_or, take, Option, None, Some}
+use Rattle.terms.specs.Terms.{Place}
 use Rattle.lists.specs.Bits.{bit}
 use Rattle.lists.specs.Parts.{tab}
 use Rattle.lists.specs.Rows.{Row, Rows}
 use Rattle.rules.specs.Limits.{max_cells}
 use Rattle.rules.specs.Grid.{Axis, eastward, northward, Rect, Cuts}
-use Rattle.rules.specs.Watches.{max_watches, Watch}
+use Rattle.rules.specs.Watches.{Watch}
 use Rattle.desk.specs.declared.CutList.{CutList}
 use Rattle.desk.specs.declared.Slot.{Slot}
 use Rattle.desk.specs.declared.Report.{Report}
-use Rattle.desk.specs.declared.Line.{Line}
 use Rattle.desk.specs.declared.Rectangle.{Rectangle}
+use Rattle.desk.specs.declared.Line.{Line}
+use Rattle.desk.specs.declared.Watch.{Watch as DeskWatch}
 use Rattle.desk.specs.Held.{Directory, On}
-use Rattle.desk.specs.Layout.{slotted, no_slot, slot_fields, slot_words, report_fields, line_fields, area_fields, watch_fields}
+use Rattle.desk.specs.Layout.{slotted, report_fields, no_slot}
 
 -- the cuts of one direction, and of both
 unfoldable pub cuts_in : CutList → List ℕ
@@ -22,27 +23,12 @@ cuts_in c = take c.n c.at
 abbrev pub cuts_by : CutList → CutList → Cuts
 cuts_by easts norths = record { easts = cuts_in easts; norths = cuts_in norths }
 
--- the cell at its place in the directory's array
-abbrev pub slot_in : List ℕ → ℕ → Slot
-slot_in ws i = record {
-  number = get_or ws (slot_fields * i) 0;
-  west = get_or ws (slot_fields * i + 1) 0;
-  east = get_or ws (slot_fields * i + 2) 0;
-  south = get_or ws (slot_fields * i + 3) 0;
-  north = get_or ws (slot_fields * i + 4) 0;
-  first = get_or ws (slot_fields * i + 5) 0;
-}
-
--- all slots whose fields the array has one after the other, in use or not
-unfoldable pub every_slot : List ℕ → List Slot
-every_slot ws = tab (length ws / slot_fields) (slot_in ws)
-
 -- the directory's slots in use, in the order of the round, and the directory that has these
 unfoldable pub slots_in : Directory → List Slot
-slots_in d = take d.n (every_slot d.words)
+slots_in d = take d.n d.slots
 
 unfoldable pub directory_with : List Slot → Directory
-directory_with l = record { n = length l; words = slot_words (slotted max_cells no_slot l) }
+directory_with l = record { n = length l; slots = slotted max_cells no_slot l }
 
 -- a slot's edges as a rectangle
 abbrev pub edges_of : Slot → Rect
@@ -71,24 +57,9 @@ report_in slots ws i = record {
 unfoldable pub every_report : List ℕ → List Report
 every_report ws = tab (length ws / report_fields) (report_in (length ws / report_fields) ws)
 
--- the line at its place in the memo's array
-abbrev pub line_in : List ℕ → ℕ → Line
-line_in ws i = record {
-  radio = get_or ws (line_fields * i) 0;
-  missed = get_or ws (line_fields * i + 1) 0;
-  placed = get_or ws (line_fields * i + 2) 0;
-  east = get_or ws (line_fields * i + 3) 0;
-  north = get_or ws (line_fields * i + 4) 0;
-}
-
--- the lines whose fields the array has one after the other
-unfoldable pub lines_in : List ℕ → List Line
-lines_in [] = []
-lines_in (r ∷ []) = []
-lines_in (r ∷ m ∷ []) = []
-lines_in (r ∷ m ∷ p ∷ []) = []
-lines_in (r ∷ m ∷ p ∷ e ∷ []) = []
-lines_in (r ∷ m ∷ p ∷ e ∷ n ∷ rest) = record { radio = r; missed = m; placed = p; east = e; north = n } ∷ lines_in rest
+-- the place of a line, or "none" where it is not marked to have one
+abbrev pub last_of : Line → Option Place
+last_of l = cond (eqb l.placed 0) None (Some (record { east = l.east; north = l.north }))
 
 -- the radios on
 abbrev pub radio_row : ℕ → Row (Unit {0})
@@ -97,18 +68,15 @@ radio_row r = record { key = r; val = tt }
 unfoldable pub radios_of : On → Rows (Unit {0})
 radios_of on = map radio_row (take on.n on.radios)
 
--- the rectangle of a watch and the watch itself, as the array of the watches has them, and whether a radio is marked there as a member
-abbrev pub area_in : List ℕ → ℕ → Rect
-area_in ws w = record {
-  easts = record { low = get_or ws (watch_fields * w + 1) 0; high = get_or ws (watch_fields * w + 2) 0 };
-  norths = record { low = get_or ws (watch_fields * w + 3) 0; high = get_or ws (watch_fields * w + 4) 0 };
-}
+-- the rectangle of a watch and the watch itself, as the desk has them, and whether a radio is marked there as a member
+abbrev pub area_in : DeskWatch → Rect
+area_in v = record { easts = record { low = v.west; high = v.east }; norths = record { low = v.south; high = v.north } }
 
-unfoldable pub watch_in : List ℕ → ℕ → Watch
-watch_in ws w = cond (eqb (get_or ws (watch_fields * w) 0) 0) none (some (area_in ws w))
+unfoldable pub watch_in : DeskWatch → Watch
+watch_in v = cond (eqb v.set 0) None (Some (area_in v))
 
-unfoldable pub watches_in : List ℕ → List Watch
-watches_in ws = tab max_watches (watch_in ws)
+unfoldable pub watches_in : List DeskWatch → List Watch
+watches_in vs = map watch_in vs
 
-unfoldable pub member_in : List ℕ → ℕ → ℕ → Bool
-member_in ws w r = bit (get_or ws (watch_fields * w + area_fields + r / 16) 0) (r % 16)
+unfoldable pub member_in : DeskWatch → ℕ → Bool
+member_in v r = bit (get_or v.members (r / 16) 0) (r % 16)

@@ -1,11 +1,15 @@
 // The desk as the serving program holds it, and a fresh one. What its arrays hold past the counts is zero.
 #![tactic(auto)]
 
-ghost use Rattle.std.specs.Prelude.{◌≡◌, ◌*◌, ◌<◌, length, get_or, set};
-ghost use Rattle.rules.specs.Limits.{max_cells, full_memory};
+ghost use Rattle.std.specs.Prelude.{◌≡◌, ◌<◌, get_or, set, option_map};
+ghost use Rattle.terms.specs.Refusals.{number_of};
+ghost use Rattle.terms.specs.Values.{place_of};
+ghost use Rattle.rules.specs.Limits.{full_memory};
 ghost use Rattle.rules.specs.Watches.{fresh_watched};
-ghost use Rattle.desk.specs.Layout.{desk_of, slot_fields, no_slot, report_fields, no_report, line_slots, line_fields, no_line};
-ghost use Rattle.desk.specs.Views.{every_slot, every_report, lines_in};
+ghost use Rattle.desk.specs.Layout.{desk_of, no_report, line_with};
+ghost use Rattle.desk.specs.Views.{every_report, last_of};
+
+use terms::{Place, Refusal};
 
 // The cuts of one direction, rising.
 #[repr(C)]
@@ -16,7 +20,8 @@ pub struct CutList {
 }
 
 // A cell of the directory: its number, its edges and the first page of its chain.
-#[derive(Clone, Copy)]
+#[repr(C)]
+#[derive(Clone, Copy, Debug, PartialEq, Eq)]
 pub struct Slot {
     pub number: u16,
     pub west: u16,
@@ -38,13 +43,26 @@ pub struct Report {
 }
 
 // A memo line; `placed` is 1 where it has a place, and 0, with the place zero, where it has none.
-#[derive(Clone, Copy)]
+#[repr(C)]
+#[derive(Clone, Copy, Debug, PartialEq, Eq)]
 pub struct Line {
     pub radio: u16,
     pub missed: u16,
     pub placed: u16,
     pub east: u16,
     pub north: u16,
+}
+
+// A watch; `set` is 1 where it is set, and the members have a bit for each radio, set where it is one. Where none is set, all is zero.
+#[repr(C)]
+#[derive(Clone, Copy, Debug, PartialEq, Eq)]
+pub struct Watch {
+    pub set: u16,
+    pub west: u16,
+    pub east: u16,
+    pub south: u16,
+    pub north: u16,
+    pub members: [u16; Desk::MEMBER_WORDS],
 }
 
 // The grid but for the directory's array: the cuts, how many cells there are, and the front of the free chain.
@@ -70,22 +88,21 @@ pub struct Parts {
     pub highest: u32,
 }
 
-// Whoever gets a struct by value copies it, and an array of structs cannot be lent: so what is small goes by value, and the rest is arrays of numbers.
+// As C has it, whatever it holds: no field excludes a value.
 #[repr(C)]
 #[derive(Clone, Copy)]
 pub struct Desk {
     pub parts: Parts,
-    // the directory, in the order of the round, its front first: the fields of one cell after the other
-    pub cells: [u16; Desk::CELL_WORDS],
+    // the directory, in the order of the round, its front first
+    pub cells: [Slot; Desk::MAX_CELLS],
     // the waiting reports, by rising radio: all radios, then all easts, all norths, all marks, and the minutes' lower and higher halves, so that a test of
     // places reads these alone
     pub waiting: [u16; Desk::WAITING_WORDS],
-    // the memo, by rising radio: the fields of one line after the other
-    pub memo: [u16; Desk::MEMO_WORDS],
+    // the memo, by rising radio
+    pub memo: [Line; Desk::LINE_SLOTS],
     // the radios on, rising
     pub on: [u16; Desk::MAX_ON],
-    // the watches, one after the other: 1 and the four edges of one that is set, and a bit for each radio, set where it is a member; all zero where none is set
-    pub watches: [u16; Desk::WATCHES_WORDS],
+    pub watches: [Watch; Desk::MAX_WATCHES],
 }
 
 // What a call answers: 0 or the number of the check that turned it down, the watches that gained, or lost, the radio of an accepted record, a bit for each,
@@ -104,6 +121,15 @@ pub fn numbered(number: u16) -> Answer
     ensures { result ≡ record { number = number; count = 0; gained = 0; lost = 0 } }
 {
     counted(number, 0)
+}
+
+impl Answer {
+    // What turns a call down answers: its number, and 0 for all else.
+    pub fn refused(refusal: Refusal) -> Answer
+        ensures { result ≡ record { number = number_of refusal; count = 0; gained = 0; lost = 0 } }
+    {
+        numbered(refusal.number())
+    }
 }
 
 // A number and a count.
@@ -127,19 +153,91 @@ pub struct Rectangle {
     pub north: u16,
 }
 
-// The directions, and how many there are.
-pub const EAST: u8 = 0;
+impl Slot {
+    pub const UNUSED: Slot = Slot {
+        number: 0,
+        west: 0,
+        east: 0,
+        south: 0,
+        north: 0,
+        first: 0,
+    };
+}
 
-pub const NORTH: u8 = 1;
+impl Report {
+    pub const UNUSED: Report = Report {
+        radio: 0,
+        east: 0,
+        north: 0,
+        new: 0,
+        low: 0,
+        high: 0,
+    };
+}
 
-pub const DIRECTIONS: u8 = 2;
+impl Line {
+    // What `placed` holds: C reads it as a number.
+    const UNPLACED: u16 = 0;
+
+    const PLACED: u16 = 1;
+
+    pub const UNUSED: Line = Line {
+        radio: 0,
+        missed: 0,
+        placed: Line::UNPLACED,
+        east: 0,
+        north: 0,
+    };
+
+    // A line with a place, or with none.
+    pub fn new(radio: u16, missed: u16, place: Option<Place>) -> Line
+        ensures { result ≡ line_with radio missed (option_map place_of place) }
+    {
+        match place {
+            Some(place) => Line {
+                radio,
+                missed,
+                placed: Line::PLACED,
+                east: place.east,
+                north: place.north,
+            },
+            None => Line {
+                radio,
+                missed,
+                placed: Line::UNPLACED,
+                east: 0,
+                north: 0,
+            },
+        }
+    }
+
+    // Its place, where it has one.
+    pub fn place(self) -> Option<Place>
+        ensures { option_map place_of result ≡ last_of self }
+    {
+        if self.placed == Line::UNPLACED {
+            return None;
+        }
+        Some(Place {
+            east: self.east,
+            north: self.north,
+        })
+    }
+}
+
+impl Watch {
+    pub const UNSET: Watch = Watch {
+        set: 0,
+        west: 0,
+        east: 0,
+        south: 0,
+        north: 0,
+        members: [0; Desk::MEMBER_WORDS],
+    };
+}
 
 impl Desk {
     pub const MAX_CELLS: usize = 64;
-
-    pub const CELL_FIELDS: usize = 6;
-
-    pub const CELL_WORDS: usize = Desk::CELL_FIELDS * Desk::MAX_CELLS;
 
     pub const MAX_CUTS: usize = 15;
 
@@ -156,24 +254,13 @@ impl Desk {
 
     pub const MAX_LINES: usize = 1150;
 
-    pub const LINE_FIELDS: usize = 5;
-
     // One line more than that is needed in the middle of a call; with two the desk fills its alignment, and no byte of it is no field's.
     pub const LINE_SLOTS: usize = Desk::MAX_LINES + 2;
 
-    pub const MEMO_WORDS: usize = Desk::LINE_FIELDS * Desk::LINE_SLOTS;
-
     pub const MAX_WATCHES: usize = 16;
-
-    // A mark and four edges.
-    pub const AREA_FIELDS: usize = 5;
 
     // A bit for each number up to the greatest radio's.
     pub const MEMBER_WORDS: usize = 256;
-
-    pub const WATCH_FIELDS: usize = Desk::AREA_FIELDS + Desk::MEMBER_WORDS;
-
-    pub const WATCHES_WORDS: usize = Desk::WATCH_FIELDS * Desk::MAX_WATCHES;
 
     pub const FULL_BOX: usize = 8;
 
@@ -187,19 +274,15 @@ impl Desk {
     pub fn fresh() -> Desk
         ensures { result ≡ desk_of fresh_watched }
     {
-        let mut cells = [0u16; Desk::CELL_WORDS];
-        put_slot(
-            &mut cells,
-            0,
-            Slot {
-                number: 0,
-                west: 0,
-                east: Desk::LAST_METRE,
-                south: 0,
-                north: Desk::LAST_METRE,
-                first: 0,
-            },
-        );
+        let mut cells = [Slot::UNUSED; Desk::MAX_CELLS];
+        cells[0] = Slot {
+            number: 0,
+            west: 0,
+            east: Desk::LAST_METRE,
+            south: 0,
+            north: Desk::LAST_METRE,
+            first: 0,
+        };
         Desk {
             parts: Parts {
                 frame: Frame {
@@ -222,49 +305,17 @@ impl Desk {
             },
             cells,
             waiting: [0; Desk::WAITING_WORDS],
-            memo: [0; Desk::MEMO_WORDS],
+            memo: [Line::UNUSED; Desk::LINE_SLOTS],
             on: [0; Desk::MAX_ON],
-            watches: [0; Desk::WATCHES_WORDS],
+            watches: [Watch::UNSET; Desk::MAX_WATCHES],
         }
     }
 }
 
-// ---- a cell in the directory's array
-
-pub fn slot_at<'a>(cells: &'a [u16; Desk::CELL_WORDS], i: usize) -> Slot
-    requires { (i < max_cells) × (length cells.now ≡ slot_fields * max_cells) }
-    ensures { result ≡ get_or (every_slot cells.now) i no_slot }
-{
-    let at = Desk::CELL_FIELDS * i;
-    Slot {
-        number: cells[at],
-        west: cells[at + 1],
-        east: cells[at + 2],
-        south: cells[at + 3],
-        north: cells[at + 4],
-        first: cells[at + 5],
-    }
-}
-
-// Every other cell is kept.
-pub fn put_slot<'a>(cells: &'a mut [u16; Desk::CELL_WORDS], i: usize, slot: Slot)
-    requires { (i < max_cells) × (length cells.old ≡ slot_fields * max_cells) }
-    ensures { (every_slot cells.new ≡ set (every_slot cells.old) i slot)
-        × (length cells.new ≡ slot_fields * max_cells) }
-{
-    let at = Desk::CELL_FIELDS * i;
-    cells[at] = slot.number;
-    cells[at + 1] = slot.west;
-    cells[at + 2] = slot.east;
-    cells[at + 3] = slot.south;
-    cells[at + 4] = slot.north;
-    cells[at + 5] = slot.first;
-}
-
 // ---- a report in the array of those that wait
 
-pub fn report_at<'a>(waiting: &'a [u16; Desk::WAITING_WORDS], i: usize) -> Report
-    requires { (i < full_memory) × (length waiting.now ≡ report_fields * full_memory) }
+pub fn report_at(waiting: &[u16; Desk::WAITING_WORDS], i: usize) -> Report
+    requires { i < full_memory }
     ensures { result ≡ get_or (every_report waiting.now) i no_report }
 {
     Report {
@@ -278,10 +329,9 @@ pub fn report_at<'a>(waiting: &'a [u16; Desk::WAITING_WORDS], i: usize) -> Repor
 }
 
 // Every other report is kept.
-pub fn put_report<'a>(waiting: &'a mut [u16; Desk::WAITING_WORDS], i: usize, report: Report)
-    requires { (i < full_memory) × (length waiting.old ≡ report_fields * full_memory) }
-    ensures { (every_report waiting.new ≡ set (every_report waiting.old) i report)
-        × (length waiting.new ≡ report_fields * full_memory) }
+pub fn put_report(waiting: &mut [u16; Desk::WAITING_WORDS], i: usize, report: Report)
+    requires { i < full_memory }
+    ensures { every_report waiting.new ≡ set (every_report waiting.old) i report }
 {
     waiting[i] = report.radio;
     waiting[Desk::WAITING_SLOTS + i] = report.east;
@@ -289,33 +339,4 @@ pub fn put_report<'a>(waiting: &'a mut [u16; Desk::WAITING_WORDS], i: usize, rep
     waiting[3 * Desk::WAITING_SLOTS + i] = report.new;
     waiting[4 * Desk::WAITING_SLOTS + i] = report.low;
     waiting[5 * Desk::WAITING_SLOTS + i] = report.high;
-}
-
-// ---- a line in the memo's array
-
-pub fn line_at<'a>(words: &'a [u16; Desk::MEMO_WORDS], i: usize) -> Line
-    requires { (i < line_slots) × (length words.now ≡ line_fields * line_slots) }
-    ensures { result ≡ get_or (lines_in words.now) i no_line }
-{
-    let at = Desk::LINE_FIELDS * i;
-    Line {
-        radio: words[at],
-        missed: words[at + 1],
-        placed: words[at + 2],
-        east: words[at + 3],
-        north: words[at + 4],
-    }
-}
-
-// Every other line is kept.
-pub fn put_line<'a>(words: &'a mut [u16; Desk::MEMO_WORDS], i: usize, line: Line)
-    requires { (i < line_slots) × (length words.old ≡ line_fields * line_slots) }
-    ensures { (lines_in words.new ≡ set (lines_in words.old) i line) × (length words.new ≡ line_fields * line_slots) }
-{
-    let at = Desk::LINE_FIELDS * i;
-    words[at] = line.radio;
-    words[at + 1] = line.missed;
-    words[at + 2] = line.placed;
-    words[at + 3] = line.east;
-    words[at + 4] = line.north;
 }

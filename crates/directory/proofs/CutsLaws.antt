@@ -14,7 +14,8 @@ use Rattle.lists.specs.Sort.{sort_in}
 use Rattle.lists.specs.Sums.{count}
 use Rattle.lists.specs.Tests.{one_if, either}
 use Rattle.lists.proofs.Cases.{by_cases}
-use Rattle.lists.proofs.ShiftLaws.{Opened}
+use Rattle.lists.proofs.ShiftLaws.{Opened, open_moved}
+use Rattle.std.specs.List.{copy_within}
 use Rattle.lists.proofs.SumsLaws.{sum-cons, count_at, count-cons}
 use Rattle.lists.proofs.TestsLaws.{either_cases}
 use Rattle.rules.specs.Limits.{max_cuts}
@@ -27,7 +28,7 @@ use Rattle.desk.specs.Layout.{slotted, cut_list_of}
 use Rattle.desk.specs.Views.{cuts_in, cuts_by}
 use Rattle.boxes.specs.declared.BoxAt.{BoxAt}
 use Rattle.boxes.specs.Boxes.{box_in}
-use Rattle.waiting.proofs.SlotsLaws.{length-insert_at, open_slotted}
+use Rattle.desk.proofs.SlotsLaws.{length-insert_at, open_slotted}
 use Rattle.directory.specs.Cuts.{WholeCuts}
 
 -- ---- a stripe's least coordinate
@@ -107,11 +108,11 @@ Opened_cuts l a x {n} {xs} {ys} e s f o =
     let q : set ys a x ≡ slotted max_cuts 0 (insert_at l a x) = open_slotted max_cuts 0 l a x {ys = ys} (omega arith) (rw (s, e) at o) in
     λ j. record { n = m j; at = q j }
 
-pub cut_open : (c : CutList) (a x : ℕ) {i : ℕ} {ys : List ℕ} → WholeCuts c → c.n < max_cuts → Opened c.at c.n i ys → a ≤ i → i ≤ a → record { n = c.n + 1; at = set ys a x } ≡ cut_list_of (insert_at (cuts_in c) a x)
+pub cut_open : (c : CutList) (a x : ℕ) {ys : List ℕ} → WholeCuts c → length c.at ≡ max_cuts → a ≤ c.n → c.n < max_cuts → ys ≡ copy_within c.at a c.n (a + 1)
+    → record { n = c.n + 1; at = set ys a x } ≡ cut_list_of (insert_at (cuts_in c) a x)
 unfolding cut_list_of
-cut_open c a x {i} {ys} w f o g h =
-    let z : i ≡ a = omega arith in
-    Opened_cuts (cuts_in c) a x {ys = ys} (whole_cuts c w) (ap (λ (y : CutList). y.at) w) f (rw z at o)
+cut_open c a x {ys} w size h f moved =
+    Opened_cuts (cuts_in c) a x {ys = ys} (whole_cuts c w) (ap (λ (y : CutList). y.at) w) f (rw moved (open_moved h (omega (arith, size))))
 
 module _ (c : CutList) (x : ℕ) {i : ℕ} (whole : WholeCuts c) (rising : RisingCuts 0 (cuts_in c)) (above : 0 < x) (place : i ≡ stripe (cuts_in c) x) where
   pub place_inside : i ≤ c.n

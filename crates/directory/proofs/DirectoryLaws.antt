@@ -1,7 +1,7 @@
 -- A store's cells and cuts in the desk's arrays: what the functions of this crate are asked, and what they answer, in the store's words.
 use mathlib.Core.Bool.{Bool}
 use mathlib.Core.List.{List, [], ◌∷◌, ◌++◌, map}
-use mathlib.Core.Option.{Option, none, some}
+use Rattle.std.specs.Prelude.{Option, None, Some}
 use mathlib.Core.Path.{◌≡◌, refl, sym, ap, ◌∙◌, subst}
 use Prim.Native.Nat.{ℕ, zero, suc, ◌≤◌, ◌<◌}
 use native.Mathlib.Nat.{not-suc-le-zero, le_of_suc-le-suc}
@@ -28,14 +28,12 @@ use Rattle.rules.proofs.CutLaws.{due_some}
 use Rattle.desk.specs.declared.CutList.{CutList}
 use Rattle.desk.specs.declared.Slot.{Slot}
 use Rattle.desk.specs.Held.{Directory}
-use Rattle.desk.specs.Layout.{slotted, slot_words, no_slot, slot_of, directory_of, cut_list_of}
-use Rattle.desk.specs.Views.{every_slot, slots_in, directory_with, edges_of}
+use Rattle.desk.specs.Layout.{slotted, no_slot, slot_of, directory_of, cut_list_of}
+use Rattle.desk.specs.Views.{slots_in, directory_with, edges_of}
 use Rattle.desk.proofs.UniqueLaws.{take_slots, cuts_Laid}
 use Rattle.boxes.proofs.BoxLaws.{Boxed, Boxed_place, Each-Boxed}
-use Rattle.waiting.proofs.SlotsLaws.{get_or_mapped}
-use Rattle.directory.specs.declared.FoundCell.{FoundCell}
-use Rattle.directory.specs.declared.FoundCell.TheVariants.{At, Nowhere}
-use Rattle.directory.specs.Directory.{Stands, WholeDirectory, slot_at, found_at, Numbered, unused_of}
+use Rattle.desk.proofs.SlotsLaws.{get_or_mapped}
+use Rattle.directory.specs.Directory.{Stands, WholeDirectory, slot_at, Numbered, unused_of}
 use Rattle.directory.specs.Cuts.{WholeCuts, CutReady}
 use Rattle.directory.proofs.CellLaws.{slots_at}
 
@@ -50,7 +48,7 @@ split_index (y ∷ l) (suc k) h = let r = split_index l k (le_of_suc-le-suc h) i
 
 laid_with : (cells : List Cell) → directory_of cells ≡ directory_with (map slot_of cells)
 unfolding directory_of directory_with
-laid_with cells = let e = length-map cells slot_of in λ i. record { n = sym e i; words = slot_words (slotted max_cells no_slot (map slot_of cells)) }
+laid_with cells = let e = length-map cells slot_of in λ i. record { n = sym e i; slots = slotted max_cells no_slot (map slot_of cells) }
 
 numbers_laid : (cells : List Cell) → map (λ s. s.number) (map slot_of cells) ≡ map (λ c. c.number) cells
 numbers_laid [] = refl
@@ -59,7 +57,7 @@ numbers_laid (c ∷ cs) = ap (◌∷◌ c.number) (numbers_laid cs)
 module _ {d : Directory} (cells : List Cell) (laid : d ≡ directory_of cells) where
   pub directory_slots : slots_in d ≡ map slot_of cells
   unfolding slots_in
-  directory_slots = ap (λ (x : Directory). take x.n (every_slot x.words)) laid ∙ take_slots cells
+  directory_slots = ap (λ (x : Directory). take x.n x.slots) laid ∙ take_slots cells
 
   pub directory_count : d.n ≡ length cells
   unfolding directory_of
@@ -87,20 +85,13 @@ module _ {d : Directory} (cells : List Cell) (laid : d ≡ directory_of cells) w
 -- ---- a cell and its slot
 
 -- what the answer says
-module _ {o : FoundCell} {at : Option ℕ} (told : found_at o ≡ at) where
-  means_at : {k : ℕ} → o ≡ At k → at ≡ some k
-  means_at e = sym told ∙ ap found_at e
-
-  means_nowhere : o ≡ Nowhere → at ≡ none
-  means_nowhere e = sym told ∙ ap found_at e
-
 -- what is found stands below the count, in a directory of any kind
-pub found_inside : (d : Directory) (p : Place) {o : FoundCell} {k : ℕ} → found_at o ≡ slot_at (slots_in d) p → o ≡ At k → k < d.n
+pub found_inside : (d : Directory) (p : Place) {o : Option ℕ} {k : ℕ} → o ≡ slot_at (slots_in d) p → o ≡ Some k → k < d.n
 unfolding slot_at slots_in
 found_inside d p {k = k} told e =
-    omega (arith, (first_at-some (λ s. inside (edges_of s) p) (take d.n (every_slot d.words)) k no_slot (means_at told e)).0, length-take d.n (every_slot d.words))
+    omega (arith, (first_at-some (λ s. inside (edges_of s) p) (take d.n d.slots) k no_slot (sym told ∙ e)).0, length-take d.n d.slots)
 
-found_split : (cells : List Cell) (p : Place) (c : Cell) → cell_at cells p ≡ some c → (k : ℕ) × (slot_at (map slot_of cells) p ≡ some k) × (k < length cells) × (cells ≡ take k cells ++ (c ∷ drop (suc k) cells))
+found_split : (cells : List Cell) (p : Place) (c : Cell) → cell_at cells p ≡ Some c → (k : ℕ) × (slot_at (map slot_of cells) p ≡ Some k) × (k < length cells) × (cells ≡ take k cells ++ (c ∷ drop (suc k) cells))
 unfolding cell_at slot_at first_at
 found_split [] p c = none-some
 found_split (x ∷ xs) p c =
@@ -119,17 +110,17 @@ module _ {d : Directory} (cells : List Cell) (laid : d ≡ directory_of cells) w
   Stands_index k h = let r = split_index cells k h in (r.0, stands k r.0 h r.1)
 
   -- the cell of a place is found, and nothing else
-  module _ (p : Place) (c : Cell) (here : cell_at cells p ≡ some c) where
-    pub found_some : (k : ℕ) × (slot_at (slots_in d) p ≡ some k) × Stands d cells c k
+  module _ (p : Place) (c : Cell) (here : cell_at cells p ≡ Some c) where
+    pub found_some : (k : ℕ) × (slot_at (slots_in d) p ≡ Some k) × Stands d cells c k
     found_some =
         let r = found_split cells p c here in
         (r.0, ap (λ (l : List Slot). slot_at l p) (directory_slots cells laid) ∙ r.1, stands r.0 c r.2 r.3)
 
-    pub found_cell : {o : FoundCell} {k : ℕ} → found_at o ≡ slot_at (slots_in d) p → o ≡ At k → Stands d cells c k
-    found_cell told e = let r = found_some in let z = some_injective (sym r.1 ∙ means_at told e) in rw (← z) r.2
+    pub found_cell : {o : Option ℕ} {k : ℕ} → o ≡ slot_at (slots_in d) p → o ≡ Some k → Stands d cells c k
+    found_cell told e = let r = found_some in let z = some_injective (sym r.1 ∙ sym told ∙ e) in rw (← z) r.2
 
-    pub found_not : {P : Type 0} {o : FoundCell} → found_at o ≡ slot_at (slots_in d) p → o ≡ Nowhere → P
-    found_not told e = none-some (sym (means_nowhere told e) ∙ found_some.1)
+    pub found_not : {P : Type 0} {o : Option ℕ} → o ≡ slot_at (slots_in d) p → o ≡ None → P
+    found_not told e = none-some (sym (sym told ∙ e) ∙ found_some.1)
 
 -- ---- the cuts of one direction
 
@@ -157,7 +148,7 @@ cut_ready {cuts = cuts} {edges = edges} {cut = cut} laid t good =
 
 -- ---- a memory cell's corner
 
-most_Boxed : (cuts : Cuts) (how_many : Box → ℕ) (m : Box) (l : List Box) → Each (Boxed cuts) l → most_of how_many l ≡ some m → Boxed cuts m
+most_Boxed : (cuts : Cuts) (how_many : Box → ℕ) (m : Box) (l : List Box) → Each (Boxed cuts) l → most_of how_many l ≡ Some m → Boxed cuts m
 most_Boxed cuts how_many m [] e f = none-some f
 most_Boxed cuts how_many m (x ∷ xs) e f =
     let better : Box → Box → Bool = λ y z. ltb (how_many z) (how_many y) in
@@ -165,7 +156,7 @@ most_Boxed cuts how_many m (x ∷ xs) e f =
     subst (Boxed cuts) z (best_holds (Boxed cuts) better x xs e.0 e.1)
 
 -- the one to flush is one of them
-pub Boxed_due : (cuts : Cuts) (how_many : Box → ℕ) (in_all : ℕ) (p : Place) (m : Box) → box_to_flush cuts how_many in_all p ≡ some m → Boxed cuts m
+pub Boxed_due : (cuts : Cuts) (how_many : Box → ℕ) (in_all : ℕ) (p : Place) (m : Box) → box_to_flush cuts how_many in_all p ≡ Some m → Boxed cuts m
 Boxed_due cuts how_many in_all p m e =
     due_some cuts how_many in_all p m e (λ z _. subst (Boxed cuts) z (Boxed_place cuts p)) (λ _ _ f. most_Boxed cuts how_many m (boxes cuts) (Each-Boxed cuts) f)
 

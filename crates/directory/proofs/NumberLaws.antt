@@ -1,9 +1,9 @@
 -- Numbers of cells by marks: which are used, and the first that is not.
 use mathlib.Core.Bool.{Bool, true, false, not}
 use mathlib.Core.List.{List, [], ◌∷◌, ◌++◌, map, map-append}
-use mathlib.Core.Option.{none, some}
+use Rattle.std.specs.Prelude.{None, Some}
 use mathlib.Core.Path.{◌≡◌, refl, sym, ap, ◌∙◌}
-use Prim.Native.Nat.{ℕ, ◌+◌, ◌*◌, ◌≤◌, ◌<◌}
+use Prim.Native.Nat.{ℕ, ◌+◌, ◌≤◌, ◌<◌}
 use native.Mathlib.Nat.{not-suc-le-zero}
 use native.Mathlib.Numerals.{add-one}
 use native.Mathlib.Omega.{arith}
@@ -20,11 +20,8 @@ use Rattle.lists.proofs.SumsLaws.{sum_last}
 use Rattle.lists.proofs.TestsLaws.{first_at_found, first_at_absent, Each-get_or, not-true, not-false}
 use Rattle.rules.specs.Limits.{max_cells}
 use Rattle.desk.specs.declared.Slot.{Slot}
-use Rattle.desk.specs.Held.{directory_in}
-use Rattle.desk.specs.Layout.{slot_fields, no_slot}
-use Rattle.desk.specs.Views.{every_slot, slots_in}
+use Rattle.desk.specs.Layout.{no_slot}
 use Rattle.directory.specs.Directory.{Numbered, used_numbers, unused_of}
-use Rattle.directory.proofs.CellLaws.{length_slots, slots_at}
 
 -- ---- the marks
 
@@ -39,37 +36,22 @@ Used_last l x h =
     (lt-ltb 0 (count x.number (map (λ s. s.number) (l ++ (x ∷ [])))) (omega (arith, number_last x.number l x, ap one_if (eq-eqb x.number x.number refl))))
     (λ n d. let e : count n (map (λ s. s.number) (l ++ (x ∷ []))) ≡ count n (map (λ s. s.number) l) = omega (arith, number_last n l x, ap one_if (ne_eqb n x.number d)) in rw e)
 
--- the numbers of the first i cells are marked
-pub record Marked (n : ℕ) (ws : List ℕ) (i : ℕ) (marks : List Bool) : Type 0 where
-  pub size : length (slots_in (directory_in n ws)) ≡ n
-  pub list : marks ≡ used_numbers (take i (slots_in (directory_in n ws)))
-
-pub mark_start : (n : ℕ) (ws : List ℕ) → length ws ≡ slot_fields * max_cells → n ≤ max_cells → Marked n ws 0 (replicate max_cells false)
+pub mark_start : (l : List Slot) → replicate max_cells false ≡ used_numbers (take 0 l)
 unfolding used_numbers tab sum_by
-mark_start n ws l h = record { size = length_slots n ws l h; list = refl }
+mark_start l = refl
 
-module _ (n : ℕ) (ws : List ℕ) {i k : ℕ} {x : Slot} (numbered : Numbered (slots_in (directory_in n ws))) (read : x ≡ get_or (every_slot ws) i no_slot) (said : k ≡ x.number) (more : i < n) where
-  number_at : k ≡ (get_or (slots_in (directory_in n ws)) i no_slot).number
-  number_at = said ∙ ap (λ (s : Slot). s.number) (read ∙ sym (slots_at (directory_in n ws) i more))
+module _ (l : List Slot) {i : ℕ} (numbered : Numbered l) (more : i < length l) where
+  pub number_below : (get_or l i no_slot).number < max_cells
+  number_below = Each-get_or (λ s. s.number < max_cells) l i no_slot numbered more
 
-  pub number_below : length ws ≡ slot_fields * max_cells → n ≤ max_cells → k < max_cells
-  number_below l h = rw number_at (Each-get_or (λ s. s.number < max_cells) (slots_in (directory_in n ws)) i no_slot numbered (omega (arith, length_slots n ws l h)))
-
-  pub mark_turn : {marks : List Bool} → Marked n ws i marks → Marked n ws (i + 1) (set marks k true)
+  pub mark_turn : {marks : List Bool} → marks ≡ used_numbers (take i l) → set marks (get_or l i no_slot).number true ≡ used_numbers (take (i + 1) l)
   mark_turn m =
-      let l = slots_in (directory_in n ws) in
-      let h : i < length l = omega (arith, m.size) in
-      record {
-        size = m.size;
-        list =
-            ap (λ (u : List Bool). set u k true) m.list
-            ∙ ap (λ (j : ℕ). set (used_numbers (take i l)) j true) number_at
-            ∙ sym (Used_last (take i l) (get_or l i no_slot) (Each-get_or (λ s. s.number < max_cells) l i no_slot numbered h))
-            ∙ ap used_numbers (sym (take-suc l i no_slot h) ∙ rw add-one);
-      }
+      ap (λ (u : List Bool). set u (get_or l i no_slot).number true) m
+      ∙ sym (Used_last (take i l) (get_or l i no_slot) number_below)
+      ∙ ap used_numbers (sym (take-suc l i no_slot more) ∙ rw add-one)
 
-pub mark_end : {n : ℕ} {ws : List ℕ} {i : ℕ} {marks : List Bool} → Marked n ws i marks → n ≤ i → marks ≡ used_numbers (slots_in (directory_in n ws))
-mark_end {n} {ws} {i} m h = m.list ∙ ap used_numbers (take_all i (slots_in (directory_in n ws)) (omega (arith, m.size)))
+pub mark_end : (l : List Slot) {i : ℕ} {marks : List Bool} → marks ≡ used_numbers (take i l) → length l ≤ i → marks ≡ used_numbers l
+mark_end l {i} m h = m ∙ ap used_numbers (take_all i l h)
 
 -- ---- the first that is not marked
 
@@ -104,7 +86,7 @@ module _ (l : List Slot) {marks : List Bool} {k : ℕ} (all : marks ≡ used_num
   unfolding unused_of
   Used_found h t e =
       let c = ltb-false 0 (count k (map (λ s. s.number) l)) (sym (mark_at k h) ∙ not-true (get_or marks k false) t) in
-      let f : first_at (is_unused l) (tab max_cells (λ n. n)) ≡ some k =
+      let f : first_at (is_unused l) (tab max_cells (λ n. n)) ≡ Some k =
       first_at_found (is_unused l) (tab max_cells (λ n. n)) k 0 (omega (arith, length-tab max_cells (λ (n : ℕ). n)))
       (rw (get_or-tab max_cells (λ n. n) k 0 h) (eq-eqb (count k (map (λ s. s.number) l)) 0 (omega arith)))
       (λ j b. Used_below j b (omega arith)) in
@@ -113,6 +95,6 @@ module _ (l : List Slot) {marks : List Bool} {k : ℕ} (all : marks ≡ used_num
   pub Used_end : max_cells ≤ k → 0 ≡ unused_of l
   unfolding unused_of
   Used_end h =
-      let f : first_at (is_unused l) (tab max_cells (λ n. n)) ≡ none =
+      let f : first_at (is_unused l) (tab max_cells (λ n. n)) ≡ None =
       first_at_absent (is_unused l) (tab max_cells (λ n. n)) 0 (λ j b. let g : j < max_cells = omega (arith, length-tab max_cells (λ (n : ℕ). n)) in Used_below j (omega arith) g) in
       rw f

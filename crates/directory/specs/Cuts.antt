@@ -1,6 +1,5 @@
 -- The cuts of one direction in the desk's array, and a memory cell's corner (01, "What the desk holds").
 use Rattle.std.specs.Prelude.{true, ◌≡◌, ℕ, ◌≤◌, ◌<◌, ltb, length}
-use Rattle.terms.specs.Terms.{Place}
 use Rattle.lists.specs.Sums.{count}
 use Rattle.lists.specs.Tests.{either}
 use Rattle.rules.specs.Limits.{max_cuts}
@@ -8,7 +7,6 @@ use Rattle.rules.specs.WellFormed.{RisingCuts}
 use Rattle.desk.specs.declared.CutList.{CutList}
 use Rattle.desk.specs.Layout.{cut_list_of}
 use Rattle.desk.specs.Views.{cuts_in}
-use Rattle.directory.specs.declared.Corner.{Corner}
 
 -- unused slots are zero
 abbrev pub WholeCuts : CutList → Type 0
@@ -21,7 +19,3 @@ pub record CutReady (c : CutList) (at : ℕ) : Type 0 where
   pub rising : RisingCuts 0 (cuts_in c)
   pub above : 0 < at
   pub valid : either (ltb 0 (count at (cuts_in c))) (ltb (length (cuts_in c)) max_cuts) ≡ true
-
--- a memory cell's corner as a place
-abbrev pub place_of : Corner → Place
-place_of c = record { east = c.east; north = c.north }

@@ -1,6 +1,5 @@
 -- The directory in the desk's array: what is asked of it (01, "What the desk holds", "Split").
-use Rattle.std.specs.Prelude.{Bool, List, ◌∷◌, ◌++◌, map, ◌≡◌, ℕ, suc, ◌<◌, eqb, ltb, length, take, drop, get_or}
-use Rattle.std.proofs.Math.Option.{Option, none, some}
+use Rattle.std.specs.Prelude.{Bool, List, ◌∷◌, ◌++◌, map, ◌≡◌, ℕ, suc, ◌<◌, eqb, ltb, length, take, drop, get_or, Option, None, Some}
 use Rattle.terms.specs.Terms.{Place}
 use Rattle.lists.specs.Parts.{tab}
 use Rattle.lists.specs.Sums.{count}
@@ -11,9 +10,7 @@ use Rattle.rules.specs.Store.{Cell}
 use Rattle.desk.specs.declared.Slot.{Slot}
 use Rattle.desk.specs.Held.{Directory}
 use Rattle.desk.specs.Layout.{no_slot, slot_of}
-use Rattle.desk.specs.Views.{every_slot, slots_in, directory_with, edges_of}
-use Rattle.directory.specs.declared.FoundCell.{FoundCell}
-use Rattle.directory.specs.declared.FoundCell.TheVariants.{At, Nowhere}
+use Rattle.desk.specs.Views.{slots_in, directory_with, edges_of}
 
 -- unused slots are zero
 abbrev pub WholeDirectory : Directory → Type 0
@@ -22,11 +19,6 @@ WholeDirectory d = d ≡ directory_with (slots_in d)
 -- the cell of a place: where it stands in the directory
 unfoldable pub slot_at : List Slot → Place → Option ℕ
 slot_at l p = first_at (λ s. inside (edges_of s) p) l
-
--- the value of each case of an answer: where the cell stands in the directory, or none
-abbrev pub found_at : FoundCell → Option ℕ
-found_at (At k) = some k
-found_at Nowhere = none
 
 -- "numbers from 0 to 63"
 abbrev pub Numbered : List Slot → Type 0
@@ -37,8 +29,8 @@ unfoldable pub used_numbers : List Slot → List Bool
 used_numbers l = tab max_cells (λ n. ltb 0 (count n (map (λ s. s.number) l)))
 
 abbrev or_zero : Option ℕ → ℕ
-or_zero none = 0
-or_zero (some n) = n
+or_zero None = 0
+or_zero (Some n) = n
 
 -- "the smallest unused number"
 unfoldable pub unused_of : List Slot → ℕ
@@ -49,5 +41,5 @@ pub record Stands (d : Directory) (cells : List Cell) (c : Cell) (k : ℕ) : Typ
   pub inside : k < length cells
   pub split : cells ≡ take k cells ++ (c ∷ drop (suc k) cells)
   pub slot : get_or (slots_in d) k no_slot ≡ slot_of c
-  -- what `desk::slot_at` reads
-  pub element : get_or (every_slot d.words) k no_slot ≡ slot_of c
+  -- the same of the whole array
+  pub element : get_or d.slots k no_slot ≡ slot_of c

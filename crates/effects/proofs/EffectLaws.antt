@@ -1,5 +1,5 @@
 -- What follows a record's own effect, in the words of the calls: the flush that is due, and the tally.
-use mathlib.Core.Path.{◌≡◌, refl, sym, ap, ◌∙◌}
+use mathlib.Core.Path.{◌≡◌, refl, sym, ap, ◌∙◌, subst}
 use mathlib.Core.List.{List, [], ◌∷◌}
 use Prim.Native.Nat.{ℕ, ◌+◌}
 use lib.Dec.{ltb}
@@ -13,8 +13,7 @@ use Rattle.rules.specs.Cut.{Cut}
 use Rattle.rules.specs.Flush.{Flushed, flushed_into, grown, split_at, joined_with, reshaped}
 use Rattle.rules.specs.Carry.{flush_due, after_report}
 use Rattle.rules.proofs.CutLaws.{flush_cases, reshaped_cases}
-use Rattle.desk.specs.Held.{Grid, Memo, Waiting, ledger_grid, ledger_waiting, ledger_memo, ledger_on}
-use Rattle.desk.specs.Held.{Ledger}
+use Rattle.desk.specs.Held.{Grid, Memo, Waiting, ledger_grid, ledger_waiting, ledger_memo, ledger_on, Ledger}
 use Rattle.desk.specs.Layout.{grid_of, waiting_of, memo_of, on_of, ledger_holding, ledger_of, Laid}
 use Rattle.desk.specs.Laid.{LaidWaiting, LaidLedger}
 use Rattle.tally.specs.Tally.{BeforeTally, AfterTally}
@@ -129,7 +128,7 @@ module _ {desk : Ledger} {p : Place} {b : List ℕ} (x : BeforeFlushLedger desk 
     after = l x.before
 
     -- what is tallied then
-    abbrev pub flushed_tallies : BeforeTallyLedger (ledger_holding g w m (ledger_on desk) desk.parts.tally desk.parts.highest) b'
+    abbrev flushed_tallies : BeforeTallyLedger (ledger_holding g w m (ledger_on desk) desk.parts.tally desk.parts.highest) b'
     flushed_tallies = record {
       before = after_tallied x.before p desk.parts.tally x.others_few after x.tally_is;
       waiting_is = after.waiting_is;
@@ -137,7 +136,15 @@ module _ {desk : Ledger} {p : Place} {b : List ℕ} (x : BeforeFlushLedger desk 
       highest_is = x.highest_is ∙ sym (after_highest p store);
     }
 
-    pub flush_returns : {r : Ledger} {b'' : List ℕ}
+    flush_returns : {r : Ledger} {b'' : List ℕ}
         → ((y : BeforeTallyLedger (ledger_holding g w m (ledger_on desk) desk.parts.tally desk.parts.highest) b') → LaidLedger (tick y.before.store) r b'')
         → LaidLedger (tick (after_report p store)) r b''
     flush_returns k = k flushed_tallies
+
+    -- a desk with that ledger
+    module _ {d₁ : Ledger} (is : d₁ ≡ ledger_holding g w m (ledger_on desk) desk.parts.tally desk.parts.highest) where
+      pub flush_follows : BeforeTallyLedger d₁ b'
+      flush_follows = subst (λ (z : Ledger). BeforeTallyLedger z b') (sym is) flushed_tallies
+
+      pub flush_done : {r : Ledger} {b'' : List ℕ} → ((y : BeforeTallyLedger d₁ b') → LaidLedger (tick y.before.store) r b'') → LaidLedger (tick (after_report p store)) r b''
+      flush_done {r} {b''} k = flush_returns (subst (λ (z : Ledger). (y : BeforeTallyLedger z b') → LaidLedger (tick y.before.store) r b'') is k)

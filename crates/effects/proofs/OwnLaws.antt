@@ -1,8 +1,8 @@
 -- A record's own effect on a sound store, and what it leaves once all that follows is done.
 use mathlib.Core.Bool.{true, false, cond}
 use mathlib.Core.List.{List}
-use mathlib.Core.Option.{Option, none, some}
-use mathlib.Core.Path.{◌≡◌, refl}
+use Rattle.std.specs.Prelude.{Option, None, Some}
+use mathlib.Core.Path.{◌≡◌, refl, sym, subst}
 use Prim.Native.Nat.{ℕ, ◌+◌, ◌≤◌, ◌<◌}
 use native.Mathlib.Omega.{arith}
 use lib.ListN.{length}
@@ -16,11 +16,10 @@ use Rattle.rules.specs.Flush.{raised}
 use Rattle.rules.specs.Records.{sign_on, report, sign_off}
 use Rattle.rules.specs.Carry.{was_new, signed_on, reported, signed_off, waiting_in, after_report, carried_out, is_on, on_count}
 use Rattle.rules.proofs.WellLaws.{later_well}
-use Rattle.rules.proofs.StepLaws.{put_few, put_boxes, put_Bounded, on_Core, report_Core, off_done}
+use Rattle.rules.proofs.StepLaws.{put_few, put_boxes, put_Bounded, on_Core, report_Core, off_done as off_roomy}
 use Rattle.rules.specs.WellFormed.{WellFormed}
 use Rattle.rules.specs.Midway.{MidCall}
-use Rattle.desk.specs.Held.{Memo, On, Waiting, ledger_grid, ledger_waiting, ledger_memo, ledger_on}
-use Rattle.desk.specs.Held.{Ledger}
+use Rattle.desk.specs.Held.{Memo, On, Waiting, ledger_grid, ledger_waiting, ledger_memo, ledger_on, Ledger}
 use Rattle.desk.specs.Layout.{waiting_of, memo_of, on_of, ledger_holding}
 use Rattle.desk.specs.Views.{radios_of}
 use Rattle.desk.specs.Laid.{LaidLedger}
@@ -45,7 +44,7 @@ unfolding signed_on
 on_Put s w r f x =
     let s' = with_highest f.minute s in
     let w' = later_well s w f.minute x.late in
-    let g : Option Report → Option Report = λ _. some (record { fix = f; new = true }) in
+    let g : Option Report → Option Report = λ _. Some (record { fix = f; new = true }) in
     record {
       early = w.tallied;
       mid = record {
@@ -61,7 +60,7 @@ unfolding reported
 report_Put s w r f x =
     let s' = with_highest f.minute s in
     let w' = later_well s w f.minute x.late in
-    let g : Option Report → Option Report = λ o. some (record { fix = f; new = was_new o }) in
+    let g : Option Report → Option Report = λ o. Some (record { fix = f; new = was_new o }) in
     let b = was_new (find s.waiting r) in
     record {
       early = w.tallied;
@@ -93,40 +92,55 @@ module _ {desk : Ledger} {r : ℕ} {f : Fix} {b : List ℕ} (x : BeforeSignOn de
     abbrev signed : Ledger
     signed = ledger_holding (ledger_grid desk) waiting (ledger_memo desk) on desk.parts.tally f.minute
 
-    pub on_effect : BeforeFlushLedger signed f.place b
+    on_effect : BeforeFlushLedger signed f.place b
     unfolding Put_effect
     on_effect =
         Put_effect (signed_on r f (with_highest f.minute s)) (on_Put s x.sound.well r f x.signs)
         (desk_Laid (signed_on r f (with_highest f.minute s)) (on_gives s desk x.sound.held r f own) (on_Laid s b x.sound.laid r f))
 
-    pub on_carries : {d : Ledger} {b' : List ℕ} → ((y : BeforeFlushLedger signed f.place b) → LaidLedger (tick (after_report f.place y.before.store)) d b') → AfterRequest s (sign_on r f) d b'
+    on_carries : {d : Ledger} {b' : List ℕ} → ((y : BeforeFlushLedger signed f.place b) → LaidLedger (tick (after_report f.place y.before.store)) d b') → AfterRequest s (sign_on r f) d b'
     unfolding on_effect Put_effect carried_out
     on_carries l = l on_effect
+
+    -- a desk with that ledger
+    module _ {d₁ : Ledger} (is : d₁ ≡ signed) where
+      pub on_follows : BeforeFlushLedger d₁ f.place b
+      on_follows = subst (λ (z : Ledger). BeforeFlushLedger z f.place b) (sym is) on_effect
+
+      pub on_done : {d : Ledger} {b' : List ℕ} → ((y : BeforeFlushLedger d₁ f.place b) → LaidLedger (tick (after_report f.place y.before.store)) d b') → AfterRequest s (sign_on r f) d b'
+      on_done {d} {b'} l = on_carries (subst (λ (z : Ledger). (y : BeforeFlushLedger z f.place b) → LaidLedger (tick (after_report f.place y.before.store)) d b') is l)
 
 -- ---- report
 
 module _ {desk : Ledger} {r : ℕ} {f : Fix} {b : List ℕ} (x : BeforeReport desk r f b) where
-  module _ {waiting : Waiting} (own : waiting ≡ waiting_of (alter (λ w. some (record { fix = f; new = was_new w })) r (reports_of (ledger_waiting desk)))) where
+  module _ {waiting : Waiting} (own : waiting ≡ waiting_of (alter (λ w. Some (record { fix = f; new = was_new w })) r (reports_of (ledger_waiting desk)))) where
     abbrev told : Ledger
     told = ledger_holding (ledger_grid desk) waiting (ledger_memo desk) (ledger_on desk) desk.parts.tally f.minute
 
-    pub report_effect : BeforeFlushLedger told f.place b
+    report_effect : BeforeFlushLedger told f.place b
     unfolding Put_effect
     report_effect =
         Put_effect (reported r f (with_highest f.minute x.sound.store)) (report_Put x.sound.store x.sound.well r f x.reports)
         (desk_Laid (reported r f (with_highest f.minute x.sound.store)) (report_gives x.sound.store desk x.sound.held r f own) (report_Laid x.sound.store b x.sound.laid r f))
 
-    pub report_carries : {d : Ledger} {b' : List ℕ} → ((y : BeforeFlushLedger told f.place b) → LaidLedger (tick (after_report f.place y.before.store)) d b') → AfterRequest x.sound.store (report r f) d b'
+    report_carries : {d : Ledger} {b' : List ℕ} → ((y : BeforeFlushLedger told f.place b) → LaidLedger (tick (after_report f.place y.before.store)) d b') → AfterRequest x.sound.store (report r f) d b'
     unfolding report_effect Put_effect carried_out
     report_carries l = l report_effect
+
+    module _ {d₁ : Ledger} (is : d₁ ≡ told) where
+      pub report_follows : BeforeFlushLedger d₁ f.place b
+      report_follows = subst (λ (z : Ledger). BeforeFlushLedger z f.place b) (sym is) report_effect
+
+      pub report_done : {d : Ledger} {b' : List ℕ} → ((y : BeforeFlushLedger d₁ f.place b) → LaidLedger (tick (after_report f.place y.before.store)) d b') → AfterRequest x.sound.store (report r f) d b'
+      report_done {d} {b'} l = report_carries (subst (λ (z : Ledger). (y : BeforeFlushLedger z f.place b) → LaidLedger (tick (after_report f.place y.before.store)) d b') is l)
 
 -- ---- sign-off
 
 module _ {desk : Ledger} {r minute : ℕ} {b : List ℕ} (x : BeforeSignOff desk r minute b) where
   module _ {waiting : Waiting} {memo : Memo} {on : On}
-      (own : (waiting ≡ waiting_of (alter (λ _. none) r (reports_of (ledger_waiting desk))))
-      × (memo ≡ memo_of (cond (was_new (find (reports_of (ledger_waiting desk)) r)) (lines_of (ledger_memo desk)) (alter (raised none) r (lines_of (ledger_memo desk)))))
-      × (on ≡ on_of (alter (λ _. none) r (radios_of (ledger_on desk))))) where
+      (own : (waiting ≡ waiting_of (alter (λ _. None) r (reports_of (ledger_waiting desk))))
+      × (memo ≡ memo_of (cond (was_new (find (reports_of (ledger_waiting desk)) r)) (lines_of (ledger_memo desk)) (alter (raised None) r (lines_of (ledger_memo desk)))))
+      × (on ≡ on_of (alter (λ _. None) r (radios_of (ledger_on desk))))) where
     abbrev signed_off_ledger : Ledger
     signed_off_ledger = ledger_holding (ledger_grid desk) waiting memo on desk.parts.tally minute
 
@@ -134,7 +148,7 @@ module _ {desk : Ledger} {r minute : ℕ} {b : List ℕ} (x : BeforeSignOff desk
     unfolding signed_off
     early = x.sound.well.tallied
 
-    pub off_tallies : BeforeTallyLedger signed_off_ledger b
+    off_tallies : BeforeTallyLedger signed_off_ledger b
     off_tallies =
         let s = x.sound.store in
         let s' = with_highest minute s in
@@ -143,7 +157,7 @@ module _ {desk : Ledger} {r minute : ℕ} {b : List ℕ} (x : BeforeSignOff desk
           before = record {
             store = signed_off r s';
             early = early;
-            roomy = off_done s' (later_well s x.sound.well minute x.signs.late) r x.signs.first x.signs.last (unfold is_on in x.signs.on);
+            roomy = off_roomy s' (later_well s x.sound.well minute x.signs.late) r x.signs.first x.signs.last (unfold is_on in x.signs.on);
             laid = h.in_waiting.in_memo;
             tally_is = h.tally_is;
           };
@@ -152,6 +166,13 @@ module _ {desk : Ledger} {r minute : ℕ} {b : List ℕ} (x : BeforeSignOff desk
           highest_is = h.highest_is;
         }
 
-    pub off_carries : {d : Ledger} {b' : List ℕ} → ((y : BeforeTallyLedger signed_off_ledger b) → LaidLedger (tick y.before.store) d b') → AfterRequest x.sound.store (sign_off r minute) d b'
+    off_carries : {d : Ledger} {b' : List ℕ} → ((y : BeforeTallyLedger signed_off_ledger b) → LaidLedger (tick y.before.store) d b') → AfterRequest x.sound.store (sign_off r minute) d b'
     unfolding off_tallies carried_out
     off_carries l = l off_tallies
+
+    module _ {d₁ : Ledger} (is : d₁ ≡ signed_off_ledger) where
+      pub off_follows : BeforeTallyLedger d₁ b
+      off_follows = subst (λ (z : Ledger). BeforeTallyLedger z b) (sym is) off_tallies
+
+      pub off_done : {d : Ledger} {b' : List ℕ} → ((y : BeforeTallyLedger d₁ b) → LaidLedger (tick y.before.store) d b') → AfterRequest x.sound.store (sign_off r minute) d b'
+      off_done {d} {b'} l = off_carries (subst (λ (z : Ledger). (y : BeforeTallyLedger z b) → LaidLedger (tick y.before.store) d b') is l)

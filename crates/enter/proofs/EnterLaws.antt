@@ -1,26 +1,24 @@
 -- One report after the other: what the next ones have room for, and what they leave.
-use mathlib.Core.Bool.{true, false}
+use mathlib.Core.Bool.{false}
 use mathlib.Core.List.{List, [], ◌∷◌}
-use mathlib.Core.Option.{Option, none, some}
+use Rattle.std.specs.Prelude.{Option, None, Some}
 use mathlib.Core.Path.{◌≡◌, refl, sym, ap, ◌∙◌, subst}
 use Prim.Native.Nat.{ℕ, ◌+◌, ◌*◌, ◌≤◌, ◌<◌}
 use native.Mathlib.Omega.{arith}
 use native.Mathlib.Numerals.{add-one}
-use lib.Dec.{eqb}
-use lib.ListN.{length, get_or, set, drop, length-set, drop_of_length-le}
+use lib.ListN.{length, get_or, set, drop, drop_of_length-le}
 use lib.Seq.{drop-cons}
 use borrow.Author.Tests.{eq-eqb, ne_eqb}
 use Rattle.terms.specs.Terms.{Fix, fix_at, max_on}
-use Rattle.lists.specs.Rows.{Row, Rows, Rising, find, alter, insert}
-use Rattle.lists.specs.Tests.{one_if, is_some, first_at}
-use Rattle.lists.proofs.Cases.{by_cases, option_cases}
+use Rattle.lists.specs.Rows.{Row, Rows, Rising, IsAt, find, alter, insert}
+use Rattle.lists.specs.Tests.{one_if, is_some}
 use Rattle.lists.proofs.RowsLaws.{Rising_less, Rising-alter, Rising_above, length-alter, length-alter-le, find-alter_other, count_found_one}
-use Rattle.lists.proofs.TestsLaws.{Each_zip, first_at-some, one_if-le}
+use Rattle.lists.proofs.TestsLaws.{Each_zip, one_if-le}
 use Rattle.lists.specs.Words.{wide}
+use Rattle.lists.proofs.KeyedLaws.{insert_over}
 use Rattle.entries.specs.declared.Entry.{Entry}
-use Rattle.entries.specs.declared.Lookup.TheVariants.{Found}
-use Rattle.entries.specs.Entries.{fix_of, table_with, table_words, rows_of, stands_at, no_row, row_of as entry_row}
-use Rattle.entries.proofs.TableLaws.{insert_found}
+use Rattle.entries.specs.Entries.{row_of as entry_row, fix_of, no_row}
+use Rattle.lists.proofs.AlterLaws.{find_at}
 use Rattle.rules.specs.Limits.{full_memory}
 use Rattle.rules.specs.Store.{Line, Report as StoreReport}
 use Rattle.rules.specs.Flush.{placed, raised, entered, Work, enter, enter_each}
@@ -28,31 +26,12 @@ use Rattle.desk.specs.Held.{Memo, Waiting, memo_in, waiting_with}
 use Rattle.desk.specs.declared.Report.{Report}
 use Rattle.desk.specs.Layout.{line_slots, memo_of, no_report, report_fields}
 use Rattle.desk.specs.Views.{every_report}
-use Rattle.memo.specs.Memo.{lines_of}
+use Rattle.memo.specs.Memo.{lines_of, GoodMemo, RoomyMemo, MissFits}
 use Rattle.memo.proofs.MemoLaws.{lines_are, Whole_is, count_is}
 use Rattle.waiting.specs.Waiting.{waits, row_of, reports_of}
 use Rattle.waiting.proofs.WaitingLaws.{no_row as no_report_row, every_size, length_reports, reports_get}
 use Rattle.enter.specs.Enter.{Held, held_in, work_of, Room, Enterable, Entered}
-
--- ---- what a lookup says
-
--- a radio stands somewhere in the table where an entry of it is found
-first_found : (r : ℕ) (l : Rows Fix) → is_some (find l r) ≡ is_some (first_at (λ x. eqb r x.key) l)
-unfolding find first_at
-first_found r [] = refl
-first_found r (x ∷ xs) =
-    by_cases (eqb r x.key)
-    (λ t. rw t)
-    (λ t. rw t (first_found r xs ∙ option_cases (first_at (λ y. eqb r y.key) xs) (λ e. rw e) (λ i e. rw e)))
-
-module _ (r : ℕ) (l : Rows Fix) where
-  lookup_missing : stands_at r l ≡ none → is_some (find l r) ≡ false
-  unfolding stands_at
-  lookup_missing e = first_found r l ∙ ap is_some e
-
-  lookup_found : {i : ℕ} → stands_at r l ≡ some i → (is_some (find l r) ≡ true) × (i < length l)
-  unfolding stands_at
-  lookup_found {i} e = (first_found r l ∙ ap is_some e, (first_at-some (λ x. eqb r x.key) l i no_row e).0)
+use Rattle.desk.specs.declared.Line.{Line as DeskLine}
 
 -- ---- the reports that come next
 
@@ -64,8 +43,8 @@ length_entered b (w ∷ ws) k a r =
     let h : 0 < w.key = omega arith in
     omega (
       arith,
-      length_entered w.key ws (enter w k) a.1 (Rising-alter (λ _. some w.val.fix) 0 w.key k.entries h r),
-      length-alter (λ _. some w.val.fix) 0 w.key k.entries h r,
+      length_entered w.key ws (enter w k) a.1 (Rising-alter (λ _. Some w.val.fix) 0 w.key k.entries h r),
+      length-alter (λ _. Some w.val.fix) 0 w.key k.entries h r,
       count_found_one w.key (find k.entries w.key),
       one_if-le (is_some (find k.entries w.key)),
     )
@@ -79,7 +58,7 @@ module _ (w : Row StoreReport) (ws : Rows StoreReport) (k : Work) (r : Room k (w
 
   rows_then : Rising 0 (enter w k).entries
   unfolding enter
-  rows_then = Rising-alter (λ _. some w.val.fix) 0 w.key k.entries named r.rows_rise
+  rows_then = Rising-alter (λ _. Some w.val.fix) 0 w.key k.entries named r.rows_rise
 
   entries_then : length (enter w k).entries ≤ max_on
   unfolding enter_each
@@ -118,89 +97,58 @@ module _ {s t : Held} {ws : Rows StoreReport} (done : Entered s ws t) where
 
   entered_ready : (vs : Rows StoreReport) → Room (enter_each ws (work_of s)) vs → Enterable t vs
   entered_ready vs r = record {
-    counted = done.count ∙ ap length (sym done.table);
-    sized = done.size;
     whole = Whole_is (enter_each ws (work_of s)).memo done.memo;
     room = subst (λ (k : Work). Room k vs) (sym entered_work) r;
   }
 
 -- ---- one report
 
-module _ (n : ℕ) (table : List ℕ) (lines : ℕ) (words : List ℕ) {w : Row StoreReport} (ready : Enterable (held_in n table lines words) (w ∷ [])) where
-  pub table_fits : n ≤ max_on
-  table_fits =
-      omega (arith, ready.counted, length_entered 0 (w ∷ []) (work_of (held_in n table lines words)) ready.room.reports_rise ready.room.rows_rise, ready.room.entries_fit)
-
-  pub memo_fits : lines < line_slots
+module _ (table : Rows Fix) (lines : ℕ) (words : List DeskLine) (e : Report) (ready : Enterable (held_in table lines words) (row_of e ∷ [])) where
+  memo_fits : lines < line_slots
   memo_fits = omega (arith, count_is (lines_of (memo_in lines words)) ready.whole, ready.room.lines_fit)
 
-  pub memo_within : lines ≤ line_slots
-  memo_within = omega (arith, memo_fits)
+  pub memo_ready : GoodMemo (memo_in lines words)
+  memo_ready = (ready.whole, omega (arith, memo_fits), ready.room.lines_rise)
 
-module _ (n : ℕ) (table : List ℕ) (lines : ℕ) (words : List ℕ) (e : Report) (ready : Enterable (held_in n table lines words) (row_of e ∷ [])) where
-  abbrev from : Held
-  from = held_in n table lines words
-
-  abbrev rows : Rows Fix
-  rows = rows_of (table_with n table)
-
-  abbrev entry : Entry
-  entry = record { radio = e.radio; east = e.east; north = e.north; minute = wide e.low e.high }
+  pub memo_roomy : RoomyMemo (memo_in lines words) × MissFits e.radio (memo_in lines words)
+  memo_roomy = ((ready.whole, memo_fits, ready.room.lines_rise), ready.room.misses_fit.0)
 
   abbrev fix : Fix
   fix = fix_at e.east e.north (wide e.low e.high)
 
-  module _ (lacks : stands_at e.radio rows ≡ none) where
-    grows : length (insert e.radio fix rows) ≡ length rows + 1
-    grows =
+  module _ (lacks : find table e.radio ≡ None) where
+    pub missing_fits : length table < max_on
+    unfolding enter_each enter
+    missing_fits =
         omega (
           arith,
-          length-alter (λ _. some fix) 0 e.radio rows ready.room.reports_rise.0 ready.room.rows_rise,
-          count_found_one e.radio (find rows e.radio),
-          ap one_if (lookup_missing e.radio rows lacks),
+          length-alter (λ _. Some fix) 0 e.radio table ready.room.reports_rise.0 ready.room.rows_rise,
+          count_found_one e.radio (find table e.radio),
+          ap one_if (ap is_some lacks),
+          ready.room.entries_fit,
         )
 
-    pub missing_fits : n < max_on
-    unfolding enter_each enter
-    missing_fits = omega (arith, ready.counted, ready.room.entries_fit, grows)
+    module _ {x : Entry} (told : x ≡ record { radio = e.radio; east = e.east; north = e.north; minute = wide e.low e.high }) {after : Rows Fix} (put : after ≡ insert x.radio (fix_of x) table) where
+      adds : {m : Memo} → m ≡ memo_of (alter (entered false (waits e).new (waits e).fix.place) e.radio (lines_of (memo_in lines words)))
+          → Entered (held_in table lines words) (row_of e ∷ []) (record { table = after; memo = m })
+      unfolding enter_each enter
+      adds k = record { table = put ∙ ap (λ (y : Entry). insert y.radio (fix_of y) table) told; memo = rw lacks k }
 
-    pub still_missing : {x : Entry} → x ≡ entry → stands_at x.radio rows ≡ none
-    still_missing q = ap (λ (y : Entry). stands_at y.radio rows) q ∙ lacks
+      -- a miss more, where it is not marked new
+      pub adds_raised : {m : Memo} → e.new ≡ 0 → m ≡ memo_of (alter (raised (Some fix.place)) e.radio (lines_of (memo_in lines words)))
+          → Entered (held_in table lines words) (row_of e ∷ []) (record { table = after; memo = m })
+      adds_raised h k = adds (rw (eq-eqb e.new 0 h) k)
 
-    pub adds : {x : Entry} (after : List ℕ) {m : Memo} → x ≡ entry → rows_of (table_with (n + 1) after) ≡ insert x.radio (fix_of x) rows → length after ≡ table_words
-        → m ≡ memo_of (alter (entered false (waits e).new (waits e).fix.place) e.radio (lines_of (memo_in lines words))) → Entered from (row_of e ∷ []) (record { table = table_with (n + 1) after; memo = m })
-    unfolding enter_each enter
-    adds after q a l k = record {
-      table = a ∙ ap (λ (y : Entry). insert y.radio (fix_of y) rows) q;
-      count = omega (arith, ready.counted, grows);
-      size = l;
-      memo = rw (lookup_missing e.radio rows lacks) k;
-    }
+      pub adds_placed : {m : Memo} → (e.new ≡ 0 → ⊥) → m ≡ memo_of (alter (placed (Some fix.place)) e.radio (lines_of (memo_in lines words)))
+          → Entered (held_in table lines words) (row_of e ∷ []) (record { table = after; memo = m })
+      adds_placed h k = adds (rw (ne_eqb e.new 0 h) k)
 
-  module _ {at : ℕ} (has : stands_at e.radio rows ≡ some at) where
-    pub found_inside : at < n
-    found_inside = omega (arith, ready.counted, (lookup_found e.radio rows has).1)
-
-    pub moves : {x : Entry} (after : List ℕ) {m : Memo} → x ≡ entry → rows_of (table_with n after) ≡ set rows at (entry_row x) → length after ≡ table_words
-        → m ≡ memo_of (alter (placed (some fix.place)) e.radio (lines_of (memo_in lines words))) → Entered from (row_of e ∷ []) (record { table = table_with n after; memo = m })
-    unfolding enter_each enter
-    moves after q a l k =
-        let b : rows_of (table_with n after) ≡ set rows at (entry_row entry) = a ∙ ap (λ (y : Entry). set rows at (entry_row y)) q in
-        let i : rows_of (table_with n after) ≡ insert e.radio fix rows = insert_found n table entry ready.room.rows_rise {o = Found at} (sym has) refl b in
-        record {
-          table = i;
-          count = omega (arith, ready.counted, ap length b, length-set rows at (entry_row entry), ap length i);
-          size = l;
-          memo = rw (lookup_found e.radio rows has).0 k;
-        }
-
--- the line of a radio whose entry is added
-module _ (m : Memo) (e : Report) {x : Memo} where
-  pub raises : e.new ≡ 0 → x ≡ memo_of (alter (raised (some (waits e).fix.place)) e.radio (lines_of m)) → x ≡ memo_of (alter (entered false (waits e).new (waits e).fix.place) e.radio (lines_of m))
-  raises h = rw (eq-eqb e.new 0 h) (λ k. k)
-
-  pub places : (e.new ≡ 0 → ⊥) → x ≡ memo_of (alter (placed (some (waits e).fix.place)) e.radio (lines_of m)) → x ≡ memo_of (alter (entered false (waits e).new (waits e).fix.place) e.radio (lines_of m))
-  places h = rw (ne_eqb e.new 0 h) (λ k. k)
+  pub moves : {at : ℕ} → IsAt table e.radio at → {x : Entry} → x ≡ record { radio = e.radio; east = e.east; north = e.north; minute = wide e.low e.high } → {after : Rows Fix} → after ≡ set table at (entry_row x)
+      → {m : Memo} → m ≡ memo_of (alter (placed (Some fix.place)) e.radio (lines_of (memo_in lines words))) → Entered (held_in table lines words) (row_of e ∷ []) (record { table = after; memo = m })
+  unfolding enter_each enter
+  moves {at} found told put k =
+      let there = find_at table ready.room.rows_rise e.radio found no_row in
+      record { table = put ∙ ap (λ (y : Entry). set table at (entry_row y)) told ∙ insert_over table ready.room.rows_rise e.radio _ found no_row; memo = rw there k }
 
 -- ---- one report after the other
 
@@ -230,7 +178,7 @@ module _ {n : ℕ} {vs : List ℕ} {from to : Held} {i : ℕ} (done : Entering (
     ready_here = subst (λ (l : Rows StoreReport). Enterable to l) left_next done.ready
 
     pub Entering_ready : Enterable to (row_of e ∷ [])
-    Entering_ready = record { counted = ready_here.counted; sized = ready_here.sized; whole = ready_here.whole; room = Room_one (row_of e) later (work_of to) ready_here.room }
+    Entering_ready = record { whole = ready_here.whole; room = Room_one (row_of e) later (work_of to) ready_here.room }
 
     pub Entering_turn : {r : Held} → Entered to (row_of e ∷ []) r → Entering (waiting_with n vs) from (i + 1) r
     unfolding enter_each
@@ -246,7 +194,5 @@ module _ {n : ℕ} {vs : List ℕ} {from to : Held} {i : ℕ} (done : Entering (
       let k : work_of to ≡ enter_each reports (work_of from) = ap (λ (l : Rows StoreReport). enter_each l (work_of to)) (sym none_left) ∙ done.same in
       record {
         table = ap (λ (x : Work). x.entries) k;
-        count = done.ready.counted ∙ ap (λ (x : Work). length x.entries) k;
-        size = done.ready.sized;
         memo = done.ready.whole ∙ ap (λ (x : Work). memo_of x.memo) k;
       }

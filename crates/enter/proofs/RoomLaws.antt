@@ -2,9 +2,9 @@
 -- for each radio on at most; each line counts a stale entry, and what is stale and waits is bounded together.
 use mathlib.Core.Bool.{Bool, true, not}
 use mathlib.Core.List.{List, ◌++◌}
-use mathlib.Core.Option.{some}
-use mathlib.Core.Path.{◌≡◌, sym, ap, ◌∙◌}
-use Prim.Native.Nat.{ℕ, ◌+◌, ◌*◌, ◌≤◌, ◌<◌}
+use Rattle.std.specs.Prelude.{Some}
+use mathlib.Core.Path.{◌≡◌, ap, ◌∙◌}
+use Prim.Native.Nat.{ℕ, ◌+◌, ◌≤◌, ◌<◌}
 use native.Mathlib.Omega.{arith}
 use lib.ListN.{length}
 use Rattle.terms.specs.Terms.{max_on}
@@ -16,7 +16,6 @@ use Rattle.lists.proofs.AmongLaws.{sum-Among}
 use Rattle.lists.proofs.RowsLaws.{Rising-filter}
 use Rattle.lists.proofs.SumsLaws.{sum-cons, sum-le, length-sum, length_middle, length-filter-not}
 use Rattle.lists.proofs.TestsLaws.{Each_every, one_if-le}
-use Rattle.entries.specs.Entries.{table_words, rows_of}
 use Rattle.rules.specs.Limits.{full_memory, sweep_every}
 use Rattle.rules.specs.Grid.{inside, Cuts, Box, corner_of}
 use Rattle.rules.specs.Store.{Report, Line, Cell, Store, missed_of}
@@ -31,7 +30,7 @@ use Rattle.rules.proofs.TilingLaws.{cell_at_split, some_cell}
 use Rattle.rules.proofs.FlushLaws.{Books-before, Books-swept, Books_flushed, Clean_flushed, waiting_flushed}
 use Rattle.desk.specs.declared.CutList.{CutList}
 use Rattle.desk.specs.Held.{Waiting}
-use Rattle.desk.specs.Layout.{line_slots, report_fields, cut_list_of, waiting_of, memo_of}
+use Rattle.desk.specs.Layout.{line_slots, cut_list_of, waiting_of, memo_of}
 use Rattle.desk.specs.Views.{cuts_by}
 use Rattle.memo.specs.Memo.{most_missed}
 use Rattle.memo.proofs.MemoLaws.{lines_are, Whole_is}
@@ -39,7 +38,7 @@ use Rattle.boxes.specs.declared.BoxAt.{BoxAt}
 use Rattle.boxes.specs.Boxes.{box_in}
 use Rattle.waiting.specs.Waiting.{reports_of}
 use Rattle.desk.proofs.UniqueLaws.{cuts_Laid}
-use Rattle.waiting.proofs.WaitingLaws.{reports_laid, whole_laid, count_laid, whole_size}
+use Rattle.waiting.proofs.WaitingLaws.{reports_laid, count_laid}
 use Rattle.enter.specs.Enter.{Held, work_of, Room, Enterable, Entered}
 
 -- ---- counts
@@ -125,33 +124,24 @@ module _ (s : Store) (m : Box) (easts norths : CutList) (waiting : Waiting) (eas
 
 -- the reports are those of m in the store, and the sweep of d has left `from`
 module _ (s : Store) (d : Cell) (m : BoxAt) (taken : Waiting) (from : Held) (these : taken ≡ waiting_of (filter (in_box s.cuts (box_in m)) s.waiting))
-    (rows : rows_of from.table ≡ (swept s.memo d).entries) (held : from.memo ≡ memo_of (swept_memo s.memo d.entries)) where
+    (rows : from.table ≡ (swept s.memo d).entries) (held : from.memo ≡ memo_of (swept_memo s.memo d.entries)) where
   the_work : work_of from ≡ record { entries = (swept s.memo d).entries; memo = swept_memo s.memo d.entries }
   the_work = λ i. record { entries = rows i; memo = lines_are (swept_memo s.memo d.entries) held i }
 
-  few_taken : length s.waiting ≤ full_memory → taken.n ≤ full_memory
-  few_taken few = omega (arith, count_laid taken _ these, length-filter-not (in_box s.cuts (box_in m)) s.waiting)
-
-  pub enter_asks : {c : ℕ} → MidCall s c → c ≤ sweep_every → cell_of_box s (box_in m) ≡ some d → length s.waiting ≤ full_memory → from.table.n ≡ length (swept s.memo d).entries
-      → length from.table.words ≡ table_words
-      → (taken.n ≤ full_memory) × (length taken.words ≡ report_fields * full_memory) × Enterable from (reports_of taken)
+  pub enter_asks : {c : ℕ} → MidCall s c → c ≤ sweep_every → cell_of_box s (box_in m) ≡ Some d → length s.waiting ≤ full_memory → (taken.n ≤ full_memory) × Enterable from (reports_of taken)
   unfolding cell_of_box
-  enter_asks {c} g late home few many size =
+  enter_asks {c} g late home few =
       let q = cell_at_split s.cells (corner_of s.cuts (box_in m)) d home in (
-        few_taken few,
-        whole_size taken (whole_laid taken _ these) (few_taken few),
+        omega (arith, count_laid taken _ these, length-filter-not (in_box s.cuts (box_in m)) s.waiting),
         record {
-          counted = many ∙ ap length (sym rows);
-          sized = size;
           whole = Whole_is (swept_memo s.memo d.entries) held;
           room = rw (the_work, reports_laid these) (room (box_in m) s d g.core q.0 q.1 c g.bounded late);
         },
       )
 
   pub enter_gives : (r : Held) → Entered from (reports_of taken) r
-      → (rows_of r.table ≡ (flushed_into (box_in m) s d).cell.entries) × (r.table.n ≡ length (flushed_into (box_in m) s d).cell.entries) × (r.memo ≡ memo_of (flushed_into (box_in m) s d).store.memo)
-      × (length r.table.words ≡ table_words)
+      → (r.table ≡ (flushed_into (box_in m) s d).cell.entries) × (r.memo ≡ memo_of (flushed_into (box_in m) s d).store.memo)
   unfolding flushed_into swept
   enter_gives r e =
       let k : enter_each (reports_of taken) (work_of from) ≡ enter_each (filter (in_box s.cuts (box_in m)) s.waiting) (record { entries = (swept s.memo d).entries; memo = swept_memo s.memo d.entries }) = rw (the_work, reports_laid these) in
-      (e.table ∙ ap (λ (x : Work). x.entries) k, e.count ∙ ap (λ (x : Work). length x.entries) k, e.memo ∙ ap (λ (x : Work). memo_of x.memo) k, e.size)
+      (e.table ∙ ap (λ (x : Work). x.entries) k, e.memo ∙ ap (λ (x : Work). memo_of x.memo) k)

@@ -2,22 +2,17 @@
 // elsewhere.
 #![tactic(auto)]
 
-ghost use Rattle.std.specs.Prelude.{false, [], ◌∷◌, ◌≡◌, ◌*◌, ◌≤◌, length};
-ghost use Rattle.std.proofs.Math.Option.{none, some};
-ghost use Rattle.lists.specs.Rows.{alter};
-ghost use Rattle.entries.specs.Entries.{table_with, rows_of, stands_at};
+ghost use Rattle.std.specs.Prelude.{[], ◌∷◌, ◌≡◌, ◌≤◌, None};
+ghost use Rattle.lists.specs.Rows.{find};
 ghost use Rattle.lists.specs.Words.{wide};
 ghost use Rattle.rules.specs.Limits.{full_memory};
-ghost use Rattle.rules.specs.Flush.{entered};
-ghost use Rattle.desk.specs.Held.{memo_in, waiting_with};
-ghost use Rattle.desk.specs.Layout.{report_fields, memo_of};
-ghost use Rattle.memo.specs.Memo.{lines_of, RoomyMemo, MissFits};
-ghost use Rattle.waiting.specs.Waiting.{waits, row_of, reports_of};
+ghost use Rattle.desk.specs.Held.{waiting_with};
+ghost use Rattle.waiting.specs.Waiting.{row_of, reports_of};
 ghost use Rattle.enter.specs.Enter.{held_in, Enterable, Entered};
 
-use desk::{Desk, Report};
-use entries::{Entry, Lookup, TABLE_WORDS};
-use sweep::Swept;
+use desk::{Desk, Line, Report};
+use entries::{Entry, Table};
+use terms::Place;
 
 // A report as an entry.
 fn entry_of(report: Report) -> Entry
@@ -31,103 +26,66 @@ fn entry_of(report: Report) -> Entry
     }
 }
 
-// The memo as an entry is added: "if not marked new, add 1 to the missed count (made as 1 if absent); any memo line takes the new place". The answer is how
-// many lines there are then.
-fn memo_added<'a>(words: &'a mut [u16; Desk::MEMO_WORDS], n: u16, report: Report) -> u16
-    requires { RoomyMemo (memo_in n words.old) × MissFits report.radio (memo_in n words.old) }
-    ensures { memo_in result words.new
-        ≡ memo_of (alter (entered false (waits report).new (waits report).fix.place) report.radio (lines_of (memo_in n words.old))) }
+// The place that a report tells.
+fn place_of(report: Report) -> Place
+    ensures { result ≡ record { east = report.east; north = report.north } }
 {
+    Place {
+        east: report.east,
+        north: report.north,
+    }
+}
+
+// d has no entry of the radio: "add the entry, and, if not marked new, add 1 to the missed count (made as 1 if absent); any memo line takes the new place". The
+// answer is how many lines there are then.
+fn added(table: &mut Table, memo: &mut [Line; Desk::LINE_SLOTS], lines: u16, report: Report) -> u16
+    requires { Enterable (held_in table.old lines memo.old) (row_of report ∷ []) × (find table.old report.radio ≡ None) }
+    ensures { Entered (held_in table.old lines memo.old) (row_of report ∷ []) (held_in table.new result memo.new) }
+{
+    let place = place_of(report);
+    table.insert(entry_of(report));
     if report.new == 0 {
-        return memo::raised(words, n, report.radio, report.east, report.north);
+        return memo::raised(memo, lines, report.radio, Some(place));
     }
-    memo::placed(words, n, report.radio, report.east, report.north);
-    n
+    memo::placed(memo, lines, report.radio, place);
+    lines
 }
 
-// d has no entry of the radio: "add the entry".
-fn added<'a>(
-    table: &'a mut [u16; TABLE_WORDS],
-    n: usize,
-    words: &'a mut [u16; Desk::MEMO_WORDS],
+// One report: "if d has an entry of that radio, it and any memo line take the new place; else add the entry". The answer is how many lines there are then.
+fn enter_report(
+    table: &mut Table,
+    memo: &mut [Line; Desk::LINE_SLOTS],
     lines: u16,
     report: Report,
-) -> Swept
-    requires { Enterable (held_in n table.old lines words.old) (row_of report ∷ [])
-        × (stands_at report.radio (rows_of (table_with n table.old)) ≡ none) }
-    ensures { Entered (held_in n table.old lines words.old) (row_of report ∷ [])
-        (held_in result.n table.new result.lines words.new) }
+) -> u16
+    requires { Enterable (held_in table.old lines memo.old) (row_of report ∷ []) }
+    ensures { Entered (held_in table.old lines memo.old) (row_of report ∷ []) (held_in table.new result memo.new) }
 {
-    entries::inserted(table, n, entry_of(report));
-    Swept {
-        n: n + 1,
-        lines: memo_added(words, lines, report),
-    }
-}
-
-// d has an entry of the radio: "it and any memo line take the new place".
-fn moved<'a>(
-    table: &'a mut [u16; TABLE_WORDS],
-    n: usize,
-    words: &'a mut [u16; Desk::MEMO_WORDS],
-    lines: u16,
-    at: usize,
-    report: Report,
-) -> Swept
-    requires { Enterable (held_in n table.old lines words.old) (row_of report ∷ [])
-        × (stands_at report.radio (rows_of (table_with n table.old)) ≡ some at) }
-    ensures { Entered (held_in n table.old lines words.old) (row_of report ∷ [])
-        (held_in result.n table.new result.lines words.new) }
-{
-    memo::placed(words, lines, report.radio, report.east, report.north);
-    entries::replaced(table, n, at, entry_of(report));
-    Swept { n, lines }
-}
-
-// One report: "if d has an entry of that radio, it and any memo line take the new place; else add the entry".
-fn enter_report<'a>(
-    table: &'a mut [u16; TABLE_WORDS],
-    n: usize,
-    words: &'a mut [u16; Desk::MEMO_WORDS],
-    lines: u16,
-    report: Report,
-) -> Swept
-    requires { Enterable (held_in n table.old lines words.old) (row_of report ∷ []) }
-    ensures { Entered (held_in n table.old lines words.old) (row_of report ∷ [])
-        (held_in result.n table.new result.lines words.new) }
-{
-    let Lookup::Found(at) = entries::look_up(table, n, report.radio) else {
-        return added(table, n, words, lines, report);
+    let Ok(at) = table.search(report.radio) else {
+        return added(table, memo, lines, report);
     };
-    moved(table, n, words, lines, at, report)
+    let place = place_of(report);
+    table.replace(at, entry_of(report));
+    memo::placed(memo, lines, report.radio, place);
+    lines
 }
 
-// "For each waiting report of m": these, by rising radio.
-pub fn enter_all<'a>(
-    reports: &'a [u16; Desk::WAITING_WORDS],
+// "For each waiting report of m": these, by rising radio. The answer is how many lines there are then.
+pub fn enter_all(
+    reports: &[u16; Desk::WAITING_WORDS],
     gone: u16,
-    table: &'a mut [u16; TABLE_WORDS],
-    n: usize,
-    words: &'a mut [u16; Desk::MEMO_WORDS],
+    table: &mut Table,
+    memo: &mut [Line; Desk::LINE_SLOTS],
     lines: u16,
-) -> Swept
-    requires { (gone ≤ full_memory) × (length reports.now ≡ report_fields * full_memory)
-        × Enterable (held_in n table.old lines words.old) (reports_of (waiting_with gone reports.now)) }
-    ensures { Entered (held_in n table.old lines words.old) (reports_of (waiting_with gone reports.now))
-        (held_in result.n table.new result.lines words.new) }
+) -> u16
+    requires { (gone ≤ full_memory) × Enterable (held_in table.old lines memo.old) (reports_of (waiting_with gone reports.now)) }
+    ensures { Entered (held_in table.old lines memo.old) (reports_of (waiting_with gone reports.now))
+        (held_in table.new result memo.new) }
 {
-    let mut rows = n;
-    let mut notes = lines;
-    let mut i: usize = 0;
-    while i < gone as usize {
-        let x = desk::report_at(reports, i);
-        let step = enter_report(table, rows, words, notes, x);
-        rows = step.n;
-        notes = step.lines;
-        i += 1;
+    let mut lines = lines;
+    // A report is read out of six columns, by its place.
+    for i in 0..gone as usize {
+        lines = enter_report(table, memo, lines, desk::report_at(reports, i));
     }
-    Swept {
-        n: rows,
-        lines: notes,
-    }
+    lines
 }

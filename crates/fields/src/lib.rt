@@ -6,18 +6,12 @@ ghost use Rattle.lists.specs.Parts.{put};
 ghost use Rattle.lists.specs.Words.{le, word, wide, low_half, high_half};
 ghost use Rattle.terms.specs.Terms.{field_bytes, minute_bytes};
 
-fn joined(low: u8, high: u8) -> u16
-    ensures { result ≡ low + 256 * high }
-{
-    (low as u16) + 256 * (high as u16)
-}
-
 // The field at `at`.
 pub fn read(s: &[u8], at: usize) -> u16
     requires { at + field_bytes ≤ length s.now }
     ensures { result ≡ word field_bytes s.now at }
 {
-    joined(s[at], s[at + 1])
+    u16::from_le_bytes([s[at], s[at + 1]])
 }
 
 // The field at `at` is v, and every other byte is kept.
@@ -25,8 +19,7 @@ pub fn write(s: &mut [u8], at: usize, v: u16)
     requires { at + field_bytes ≤ length s.old }
     ensures { s.new ≡ put s.old at (le field_bytes v) }
 {
-    s[at] = (v % 256) as u8;
-    s[at + 1] = (v / 256) as u8;
+    s[at..at + 2].copy_from_slice(&v.to_le_bytes());
 }
 
 // ---- thirty-two bits, as arrays of numbers and pages hold a minute
@@ -34,7 +27,7 @@ pub fn write(s: &mut [u8], at: usize, v: u16)
 pub fn wide_of(low: u16, high: u16) -> u32
     ensures { result ≡ wide low high }
 {
-    (low as u32) + 65536 * (high as u32)
+    u32::from(low) + 65536 * u32::from(high)
 }
 
 pub fn low_half(v: u32) -> u16
@@ -54,7 +47,7 @@ pub fn read_wide(s: &[u8], at: usize) -> u32
     requires { at + minute_bytes ≤ length s.now }
     ensures { result ≡ word minute_bytes s.now at }
 {
-    wide_of(read(s, at), read(s, at + 2))
+    u32::from_le_bytes([s[at], s[at + 1], s[at + 2], s[at + 3]])
 }
 
 // The wide field at `at` is v, and every other byte is kept.
@@ -62,6 +55,5 @@ pub fn write_wide(s: &mut [u8], at: usize, v: u32)
     requires { at + minute_bytes ≤ length s.old }
     ensures { s.new ≡ put s.old at (le minute_bytes v) }
 {
-    write(s, at, low_half(v));
-    write(s, at + 2, high_half(v));
+    s[at..at + 4].copy_from_slice(&v.to_le_bytes());
 }

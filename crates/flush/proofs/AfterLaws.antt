@@ -1,9 +1,9 @@
 -- After a sign-on or report: the memory cell that the code finds due is the one that the rules say, and what it leaves goes on to the tally.
 use mathlib.Core.Bool.{false}
 use mathlib.Core.List.{List}
-use mathlib.Core.Option.{none, some}
+use Rattle.std.specs.Prelude.{Option, None, Some}
 use mathlib.Core.Path.{◌≡◌, sym, ap₂, ◌∙◌, subst}
-use Prim.Native.Nat.{ℕ, ◌+◌, ◌*◌, ◌≤◌, ◌<◌}
+use Prim.Native.Nat.{ℕ, ◌+◌, ◌≤◌, ◌<◌}
 use native.Mathlib.Omega.{arith}
 use lib.ListN.{length}
 use Rattle.terms.specs.Terms.{Place}
@@ -16,17 +16,14 @@ use Rattle.rules.specs.Carry.{box_to_flush, waiting_in, flush_due, after_report}
 use Rattle.rules.specs.Midway.{MidCallRoomy}
 use Rattle.rules.proofs.StepLaws.{after_tally, report_done}
 use Rattle.desk.specs.Held.{Grid, Memo, Waiting}
-use Rattle.desk.specs.Layout.{report_fields}
 use Rattle.desk.specs.Laid.{LaidWaiting}
 use Rattle.desk.specs.Views.{cuts_by}
 use Rattle.boxes.specs.declared.BoxAt.{BoxAt}
-use Rattle.box_due.specs.declared.BoxDue.{BoxDue}
-use Rattle.box_due.specs.declared.BoxDue.TheVariants.{Flush, Nothing}
 use Rattle.boxes.specs.Boxes.{box_in}
-use Rattle.box_due.specs.Due.{due_of}
+use Rattle.std.proofs.Common.{option_map}
 use Rattle.box_due.proofs.DueLaws.{means_flush, means_nothing}
 use Rattle.waiting.specs.Waiting.{reports_of}
-use Rattle.waiting.proofs.WaitingLaws.{reports_laid, whole_laid, whole_size}
+use Rattle.waiting.proofs.WaitingLaws.{reports_laid}
 use Rattle.boxes.proofs.BoxLaws.{Boxed}
 use Rattle.directory.proofs.DirectoryLaws.{Boxed_due, Boxed_counts}
 use Rattle.tally.specs.Tally.{BeforeTally}
@@ -37,8 +34,8 @@ use Rattle.flush.proofs.FlushLaws.{laid_easts, laid_norths, laid_cuts, few_easts
 
 module _ {grid : Grid} {waiting : Waiting} {memo : Memo} {b : List ℕ} (x : BeforeFlush grid waiting memo b) where
   -- what `box_due` asks
-  pub due_asks : (waiting.n ≤ full_memory) × (length waiting.words ≡ report_fields * full_memory) × (grid.easts.n ≤ max_cuts) × (grid.norths.n ≤ max_cuts)
-  due_asks = (few_wait x, whole_size waiting (whole_laid waiting x.store.waiting x.laid.waiting_is) (few_wait x), few_easts x, few_norths x)
+  pub due_asks : (waiting.n ≤ full_memory) × (grid.easts.n ≤ max_cuts) × (grid.norths.n ≤ max_cuts)
+  due_asks = (few_wait x, few_easts x, few_norths x)
 
   due_told : (p : Place)
       → box_to_flush (cuts_by grid.easts grid.norths) (waiting_in (cuts_by grid.easts grid.norths) (reports_of waiting)) (length (reports_of waiting)) p ≡ flush_due x.store p
@@ -47,19 +44,19 @@ module _ {grid : Grid} {waiting : Waiting} {memo : Memo} {b : List ℕ} (x : Bef
 
   -- none is
   pub after_none : (p : Place)
-      → box_to_flush (cuts_by grid.easts grid.norths) (waiting_in (cuts_by grid.easts grid.norths) (reports_of waiting)) (length (reports_of waiting)) p ≡ none
+      → box_to_flush (cuts_by grid.easts grid.norths) (waiting_in (cuts_by grid.easts grid.norths) (reports_of waiting)) (length (reports_of waiting)) p ≡ None
       → LaidWaiting (after_report p x.store) grid waiting memo b
   unfolding after_report
   after_none p e = rw (sym (due_told p) ∙ e) x.laid
 
-  module _ (p : Place) {o : BoxDue}
-      (told : due_of o ≡ box_to_flush (cuts_by grid.easts grid.norths) (waiting_in (cuts_by grid.easts grid.norths) (reports_of waiting)) (length (reports_of waiting)) p) where
-    pub after_nothing : o ≡ Nothing → LaidWaiting (after_report p x.store) grid waiting memo b
+  module _ (p : Place) {o : Option BoxAt}
+      (told : option_map box_in o ≡ box_to_flush (cuts_by grid.easts grid.norths) (waiting_in (cuts_by grid.easts grid.norths) (reports_of waiting)) (length (reports_of waiting)) p) where
+    pub after_nothing : o ≡ None → LaidWaiting (after_report p x.store) grid waiting memo b
     after_nothing e = after_none p (means_nothing told e)
 
     -- m is: `flush` may be called, and what it leaves
-    module _ (m : BoxAt) (e : o ≡ Flush m) where
-      due_is : flush_due x.store p ≡ some (box_in m)
+    module _ (m : BoxAt) (e : o ≡ Some m) where
+      due_is : flush_due x.store p ≡ Some (box_in m)
       due_is = means_flush (told ∙ due_told p) m e
 
       due_Boxed : Boxed x.store.cuts (box_in m)

@@ -1,16 +1,16 @@
 -- A flush: the cell of m is found, swept, and takes the reports of m; what is left at hand is the middle of a flush, and the reports of m wait no longer.
 use mathlib.Core.Bool.{true, not}
-use mathlib.Core.List.{List, map}
-use mathlib.Core.Option.{Option, some}
-use mathlib.Core.Path.{◌≡◌, refl, sym, ap, ◌∙◌}
-use Prim.Native.Nat.{ℕ, ◌+◌, ◌*◌, ◌≤◌}
+use mathlib.Core.List.{List}
+use Rattle.std.specs.Prelude.{Option, None, Some}
+use mathlib.Core.Path.{◌≡◌, refl, sym, ap, ◌∙◌, subst}
+use Prim.Native.Nat.{ℕ, ◌+◌, ◌≤◌}
 use native.Mathlib.Omega.{arith}
-use lib.ListN.{length, length-map}
+use lib.ListN.{length, take}
 use lib.Seq.{length-take-le}
-use Rattle.terms.specs.Terms.{Place}
+use Rattle.terms.specs.Terms.{Place, Fix}
+use Rattle.lists.specs.Rows.{Rows}
 use Rattle.lists.specs.Sums.{filter}
 use Rattle.lists.specs.Among.{Among}
-use Rattle.entries.specs.Entries.{table_with, rows_of}
 use Rattle.page.specs.Buffer.{pages_of}
 use Rattle.rules.specs.Limits.{max_cells, max_cuts, full_memory}
 use Rattle.rules.specs.Grid.{eastward, northward, inside, Cuts, Box, corner_of}
@@ -21,41 +21,38 @@ use Rattle.rules.specs.Midway.{MidFlush}
 use Rattle.rules.proofs.CutLaws.{reshaped-waiting}
 use Rattle.rules.proofs.FlushLaws.{ready, waiting_flushed}
 use Rattle.rules.proofs.TilingLaws.{cell_at_split, home_some}
-use Rattle.desk.specs.Held.{Directory, Grid, Memo, Waiting, grid_in, memo_in}
-use Rattle.desk.specs.Layout.{slotted, cut_list_of, slot_of, no_slot, slot_fields, directory_of, grid_of, report_fields, waiting_of}
+use Rattle.desk.specs.Held.{Grid, Memo, Waiting, grid_in}
+use Rattle.desk.specs.Layout.{cut_list_of, grid_of, waiting_of}
 use Rattle.desk.specs.Views.{cuts_by, slots_in}
 use Rattle.desk.specs.Laid.{LaidGrid, LaidMemo, LaidWaiting}
 use Rattle.boxes.specs.declared.BoxAt.{BoxAt}
 use Rattle.boxes.specs.Boxes.{box_in}
 use Rattle.waiting.specs.Waiting.{reports_of, WholeWaiting}
-use Rattle.desk.proofs.SlotsLaws.{length-slot_words}
 use Rattle.desk.proofs.UniqueLaws.{cuts_Laid}
-use Rattle.waiting.proofs.SlotsLaws.{length-slotted}
 use Rattle.waiting.proofs.WaitingLaws.{whole_laid, count_laid}
-use Rattle.directory.specs.declared.FoundCell.{FoundCell}
-use Rattle.directory.specs.declared.FoundCell.TheVariants.{At, Nowhere}
-use Rattle.directory.specs.declared.Corner.{Corner}
-use Rattle.directory.specs.Directory.{slot_at, found_at}
-use Rattle.directory.specs.Cuts.{place_of}
+use Rattle.directory.specs.Directory.{slot_at}
+use Rattle.terms.specs.Values.{place_of}
+use Rattle.terms.specs.declared.Place.{Place as HeldPlace}
 use Rattle.directory.proofs.DirectoryLaws.{cuts_count, directory_count, found_cell, found_not}
-use Rattle.sweep.specs.declared.Swept.{Swept}
-use Rattle.enter.specs.Enter.{Held, held_in, Enterable, Entered}
+use Rattle.enter.specs.Enter.{Held, Enterable, Entered}
 use Rattle.enter.proofs.RoomLaws.{gone_are, left_are, enter_asks, enter_gives}
 use Rattle.cell_last.specs.Settling.{HandFits, BeforeReshape}
 use Rattle.cell_last.proofs.MovedLaws.{grid_same}
-use Rattle.tally.specs.declared.Hand.{Hand}
+use Rattle.page.specs.declared.Chain.{Chain}
 use Rattle.tally.specs.Tally.{BeforeSweepAt, InHand}
 use Rattle.tally.proofs.HandLaws.{laid_cells, Among_place}
 use Rattle.flush.specs.Flush.{FewCuts, BoxOf, BeforeFlush, BeforeEnter}
+use Rattle.desk.specs.declared.Slot.{Slot}
 
 -- ---- the cell of m
 
 -- it is looked for by its corner
-pub home_found : (grid : Grid) (m : BoxAt) (corner : Corner) {at : Option ℕ} → place_of corner ≡ corner_of (cuts_by grid.easts grid.norths) (box_in m)
-    → at ≡ slot_at (slots_in grid.cells) (place_of corner) → at ≡ slot_at (slots_in grid.cells) (corner_of (cuts_by grid.easts grid.norths) (box_in m))
-home_found grid m corner e f = f ∙ ap (λ (p : Place). slot_at (slots_in grid.cells) p) e
+pub home_found : (grid : Grid) (m : BoxAt) (corner : HeldPlace) {at : Option ℕ} → place_of corner ≡ corner_of (cuts_by grid.easts grid.norths) (box_in m)
+    → at ≡ slot_at (take grid.cells.n grid.cells.slots) (place_of corner) → at ≡ slot_at (slots_in grid.cells) (corner_of (cuts_by grid.easts grid.norths) (box_in m))
+unfolding slots_in
+home_found grid m corner e f = f ∙ ap (λ (p : Place). slot_at (take grid.cells.n grid.cells.slots) p) e
 
-home_is : (s : Store) (m : Box) {d : Cell} → cell_at s.cells (corner_of s.cuts m) ≡ some d → cell_of_box s m ≡ some d
+home_is : (s : Store) (m : Box) {d : Cell} → cell_at s.cells (corner_of s.cuts m) ≡ Some d → cell_of_box s m ≡ Some d
 unfolding cell_of_box
 home_is s m e = e
 
@@ -71,13 +68,6 @@ module _ {s : Store} {grid : Grid} {memo : Memo} {b : List ℕ} (h : LaidMemo s 
   pub laid_cuts : cuts_by grid.easts grid.norths ≡ s.cuts
   laid_cuts = λ i. record { easts = cuts_Laid laid_easts i; norths = cuts_Laid laid_norths i }
 
--- the directory's array has room for as many cells as there may be
-directory_size : {d : Directory} (cells : List Cell) → d ≡ directory_of cells → length cells ≤ max_cells → length d.words ≡ slot_fields * max_cells
-unfolding directory_of
-directory_size cells e h =
-    let n = length-slotted max_cells no_slot (map slot_of cells) (rw length-map h) in
-    ap (λ (d : Directory). length d.words) e ∙ length-slot_words (slotted max_cells no_slot (map slot_of cells)) ∙ ap (λ (k : ℕ). slot_fields * k) n
-
 module _ {grid : Grid} {waiting : Waiting} {memo : Memo} {b : List ℕ} (x : BeforeFlush grid waiting memo b) where
   pub few_easts : grid.easts.n ≤ max_cuts
   few_easts = omega (arith, cuts_count x.store.cuts.easts (laid_easts x.laid.in_memo), x.mid.core.tiling.few_cuts eastward)
@@ -90,12 +80,11 @@ module _ {grid : Grid} {waiting : Waiting} {memo : Memo} {b : List ℕ} (x : Bef
 
   -- what `home_of` asks
   pub home_asks : (m : BoxAt) → BoxOf grid.easts grid.norths m
-      → FewCuts grid.easts grid.norths × BoxOf grid.easts grid.norths m × (grid.cells.n ≤ max_cells) × (length grid.cells.words ≡ slot_fields * max_cells)
+      → FewCuts grid.easts grid.norths × BoxOf grid.easts grid.norths m × (grid.cells.n ≤ max_cells)
   home_asks m k = (
     (few_easts, few_norths),
     k,
     omega (arith, directory_count x.store.cells (laid_cells x.laid.in_memo), x.mid.core.tiling.few_cells),
-    directory_size x.store.cells (laid_cells x.laid.in_memo) x.mid.core.tiling.few_cells,
   )
 
   corner_told : (m : BoxAt)
@@ -103,10 +92,10 @@ module _ {grid : Grid} {waiting : Waiting} {memo : Memo} {b : List ℕ} (x : Bef
       ≡ slot_at (slots_in grid.cells) (corner_of x.store.cuts (box_in m))
   corner_told m = ap (λ (c : Cuts). slot_at (slots_in grid.cells) (corner_of c (box_in m))) (laid_cuts x.laid.in_memo)
 
-  module _ (m : BoxAt) {o : FoundCell} (told : found_at o ≡ slot_at (slots_in grid.cells) (corner_of (cuts_by grid.easts grid.norths) (box_in m))) where
+  module _ (m : BoxAt) {o : Option ℕ} (told : o ≡ slot_at (slots_in grid.cells) (corner_of (cuts_by grid.easts grid.norths) (box_in m))) where
     -- it is found, for each memory cell has one, and the reports of m are taken out
-    pub homed : {at : ℕ} {taken : Waiting} → o ≡ At at → taken ≡ waiting_of (filter (in_box (cuts_by grid.easts grid.norths) (box_in m)) (reports_of waiting))
-        → BeforeEnter grid.cells.words at taken memo (box_in m) b
+    pub homed : {at : ℕ} {taken : Waiting} → o ≡ Some at → taken ≡ waiting_of (filter (in_box (cuts_by grid.easts grid.norths) (box_in m)) (reports_of waiting))
+        → BeforeEnter grid.cells.slots at taken memo (box_in m) b
     homed e gone =
         let h = home_some x.store.cuts x.store.cells (box_in m) x.mid.core.tiling in
         record {
@@ -122,7 +111,7 @@ module _ {grid : Grid} {waiting : Waiting} {memo : Memo} {b : List ℕ} (x : Bef
           stands = found_cell x.store.cells (laid_cells x.laid.in_memo) (corner_of x.store.cuts (box_in m)) h.0 h.1 (told ∙ corner_told m) e;
         }
 
-    pub homed_not : {P : Type 0} → o ≡ Nowhere → P
+    pub homed_not : {P : Type 0} → o ≡ None → P
     homed_not e =
         let h = home_some x.store.cuts x.store.cells (box_in m) x.mid.core.tiling in
         found_not x.store.cells (laid_cells x.laid.in_memo) (corner_of x.store.cuts (box_in m)) h.0 h.1 (told ∙ corner_told m) e
@@ -133,7 +122,7 @@ module _ {grid : Grid} {waiting : Waiting} {memo : Memo} {b : List ℕ} (x : Bef
 
 -- ---- d swept, with the reports of m
 
-module _ {words : List ℕ} {at : ℕ} {taken : Waiting} {memo : Memo} (m : BoxAt) {b : List ℕ} (x : BeforeEnter words at taken memo (box_in m) b) where
+module _ {words : List Slot} {at : ℕ} {taken : Waiting} {memo : Memo} (m : BoxAt) {b : List ℕ} (x : BeforeEnter words at taken memo (box_in m) b) where
   abbrev store : Store
   store = x.store
 
@@ -156,31 +145,23 @@ module _ {words : List ℕ} {at : ℕ} {taken : Waiting} {memo : Memo} (m : BoxA
   }
 
   -- `swept_at` has swept it
-  module _ (hand : Hand) (ws table : List ℕ) (given : (y : BeforeSweepAt words at memo b) → InHand (swept y.store.memo y.cell) (swept_memo y.store.memo y.cell.entries) hand ws table) where
+  module _ (chain : Chain) (table : Rows Fix) (after : Memo) (given : (y : BeforeSweepAt words at memo b) → InHand (swept y.store.memo y.cell) (swept_memo y.store.memo y.cell.entries) chain table after) where
     abbrev from : Held
-    from = held_in hand.n table hand.lines ws
+    from = record { table = table; memo = after }
 
-    cell-swept : InHand (swept store.memo x.cell) (swept_memo store.memo x.cell.entries) hand ws table
+    cell-swept : InHand (swept store.memo x.cell) (swept_memo store.memo x.cell.entries) chain table after
     cell-swept = given home_place
 
     -- what `enter_all` asks
-    pub Entered_asks : (taken.n ≤ full_memory) × (length taken.words ≡ report_fields * full_memory) × Enterable from (reports_of taken)
-    Entered_asks = enter_asks store x.cell m taken from x.these cell-swept.rows cell-swept.memo_is x.mid (omega (arith, x.early)) x.home x.few cell-swept.count cell-swept.size
+    pub Entered_asks : (taken.n ≤ full_memory) × Enterable from (reports_of taken)
+    Entered_asks = enter_asks store x.cell m taken from x.these cell-swept.rows cell-swept.memo_is x.mid (omega (arith, x.early)) x.home x.few
 
     -- what it leaves
-    pub Entered_gives : (r : Swept) {ws' table' : List ℕ} → Entered from (reports_of taken) (held_in r.n table' r.lines ws') → InHand into.cell into.store.memo (record { chain = hand.chain; n = r.n; lines = r.lines }) ws' table'
+    pub Entered_gives : (to : Held) → Entered from (reports_of taken) to → InHand into.cell into.store.memo chain to.table to.memo
     unfolding flushed_into swept
-    Entered_gives r {ws'} {table'} e =
-        let k = enter_gives store x.cell m taken from x.these cell-swept.rows cell-swept.memo_is (held_in r.n table' r.lines ws') e in
-        record {
-          bound = cell-swept.bound;
-          chained = cell-swept.chained;
-          few = omega (arith, e.count, Entered_asks.2.room.entries_fit);
-          count = k.1;
-          size = k.3;
-          rows = k.0;
-          memo_is = k.2;
-        }
+    Entered_gives to e =
+        let k = enter_gives store x.cell m taken from x.these cell-swept.rows cell-swept.memo_is to e in
+        record { bound = cell-swept.bound; chained = cell-swept.chained; rows = k.0; memo_is = k.1 }
 
   -- ---- d grown, split or joined
 
@@ -202,8 +183,8 @@ module _ {words : List ℕ} {at : ℕ} {taken : Waiting} {memo : Memo} (m : BoxA
       (omega (arith, waiting_flushed (box_in m) store x.cell k among home_inside, x.few))
 
   -- `entered` has entered the reports
-  module _ (hand : Hand) (ws table : List ℕ) (given : (y : BeforeEnter words at taken memo (box_in m) b) → InHand (flushed_into (box_in m) y.store y.cell).cell (flushed_into (box_in m) y.store y.cell).store.memo hand ws table) where
-    midway : BeforeReshape grid at (pages_of hand.chain) (rows_of (table_with hand.n table)) (memo_in hand.lines ws) b
+  module _ (chain : Chain) (table : Rows Fix) (after : Memo) (given : (y : BeforeEnter words at taken memo (box_in m) b) → InHand (flushed_into (box_in m) y.store y.cell).cell (flushed_into (box_in m) y.store y.cell).store.memo chain table after) where
+    midway : BeforeReshape grid at (pages_of chain) table after b
     midway =
         let i = given x in
         record {
@@ -223,12 +204,12 @@ module _ {words : List ℕ} {at : ℕ} {taken : Waiting} {memo : Memo} (m : BoxA
         }
 
     -- what `reshape` asks
-    reshape_asks : HandFits hand.chain hand.n table × (hand.n ≡ length (rows_of (table_with hand.n table))) × BeforeReshape grid at (pages_of hand.chain) (rows_of (table_with hand.n table)) (memo_in hand.lines ws) b
-    reshape_asks = let i = given x in ((i.bound, i.few, i.size), i.count ∙ ap length (sym i.rows), midway)
+    reshape_asks : HandFits chain × BeforeReshape grid at (pages_of chain) table after b
+    reshape_asks = ((given x).bound, midway)
 
     -- what it leaves
     reshape_gives : {g : Grid} {lines : Memo} {b' : List ℕ}
-        → ((y : BeforeReshape grid at (pages_of hand.chain) (rows_of (table_with hand.n table)) (memo_in hand.lines ws) b) → LaidMemo (reshaped y.flushed) g lines b') → LaidMemo (reshaped into) g lines b'
+        → ((y : BeforeReshape grid at (pages_of chain) table after b) → LaidMemo (reshaped y.flushed) g lines b') → LaidMemo (reshaped into) g lines b'
     unfolding midway
     reshape_gives f = f midway
 
@@ -237,23 +218,22 @@ module _ {words : List ℕ} {at : ℕ} {taken : Waiting} {memo : Memo} (m : BoxA
   unfolding flush flushed_into
   flush_gives z e = rw x.home (record { in_memo = z; waiting_is = e ∙ ap waiting_of (sym (reshaped-waiting into)) })
 
--- the whole, in the words of the calls: what `reshape` asks, and what the flush leaves
-pub reshape_wants : {grid : Grid} {waiting : Waiting} {memo : Memo} {b : List ℕ} (x : BeforeFlush grid waiting memo b) (m : BoxAt) {o : FoundCell} {at : ℕ} {taken : Waiting}
-    → found_at o ≡ slot_at (slots_in grid.cells) (corner_of (cuts_by grid.easts grid.norths) (box_in m)) → o ≡ At at
-    → taken ≡ waiting_of (filter (in_box (cuts_by grid.easts grid.norths) (box_in m)) (reports_of waiting))
-    → (hand : Hand) (ws table : List ℕ) → ((y : BeforeEnter grid.cells.words at taken memo (box_in m) b) → InHand (flushed_into (box_in m) y.store y.cell).cell (flushed_into (box_in m) y.store y.cell).store.memo hand ws table)
-    → HandFits hand.chain hand.n table × (hand.n ≡ length (rows_of (table_with hand.n table))) × BeforeReshape grid at (pages_of hand.chain) (rows_of (table_with hand.n table)) (memo_in hand.lines ws) b
-unfolding homed
-reshape_wants x m told e gone hand ws table given = reshape_asks m (homed x m told e gone) hand ws table given
+-- the whole, in the words of the calls: what `reshape` asks, and what the flush leaves. The grid is as it was
+module _ {grid : Grid} {waiting : Waiting} {memo : Memo} {b : List ℕ} (x : BeforeFlush grid waiting memo b) (m : BoxAt) {o : Option ℕ} {at : ℕ} {taken : Waiting}
+    (told : o ≡ slot_at (slots_in grid.cells) (corner_of (cuts_by grid.easts grid.norths) (box_in m))) (e : o ≡ Some at)
+    (gone : taken ≡ waiting_of (filter (in_box (cuts_by grid.easts grid.norths) (box_in m)) (reports_of waiting)))
+    (chain : Chain) (table : Rows Fix) (after : Memo)
+    (given : (y : BeforeEnter grid.cells.slots at taken memo (box_in m) b) → InHand (flushed_into (box_in m) y.store y.cell).cell (flushed_into (box_in m) y.store y.cell).store.memo chain table after)
+    {still : Grid} (kept : still ≡ grid) where
+  pub reshape_wants : HandFits chain × BeforeReshape still at (pages_of chain) table after b
+  unfolding homed
+  reshape_wants = subst (λ (g : Grid). HandFits chain × BeforeReshape g at (pages_of chain) table after b) (sym kept) (reshape_asks m (homed x m told e gone) chain table after given)
 
-pub flush_returns : {grid : Grid} {waiting : Waiting} {memo : Memo} {b : List ℕ} (x : BeforeFlush grid waiting memo b) (m : BoxAt) {o : FoundCell} {at : ℕ} {taken : Waiting}
-    → found_at o ≡ slot_at (slots_in grid.cells) (corner_of (cuts_by grid.easts grid.norths) (box_in m)) → o ≡ At at
-    → taken ≡ waiting_of (filter (in_box (cuts_by grid.easts grid.norths) (box_in m)) (reports_of waiting))
-    → (hand : Hand) (ws table : List ℕ) → ((y : BeforeEnter grid.cells.words at taken memo (box_in m) b) → InHand (flushed_into (box_in m) y.store y.cell).cell (flushed_into (box_in m) y.store y.cell).store.memo hand ws table)
-    → {g : Grid} {w : Waiting} {lines : Memo} {b' : List ℕ} → ((y : BeforeReshape grid at (pages_of hand.chain) (rows_of (table_with hand.n table)) (memo_in hand.lines ws) b) → LaidMemo (reshaped y.flushed) g lines b')
-    → w ≡ waiting_of (filter (λ v. not (in_box (cuts_by grid.easts grid.norths) (box_in m) v)) (reports_of waiting)) → LaidWaiting (flush (box_in m) x.store) g w lines b'
-unfolding homed
-flush_returns {grid} {waiting} x m told e gone hand ws table given f w =
-    let y = homed x m told e gone in
-    flush_gives m y (reshape_gives m y hand ws table given f)
-    (left_are x.store (box_in m) grid.easts grid.norths waiting (laid_easts x.laid.in_memo) (laid_norths x.laid.in_memo) x.laid.waiting_is w)
+  pub flush_returns : {g : Grid} {w : Waiting} {lines : Memo} {b' : List ℕ} → ((y : BeforeReshape still at (pages_of chain) table after b) → LaidMemo (reshaped y.flushed) g lines b')
+      → w ≡ waiting_of (filter (λ v. not (in_box (cuts_by grid.easts grid.norths) (box_in m) v)) (reports_of waiting)) → LaidWaiting (flush (box_in m) x.store) g w lines b'
+  unfolding homed
+  flush_returns {g} {w} {lines} {b'} f left =
+      let y = homed x m told e gone in
+      flush_gives m y
+      (reshape_gives m y chain table after given (subst (λ (h : Grid). (z : BeforeReshape h at (pages_of chain) table after b) → LaidMemo (reshaped z.flushed) g lines b') kept f))
+      (left_are x.store (box_in m) grid.easts grid.norths waiting (laid_easts x.laid.in_memo) (laid_norths x.laid.in_memo) x.laid.waiting_is left)

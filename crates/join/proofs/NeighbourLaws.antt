@@ -2,7 +2,7 @@
 use mathlib.Core.Path.{◌≡◌, refl, sym, ap, ap₂, ◌∙◌, subst}
 use mathlib.Core.Bool.{Bool}
 use mathlib.Core.List.{List, [], ◌∷◌, map}
-use mathlib.Core.Option.{Option, none, some}
+use Rattle.std.specs.Prelude.{Option, None, Some}
 use Prim.Native.Nat.{ℕ, ◌+◌, ◌≤◌, ◌<◌, min}
 use native.Mathlib.Omega.{arith}
 use lib.Dec.{leb}
@@ -25,17 +25,15 @@ use Rattle.rules.proofs.PagedLaws.{pages_for_some}
 use Rattle.desk.specs.declared.Slot.{Slot}
 use Rattle.desk.specs.Layout.{slot_of, leaves, cell_leaves, At as LaidAt}
 use Rattle.desk.specs.Views.{edges_of}
-use Rattle.join.specs.declared.Neighbour.{Neighbour}
-use Rattle.join.specs.declared.Neighbour.TheVariants.{At, Nobody}
-use Rattle.join.specs.Join.{few_with, may_join, nearest, neighbour_of}
+use Rattle.join.specs.Join.{few_with, may_join, nearest}
 
 -- ---- lists
 
 module _ {A : Type 0} where
   -- the element at a place, if there is a place
   abbrev element_at : List A → A → Option ℕ → Option A
-  element_at l z none = none
-  element_at l z (some k) = some (get_or l k z)
+  element_at l z None = None
+  element_at l z (Some k) = Some (get_or l k z)
 
   first_element : (p : A → Bool) (l : List A) (z : A) → first_that p l ≡ element_at l z (first_at p l)
   unfolding first_that first_at
@@ -46,8 +44,8 @@ module _ {A : Type 0} where
       (λ t. option_cases (first_at p xs) (λ n. rw (t, first_element p xs z, n)) (λ k n. rw (t, first_element p xs z, n)))
 
   element_or_else : (l : List A) (z : A) (o q : Option ℕ) → or_else (element_at l z o) (element_at l z q) ≡ element_at l z (or_else o q)
-  element_or_else l z none q = refl
-  element_or_else l z (some k) q = refl
+  element_or_else l z None q = refl
+  element_or_else l z (Some k) q = refl
 
   element_some : {B : Type 0} (l : List A) (z : A) (f : B → Option ℕ) (g : B → Option A) → ((x : B) → g x ≡ element_at l z (f x)) → (xs : List B) → first_some g xs ≡ element_at l z (first_some f xs)
   unfolding first_some
@@ -124,15 +122,15 @@ module _ (b : List ℕ) (d : Slot) (n : ℕ) (f : Flushed) (edges : edges_of d �
         element_some cells z on (λ side. first_that (joinable side f.cell) f.rest)
         (λ side. ap (first_that (joinable side f.cell)) rest ∙ first_element (joinable side f.cell) cells z ∙ ap (element_at cells z) (sym (on-cells side))) sides
 
-    inside : (k : ℕ) → nearest b slots d n ≡ some k → k < length cells
+    inside : (k : ℕ) → nearest b slots d n ≡ Some k → k < length cells
     unfolding nearest
     inside k e = first_some_cases on sides k e (λ side e. (first_at-some (joinable side f.cell) cells k f.cell (sym (on-cells side) ∙ e)).0)
 
     -- ---- the answer
 
-    module _ {r : Neighbour} (said : neighbour_of r ≡ nearest b slots d n) where
-      pub neighbour_at : (k : ℕ) (z : Cell) → r ≡ At k → (k < length cells) × (neighbour f ≡ some (get_or cells k z))
-      neighbour_at k z e = let at = sym said ∙ ap neighbour_of e in (inside k at, is_nearest z ∙ ap (element_at cells z) at)
+    module _ {r : Option ℕ} (said : r ≡ nearest b slots d n) where
+      pub neighbour_at : (k : ℕ) (z : Cell) → r ≡ Some k → (k < length cells) × (neighbour f ≡ Some (get_or cells k z))
+      neighbour_at k z e = let at = sym said ∙ e in (inside k at, is_nearest z ∙ ap (element_at cells z) at)
 
-      pub neighbour-none : r ≡ Nobody → neighbour f ≡ none
-      neighbour-none e = is_nearest f.cell ∙ ap (element_at cells f.cell) (sym said ∙ ap neighbour_of e)
+      pub neighbour-none : r ≡ None → neighbour f ≡ None
+      neighbour-none e = is_nearest f.cell ∙ ap (element_at cells f.cell) (sym said ∙ e)

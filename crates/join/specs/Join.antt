@@ -1,6 +1,6 @@
 -- Join (01, "How a record is carried out"; 02, Job 7) on what the desk holds: the slot of the joined cell, and the neighbour that is taken.
-use Rattle.std.specs.Prelude.{Bool, List, ℕ, ◌+◌, min, max, leb}
-use Rattle.std.proofs.Math.Option.{Option, none, some}
+use Rattle.std.specs.Prelude.{Bool, List, ℕ, ◌+◌, ◌<◌, min, max, leb, Option}
+use Rattle.terms.specs.Terms.{pages}
 use Rattle.lists.specs.Tests.{both, first_at, first_some}
 use Rattle.page.specs.Page.{count}
 use Rattle.page.specs.Buffer.{page_at}
@@ -8,8 +8,6 @@ use Rattle.rules.specs.Limits.{join_entries}
 use Rattle.rules.specs.Flush.{Side as CellSide, west, east, south, north, beside, sides}
 use Rattle.desk.specs.declared.Slot.{Slot}
 use Rattle.desk.specs.Views.{edges_of}
-use Rattle.join.specs.declared.Neighbour.{Neighbour}
-use Rattle.join.specs.declared.Neighbour.TheVariants.{At, Nobody}
 use Rattle.join.specs.declared.Side.{Side}
 use Rattle.join.specs.declared.Side.TheVariants.{West, East, South, North}
 
@@ -39,6 +37,10 @@ side_of North = north
 abbrev pub turned_slot : Slot → Slot
 turned_slot x = record { number = x.number; west = x.south; east = x.north; south = x.west; north = x.east; first = x.first }
 
+-- its first page is one of the pages
+abbrev pub HasPage : Slot → Type 0
+HasPage x = x.first < pages
+
 -- n entries and those of the cell's first page, which is full where it is not the last
 unfoldable pub few_with : List ℕ → ℕ → Slot → Bool
 few_with b n x = leb (n + count (page_at b x.first)) join_entries
@@ -49,8 +51,3 @@ may_join b side d n x = both (beside side (edges_of d) (edges_of x)) (few_with b
 -- "take the first of west, east, south, north": its place
 unfoldable pub nearest : List ℕ → List Slot → Slot → ℕ → Option ℕ
 nearest b slots d n = first_some (λ side. first_at (may_join b side d n) slots) sides
-
--- the value of each case of an answer: where the neighbour stands, or none
-abbrev pub neighbour_of : Neighbour → Option ℕ
-neighbour_of (At k) = some k
-neighbour_of Nobody = none

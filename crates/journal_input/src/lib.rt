@@ -22,8 +22,8 @@ pub struct Hand {
     pub end: usize,
 }
 
-// What the last read said of the input: more may come, or it has ended. That it cannot be read is an `Err`.
-#[derive(Clone, Copy, PartialEq, Eq)]
+// What the last read said of the input: more may come, or it has ended. That it cannot be read is an `Err`. No `Option`: there is nothing to hand out beside it.
+#[derive(Clone, Copy, Debug, PartialEq, Eq)]
 pub enum Source {
     Open,
     Ended,
@@ -100,6 +100,7 @@ fn read_up_to<R: Read>(
     ensures enough { IfOk result (λ source. source ≡ Source.Open → need ≤ end.new) }
     ensures ended { IfOk result (λ source. source ≡ Source.Ended → IsAtEnd (R.remaining reader.new)) }
 {
+    // no `for`: a read says how many bytes it brings
     while *end < need {
         let n = read_more(reader, window, *end)?;
         if n == 0 {

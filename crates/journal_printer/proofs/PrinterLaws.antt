@@ -2,6 +2,8 @@
 use mathlib.Core.Bool.{Bool, true}
 use borrow.Author.Tests.{ne_eqb}
 use Rattle.std.proofs.Common.{List, Option, Some, None, Result, Ok, Err, IfOk, [], ◌++◌, ◌≡◌, ℕ, ◌+◌, ◌-◌, ◌<◌, ◌≤◌, refl, sym, ap, subst, ◌∙◌, append_assoc, arith, length, take, drop}
+use Rattle.std.specs.Prelude.{OnOk, is_ok}
+use Rattle.std.proofs.lemmas.Bool.{false≢true}
 use Rattle.std.proofs.lemmas.List.{append-nil, drop-take, drop-drop}
 use lib.Dec.{eqb}
 use lib.ListN.{take-append-drop}
@@ -26,9 +28,7 @@ use Rattle.journal_input.specs.Input.{Brings, WholeRecord}
 use Rattle.journal_input.specs.declared.Source.{Source as Input-Source}
 use Rattle.journal_input.specs.declared.Source.TheVariants as source
 use Rattle.journal_input.proofs.Bringing.{consumes_none, consumes_then}
-use Rattle.journal_printer.specs.Printer.{last_number, call_count, Source, Open, Ended, Failed, Handed, Reads, nothing, more, onward, record_by, records_of, Printed}
-use Rattle.journal_printer.specs.Printer.{asks_list, answer_text, printed, Going, Stage, GoesOn, InputEnded, NumberThree, CannotRead, CannotWrite, CountEnded, most_records, Ran}
-use Rattle.journal_printer.specs.Printer.{Holds, holds, stage_after, Carries, Turn, Turns}
+use Rattle.journal_printer.specs.Printer.{last_number, call_count, Source, Open, Ended, Failed, Handed, Reads, nothing, more, onward, record_by, records_of, Printed, asks_list, answer_text, printed, Going, Stage, GoesOn, InputEnded, NumberThree, CannotRead, CannotWrite, CountEnded, most_records, Ran, Holds, holds, stage_after, Carries, Turn, Turns}
 
 -- ---- what is written
 
@@ -54,7 +54,11 @@ hand_on window at end next le =
 none_length : (l : List ℕ) → length l ≡ 0 → l ≡ []
 none_length l e = list_cases l (λ n. n) (λ x t n. absurd (omega (arith, ap length n)))
 
--- ---- what a read said
+-- ---- what a read said, or a write
+
+pub on_ok : {A E P : Type 0} (r : Result A E) → true ≡ is_ok r → OnOk r P → P
+on_ok (Ok x) ok p = p
+on_ok (Err e) ok p = absurd (false≢true (sym ok))
 
 pub told_by : {E : Type 0} → Result Input-Source E → Source
 told_by (Ok source.Open) = Open
@@ -81,12 +85,12 @@ module _ {i : ℕ} {k k' k'' h h' : Option (List ℕ)} {desk : Desk} {pages befo
   ran_unread = record { hand = after; run = printed_more g.run b Failed; over = refl; why = (refl, g.unended); written = λ _. g.written }
 
   -- nothing is at hand
-  pub ran_stopped : {E : Type 0} (r : Result Input-Source E) → ((e : E) → r ≡ Err e → ⊥) → IfOk r (λ s. s ≡ source.Open → WholeRecord after) → IfOk r (λ s. s ≡ source.Ended → IsAtEnd k'')
+  pub ran_stopped : {E : Type 0} (r : Result Input-Source E) → true ≡ is_ok r → IfOk r (λ s. s ≡ source.Open → WholeRecord after) → IfOk r (λ s. s ≡ source.Ended → IsAtEnd k'')
       → length after ≡ 0 → Ran InputEnded k k'' h h' desk pages
   ran_stopped (Ok source.Open) ok whole ended none = absurd (omega (arith, (whole refl).0, none))
   ran_stopped (Ok source.Ended) ok whole ended none =
       record { hand = after; run = printed_more g.run b Ended; over = refl; why = (refl, none_length after none, g.unended, ended refl); written = λ _. g.written }
-  ran_stopped (Err e) ok whole ended none = absurd (ok e refl)
+  ran_stopped (Err e) ok whole ended none = absurd (false≢true (sym ok))
 
 -- ---- one record more
 
@@ -104,35 +108,6 @@ other_after number n = rw (ne_eqb number 3 n) refl
 module _ {k k' : Option (List ℕ)} (desk : Desk) (pages list : List ℕ) {before after : List ℕ} (b : Brings k k' before after) where
   abbrev with_hand : List ℕ → Holds
   with_hand hand = holds desk pages hand list
-
-  -- it could not be read
-  pub turn_unread : Turns (with_hand before) CannotRead (with_hand after)
-  turn_unread = record {
-    more = b.more;
-    told = Failed;
-    whole = λ e. absurd (omega (arith, ap told_number e));
-    turn = record {
-      unread = λ e. (ap with_hand b.appended, refl);
-      stops = λ e n. absurd (omega (arith, ap told_number e));
-      carries = λ n some. absurd (n refl);
-    };
-  }
-
-  -- nothing is at hand
-  pub turn_stopped : {E : Type 0} (r : Result Input-Source E) → ((e : E) → r ≡ Err e → ⊥) → IfOk r (λ s. s ≡ source.Open → WholeRecord after) → length after ≡ 0
-      → Turns (with_hand before) InputEnded (with_hand after)
-  turn_stopped (Ok source.Open) ok whole none = absurd (omega (arith, (whole refl).0, none))
-  turn_stopped (Ok source.Ended) ok whole none = record {
-    more = b.more;
-    told = Ended;
-    whole = λ e. absurd (omega (arith, ap told_number e));
-    turn = record {
-      unread = λ e. absurd (omega (arith, ap told_number e));
-      stops = λ e n. (ap with_hand b.appended, refl);
-      carries = λ n some. absurd (omega (arith, some, ap length b.appended, none));
-    };
-  }
-  turn_stopped (Err e) ok whole none = absurd (ok e refl)
 
   -- one call is handed all that is at hand
   pub turn_carried : (told : Source) → Handed told after → 0 < length after → {stage : Stage} {y : Holds} → Carries (with_hand after) stage y → Turns (with_hand before) stage y
@@ -160,11 +135,11 @@ module _ {k k' : Option (List ℕ)} (desk : Desk) (pages list : List ℕ) {befor
 
 -- ---- a call is handed all that is at hand
 
-pub handed_by : {E : Type 0} (hand : List ℕ) (r : Result Input-Source E) → ((e : E) → r ≡ Err e → ⊥) → IfOk r (λ s. s ≡ source.Open → WholeRecord hand) → Handed (told_by r) hand
+pub handed_by : {E : Type 0} (hand : List ℕ) (r : Result Input-Source E) → true ≡ is_ok r → IfOk r (λ s. s ≡ source.Open → WholeRecord hand) → Handed (told_by r) hand
 unfolding told_by
 handed_by hand (Ok source.Open) ok whole = whole refl
 handed_by hand (Ok source.Ended) ok whole = tt
-handed_by hand (Err e) ok whole = absurd (ok e refl)
+handed_by hand (Err e) ok whole = absurd (false≢true (sym ok))
 
 module _ {i : ℕ} {k k' k'' h h' : Option (List ℕ)} {desk : Desk} {pages before hand : List ℕ} (g : Going i k k' h h' desk pages before) (b : Brings k' k'' before hand)
     (told : Source) (given : Handed told hand) (some : 0 < length hand) (list : List ℕ) (y : After) (small : Bytes hand) (a : Answers (handed desk pages (hands hand) list) y)

@@ -1,8 +1,7 @@
 -- The printer's run (01, "The journal printer"): what was read, what of it is still at hand, and the calls between; what is printed; and why it ends. What
 -- was read is the bytes that reads have put into the window, one after the other. Nothing is said of these at standard input, nor of what is written at
 -- standard output; where the reader's bytes are known, as those of a slice, they are what was read, and where the writer's are, they are what is printed.
-use Rattle.std.specs.Prelude.{Bool, true, false, cond, List, [], ◌++◌, ◌≡◌, ℕ, zero, suc, ◌+◌, ◌*◌, ◌/◌, ◌<◌, eqb, leb, min, length, take, codes, decimal}
-use Rattle.std.specs.Prelude.{Option, Some, None, Result, Ok, Err}
+use Rattle.std.specs.Prelude.{Bool, true, false, cond, List, [], ◌++◌, ◌≡◌, ℕ, zero, suc, ◌+◌, ◌*◌, ◌/◌, ◌<◌, eqb, leb, min, length, take, codes, decimal, Option, Some, None, Result, Ok, Err}
 use Rattle.std.specs.Io.KnownBytes.{Consumes, Appends, IsAtEnd}
 use Rattle.terms.specs.Terms.{field_bytes, max_on}
 use Rattle.lists.specs.Words.{Bytes, word}

@@ -16,17 +16,15 @@ ghost use Rattle.journal_printer.specs.Printer.{list_room, after_turn, answer_te
 
 use desk::{Answer, Desk};
 use journal_input::{Hand, LEAST_BYTES};
-use std::io;
+use records::Kind;
 use std::io::{Read, Write};
+use std::{fmt, io};
+use terms::Refusal;
 
 // "Its answer buffer takes 512 radios."
 pub const LIST_BYTES: usize = ENTRY_BYTES * Desk::MAX_ON;
 
 const ENTRY_BYTES: usize = 6;
-
-const NOT_AT_HAND: u16 = 3;
-
-const KIND_RANGE: u16 = 4;
 
 // Why a run ended.
 #[derive(Clone, Copy, PartialEq, Eq, Debug)]
@@ -36,11 +34,30 @@ pub enum Ending {
     CountEnded,
 }
 
+impl fmt::Display for Ending {
+    fn fmt<W: fmt::Write>(&self, f: &mut fmt::Formatter<W>) -> fmt::Result {
+        match self {
+            Ending::InputEnded => write!(f, "the input has ended"),
+            Ending::NumberThree => write!(f, "the last record is not at hand"),
+            Ending::CountEnded => write!(f, "records are counted up to 18446744073709551614"),
+        }
+    }
+}
+
 // What kept a run from its end.
 #[derive(Debug, Drop)]
 pub enum Failure {
     Read(io::Error),
     Write(io::Error),
+}
+
+impl fmt::Display for Failure {
+    fn fmt<W: fmt::Write>(&self, f: &mut fmt::Formatter<W>) -> fmt::Result {
+        match self {
+            Failure::Read(_) => write!(f, "the input cannot be read"),
+            Failure::Write(_) => write!(f, "the output cannot be written"),
+        }
+    }
 }
 
 // Record after record of the input, from a fresh store, until one is the last. The count ends too, after record 2^64 - 2: that the loop ends is
@@ -59,10 +76,8 @@ pub fn print_journal<R: Read, W: Write>(
 {
     let mut hand = Hand { at: 0, end: 0 };
     for i in 1..u64::MAX {
-        match turn(reader, out, desk, pages, window, &mut hand, list, i) {
-            Ok(None) => {}
-            Ok(Some(ending)) => return Ok(ending),
-            Err(failure) => return Err(failure),
+        if let Some(ending) = turn(reader, out, desk, pages, window, &mut hand, list, i)? {
+            return Ok(ending);
         }
     }
     Ok(Ending::CountEnded)
@@ -93,9 +108,7 @@ fn turn<R: Read, W: Write>(
         → Turned result i known (R.remaining reader.new) held (W.contents out.new)
         desk.new pages.new (at_hand window.new hand.new) }
 {
-    if let Err(e) = journal_input::record_at_hand(reader, window, hand) {
-        return Err(Failure::Read(e));
-    }
+    journal_input::record_at_hand(reader, window, hand).map_err(Failure::Read)?;
     let bytes = &window[hand.at..hand.end];
     if bytes.is_empty() {
         return Ok(Some(Ending::InputEnded));
@@ -103,10 +116,8 @@ fn turn<R: Read, W: Write>(
     let answer = call(desk, pages, bytes, list);
     let written = print_answer(out, i, is_range(bytes), answer, list);
     hand.at += taken(bytes, answer.number);
-    if let Err(e) = written {
-        return Err(Failure::Write(e));
-    }
-    if answer.number == NOT_AT_HAND {
+    written.map_err(Failure::Write)?;
+    if answer.number == Refusal::NotAtHand.number() {
         return Ok(Some(Ending::NumberThree));
     }
     Ok(None)
@@ -121,9 +132,7 @@ fn call(desk: &mut Desk, pages: &mut [u8], bytes: &[u8], list: &mut [u8]) -> Ans
     ensures small { Bytes bytes.now }
     ensures record { (result.number ≡ 3 → ⊥) → not_at_hand bytes.now ≡ false }
 {
-    let carried = carry::carry(*desk, pages, bytes, list);
-    *desk = carried.desk;
-    carried.answer
+    carry::carry(desk, pages, bytes, list)
 }
 
 // How many of the bytes at hand a call's record took.
@@ -142,7 +151,7 @@ fn taken(bytes: &[u8], number: u16) -> usize
 fn is_range(bytes: &[u8]) -> bool
     ensures { result ≡ asks_list bytes.now }
 {
-    bytes.len() >= LEAST_BYTES && fields::read(bytes, 2) == KIND_RANGE
+    bytes.len() >= LEAST_BYTES && fields::read(bytes, 2) == Kind::Range.number()
 }
 
 fn print_answer<W: Write>(

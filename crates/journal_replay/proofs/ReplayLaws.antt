@@ -7,7 +7,7 @@ use native.Mathlib.Omega.{arith}
 use lib.Dec.{eqb, ltb}
 use lib.ListN.{length, take, drop, length-append, length-drop, take-append-drop, drop_of_length-le}
 use lib.Seq.{take_all, drop-length, drop-drop, get_or-drop, take-append-le, take-take, drop_at, length-take-le}
-use borrow.Author.Tests.{ltb-false, eqb-true, eqb-false, eq-eqb, ne_eqb}
+use borrow.Author.Tests.{ltb-false, eqb-true, eqb-false, ne_eqb}
 use Rattle.terms.specs.Terms.{Place, field_bytes}
 use Rattle.lists.specs.Parts.{put}
 use Rattle.lists.specs.Rows.{Rows}
@@ -34,7 +34,7 @@ use Rattle.fresh.specs.Begin.{Begins}
 use Rattle.demands.specs.Trace.{desk_cuts, Trace, begun, called, watches_set, EveryCall}
 use Rattle.demands.specs.Demands.{AsTold, WholeList}
 use Rattle.demands.proofs.Demands.{demand2, demand3}
-use Rattle.journal_replay.specs.Replay.{left_by, answer_bytes, listed_bytes, reply, replies, Running, Found, Held, Replays}
+use Rattle.journal_replay.specs.Replay.{left_by, answer_bytes, listed_bytes, reply, replies, Running, Found, Held, left, Replays}
 
 -- ---- what the plain rule tells
 
@@ -213,22 +213,11 @@ module _ {journal : List ℕ} {d : Desk} {b : List ℕ} {read : ℕ} {out : List
 
 -- ---- the fields of an answer
 
-pub listed_none : (number count : ℕ) → (number ≡ 0 → ⊥) → 0 ≡ listed_bytes number count
-unfolding listed_bytes
-listed_none number count n = rw (ne_eqb number 0 n)
-
-pub listed_all : (number count : ℕ) → number ≡ 0 → list_bytes * count ≡ listed_bytes number count
-unfolding listed_bytes
-listed_all number count e = rw (eq-eqb number 0 e)
-
 pub put_answer : (out : List ℕ) {after done : List ℕ} (at number count : ℕ) → at + answer_bytes ≤ length out → after ≡ put out at (le field_bytes number) → done ≡ put after (at + 2) (le field_bytes count)
     → done ≡ put out at (le field_bytes number ++ le field_bytes count)
 put_answer out at number count h e f = put_then out at (le field_bytes number) (le field_bytes count) e f (omega (arith, length-le field_bytes number)) (omega arith)
 
 -- ---- the next record
-
-pub next_end : (journal : List ℕ) (at number : ℕ) → number ≡ 3 → length journal ≡ cond (eqb number 3) (length journal) (at + length_field (drop at journal))
-next_end journal at number e = rw (eq-eqb number 3 e)
 
 pub next_field : (journal : List ℕ) (at number : ℕ) {field : ℕ} → (number ≡ 3 → ⊥) → field ≡ word field_bytes (take (length journal - at) (drop at journal)) 0
     → at + field ≡ cond (eqb number 3) (length journal) (at + length_field (drop at journal))
@@ -247,34 +236,6 @@ pub kept_further : (xs ys zs : List ℕ) (w v : ℕ) → w ≤ v → drop w xs �
 kept_further xs ys zs w v h e f =
     let z : w + (v - w) ≡ v = omega arith in
     f ∙ (rw z at (sym (drop-drop (v - w) w xs) ∙ ap (drop (v - w)) e ∙ drop-drop (v - w) w ys))
-
--- ---- from the fresh store
-
--- making a fresh store answers 0 just where the size is right
-Begins_size : {x : Begin-as-Found} {y : Made} → Begins x y → y.answer.number ≡ 0 → length x.pages ≡ buffer_bytes
-Begins_size {x} {y} g e =
-    by_cases (eqb (length x.pages) buffer_bytes) (λ t. eqb-true (length x.pages) buffer_bytes t)
-    (λ t. let f : y.answer.number ≡ 1 = ap (λ (z : Made). z.answer.number) (g.size (eqb-false (length x.pages) buffer_bytes t)) in absurd (omega arith))
-
-pub Begins-fresh : {x : Begin-as-Found} {y : Made} → Begins x y → y.answer.number ≡ 0 → (y.desk ≡ desk_of fresh_watched) × (y.pages ≡ pages_of fresh)
-Begins-fresh g e = let f = g.begun (Begins_size g e) in (ap (λ (z : Made). z.desk) f, ap (λ (z : Made). z.pages) f)
-
-pub Replays_refused : (journal out : List ℕ) {x : Begin-as-Found} {y : Made} → Begins x y → (y.answer.number ≡ 0 → ⊥)
-    → Replays journal (record { desk = x.desk; pages = x.pages; out = out }) (record { number = y.answer.number; desk = y.desk; pages = y.pages; read = 0; written = 0; out = out })
-Replays_refused journal out {x} {y} g n =
-    let zero : length x.pages ≡ buffer_bytes → y.answer.number ≡ 0 = λ l. ap (λ (z : Made). z.answer.number) (g.begun l) in
-    record {
-      size = λ l. ap (λ (z : Made). record { number = z.answer.number; desk = z.desk; pages = z.pages; read = 0; written = 0; out = out }) (g.size l);
-      accepted = zero;
-      run = λ l. absurd (n (zero l));
-      whole = λ l. absurd (n (zero l));
-      kept = refl;
-    }
-
-pub Replays_run : (journal : List ℕ) {x : Begin-as-Found} {y : Made} {d : Desk} {b : List ℕ} {read written : ℕ} {out after : List ℕ} → Begins x y → y.answer.number ≡ 0
-    → Running journal d b read after written × (written + answer_bytes ≤ length out → read ≡ length journal) × (drop written after ≡ drop written out)
-    → Replays journal (record { desk = x.desk; pages = x.pages; out = out }) (record { number = y.answer.number; desk = d; pages = b; read = read; written = written; out = after })
-Replays_run journal g e r = record { size = λ n. absurd (n (Begins_size g e)); accepted = λ _. e; run = λ _. r.0; whole = λ _. r.1; kept = r.2 }
 
 -- ---- Demands 2 and 3 of the run
 

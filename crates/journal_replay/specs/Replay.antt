@@ -1,6 +1,8 @@
 -- A journal carried from a fresh store (01, "The journal printer"): a list of calls whose records are the journal's, and what they answer, in bytes.
-use Rattle.std.specs.Prelude.{cond, List, [], ◌++◌, ◌≡◌, ℕ, ◌+◌, ◌*◌, ◌<◌, ◌≤◌, eqb, length, take, drop}
+use Rattle.std.specs.Prelude.{cond, List, [], ◌++◌, ◌≡◌, ℕ, ◌+◌, ◌*◌, ◌<◌, ◌≤◌, eqb, length, take, drop, Result, Ok, Err}
 use Rattle.terms.specs.Terms.{field_bytes}
+use Rattle.terms.specs.declared.Refusal.{Refusal}
+use Rattle.terms.specs.Refusals.{number_of}
 use Rattle.lists.specs.Words.{le}
 use Rattle.page.specs.Buffer.{buffer_bytes}
 use Rattle.rules.specs.Records.{length_field}
@@ -10,6 +12,7 @@ use Rattle.rules.specs.Calls.{hands, sets, clears, writes}
 use Rattle.desk.specs.declared.Desk.{Desk}
 use Rattle.desk.specs.Call.{After}
 use Rattle.demands.specs.Trace.{Trace, begun, called}
+use Rattle.journal_replay.specs.declared.Run.{Run}
 
 -- ---- the records
 
@@ -74,6 +77,11 @@ pub record Held : Type 0 where
 
 abbrev pub left : ℕ → Desk → List ℕ → ℕ → ℕ → List ℕ → Held
 left number desk pages read written out = record { number = number; desk = desk; pages = pages; read = read; written = written; out = out }
+
+-- with what the code answers: a run that is refused has read and written nothing
+abbrev pub replayed : Result Run Refusal → Desk → List ℕ → List ℕ → Held
+replayed (Ok run) desk pages out = left 0 desk pages run.read run.written out
+replayed (Err refusal) desk pages out = left (number_of refusal) desk pages 0 0 out
 
 pub record Replays (journal : List ℕ) (x : Found) (y : Held) : Type 0 where
   -- 1: "The page buffer isn't 25,600 bytes.", which Job 3 makes 41,984

@@ -9,28 +9,20 @@ ghost use Rattle.rules.specs.Records.{length_field, not_at_hand};
 ghost use Rattle.rules.specs.Store.{fresh};
 ghost use Rattle.rules.specs.Watches.{fresh_watched};
 ghost use Rattle.desk.specs.Layout.{desk_of, pages_of};
-ghost use Rattle.journal_replay.specs.Replay.{answer_bytes, listed_bytes, Running, Replays, handed, left};
+ghost use Rattle.journal_replay.specs.Replay.{answer_bytes, listed_bytes, Running, Replays, handed, replayed};
 
 use desk::{Answer, Desk};
+use terms::Refusal;
 
 pub const ANSWER_BYTES: usize = 4;
 
-const NOT_AT_HAND: u16 = 3;
-
 const LIST_BYTES: usize = 6;
 
-// Desk, the journal's bytes read, the answers' bytes written.
-#[derive(Drop)]
+// How many of the journal's bytes are read, and how many of the answers' are written.
+#[derive(Clone, Copy, Debug, PartialEq, Eq)]
 pub struct Run {
-    pub desk: Desk,
     pub read: usize,
     pub written: usize,
-}
-
-#[derive(Drop)]
-pub struct Replayed {
-    pub number: u16,
-    pub run: Run,
 }
 
 // Number and count at `at`, and every other byte is kept. A record counts radios on, so that its count fits a field.
@@ -42,6 +34,7 @@ fn write_answer(out: &mut [u8], at: usize, answer: Answer)
     fields::write(out, at + 2, answer.count as u16);
 }
 
+#[tactic(auto, unfolding(crate::specs::Replay::listed_bytes))]
 fn listed_bytes(answer: Answer) -> usize
     requires { answer.count ≤ max_on }
     ensures { result ≡ listed_bytes answer.number answer.count }
@@ -57,76 +50,62 @@ pub fn next_record(journal: &[u8], at: usize, number: u16) -> usize
     requires { (at ≤ length journal.now) × ((number ≡ 3 → ⊥) → not_at_hand (drop at journal.now) ≡ false) }
     ensures { result ≡ cond (eqb number 3) (length journal.now) (at + length_field (drop at journal.now)) }
 {
-    if number == NOT_AT_HAND {
+    if number == Refusal::NotAtHand.number() {
         return journal.len();
     }
     at + fields::read(&journal[at..], 0) as usize
 }
 
 // The next record is carried, and its answer stands after those before.
-fn step(run: Run, pages: &mut [u8], journal: &[u8], out: &mut [u8]) -> Run
-    requires { Running journal.now run.desk pages.old run.read out.old run.written
+fn step(run: Run, desk: &mut Desk, pages: &mut [u8], journal: &[u8], out: &mut [u8]) -> Run
+    requires { Running journal.now desk.old pages.old run.read out.old run.written
         × (run.read < length journal.now) × (run.written + answer_bytes ≤ length out.old) }
-    ensures { Running journal.now result.desk pages.new result.read out.new result.written
+    ensures { Running journal.now desk.new pages.new result.read out.new result.written
         × (run.read < result.read) × (run.written ≤ result.written)
         × (drop result.written out.new ≡ drop result.written out.old) }
 {
-    let at = run.read;
-    let from = run.written;
-    let room = from + ANSWER_BYTES;
-    let c = carry::carry(run.desk, pages, &journal[at..], &mut out[room..]);
-    let answer = c.answer;
-    write_answer(out, from, answer);
-    let desk = c.desk;
+    let Run { read, written } = run;
+    let room = written + ANSWER_BYTES;
+    let answer = carry::carry(desk, pages, &journal[read..], &mut out[room..]);
+    write_answer(out, written, answer);
     Run {
-        desk,
-        read: next_record(journal, at, answer.number),
+        read: next_record(journal, read, answer.number),
         written: room + listed_bytes(answer),
     }
 }
 
 // The whole journal, on a fresh store, as long as there is room for an answer.
-fn carry_all(desk: Desk, pages: &mut [u8], journal: &[u8], out: &mut [u8]) -> Run
-    requires { (desk ≡ desk_of fresh_watched) × (pages.old ≡ pages_of fresh) }
-    ensures { Running journal.now result.desk pages.new result.read out.new result.written
+fn carry_all(desk: &mut Desk, pages: &mut [u8], journal: &[u8], out: &mut [u8]) -> Run
+    requires { (desk.old ≡ desk_of fresh_watched) × (pages.old ≡ pages_of fresh) }
+    ensures { Running journal.now desk.new pages.new result.read out.new result.written
         × (result.written + answer_bytes ≤ length out.old → result.read ≡ length journal.now)
         × (drop result.written out.new ≡ drop result.written out.old) }
 {
     let mut run = Run {
-        desk,
         read: 0,
         written: 0,
     };
+    // no `for`: a record's bytes say where the next one stands
     while run.read < journal.len() {
         if out.len() - run.written < ANSWER_BYTES {
             return run;
         }
-        run = step(run, pages, journal, out);
+        run = step(run, desk, pages, journal, out);
     }
     run
 }
 
 // A fresh store, and the journal carried on it: the answers stand at the front of `out`, and every other byte of it is kept.
-pub fn replay(desk: Desk, pages: &mut [u8], journal: &[u8], out: &mut [u8]) -> Replayed
-    ensures { Replays journal.now
-        (handed desk pages.old out.old)
-        (left result.number result.run.desk pages.new result.run.read result.run.written out.new) }
+pub fn replay(
+    desk: &mut Desk,
+    pages: &mut [u8],
+    journal: &[u8],
+    out: &mut [u8],
+) -> Result<Run, Refusal>
+    ensures { Replays journal.now (handed desk.old pages.old out.old) (replayed result desk.new pages.new out.new) }
 {
-    let begun = fresh::begin(desk, pages);
-    let number = begun.answer.number;
-    let held = begun.desk;
-    if number != 0 {
-        return Replayed {
-            number,
-            run: Run {
-                desk: held,
-                read: 0,
-                written: 0,
-            },
-        };
+    if fresh::begin(desk, pages).number != 0 {
+        return Err(Refusal::WrongSize);
     }
-    Replayed {
-        number,
-        run: carry_all(held, pages, journal, out),
-    }
+    Ok(carry_all(desk, pages, journal, out))
 }

@@ -3,7 +3,7 @@
 use mathlib.Core.Path.{◌≡◌, refl, sym, ap, ◌∙◌}
 use mathlib.Core.Bool.{Bool, true, not, cond}
 use mathlib.Core.List.{List, [], ◌∷◌, map}
-use mathlib.Core.Option.{Option, none, some}
+use Rattle.std.specs.Prelude.{Option, None, Some}
 use Prim.Native.Nat.{ℕ, suc, ◌+◌, ◌≤◌, ◌<◌}
 use native.Mathlib.Omega.{arith}
 use lib.Dec.{eqb}
@@ -30,16 +30,16 @@ use Rattle.latest_fixes.specs.Fixes.{Fixes, retold, entry_told, report_told}
 
 -- what was told, if anything
 abbrev told_or : Option Fix → Fix → Fix
-told_or none f = f
-told_or (some g) f = g
+told_or None f = f
+told_or (Some g) f = g
 
 told_first : (a b : Option Fix) (f : Fix) → told_or a (told_or b f) ≡ told_or (or_else a b) f
-told_first none b f = refl
-told_first (some g) b f = refl
+told_first None b f = refl
+told_first (Some g) b f = refl
 
-told_some : (o : Option Fix) (f : Fix) → is_some o ≡ true → o ≡ some (told_or o f)
-told_some none f e = false-true e
-told_some (some g) f e = refl
+told_some : (o : Option Fix) (f : Fix) → is_some o ≡ true → o ≡ Some (told_or o f)
+told_some None f e = false-true e
+told_some (Some g) f e = refl
 
 -- a cell's entries that are not stale
 abbrev pub cell_told : List ℕ → Rows Line → Cell → Fixes → Fixes
@@ -47,7 +47,7 @@ cell_told seats memo c = over (entry_told seats (stale memo)) c.entries
 
 -- ---- a live entry, counted
 
-one_live : (memo : Rows Line) (r : ℕ) (c : Cell) (f : Fix) → live_in memo r c ≡ some f → count_if (λ g. not (stale_by (find memo r) g)) (find c.entries r) ≡ 1
+one_live : (memo : Rows Line) (r : ℕ) (c : Cell) (f : Fix) → live_in memo r c ≡ Some f → count_if (λ g. not (stale_by (find memo r) g)) (find c.entries r) ≡ 1
 unfolding live_in
 one_live memo r c f e =
     let p = passed-true (λ x. not (stale memo x)) r (find c.entries r) f e in
@@ -115,15 +115,15 @@ module _ (seats : List ℕ) (i r : ℕ) (own : (q : ℕ) → eqb (get_or seats q
       ∙ told_first (fix_of (find s.waiting r)) (stored_in s.memo r s.cells) (f i)
 
   -- a radio on has a latest report
-  pub latest_told : (s : Store) → WellFormed s → is_on s r ≡ true → (f : Fixes) → latest s r ≡ some (over (report_told seats) s.waiting (over (cell_told seats s.memo) s.cells f) i)
-  latest_told s w on f = told_some (latest s r) (f i) (latest_on s w r ∙ on) ∙ ap some (sym (told_latest s w f))
+  pub latest_told : (s : Store) → WellFormed s → is_on s r ≡ true → (f : Fixes) → latest s r ≡ Some (over (report_told seats) s.waiting (over (cell_told seats s.memo) s.cells f) i)
+  latest_told s w on f = told_some (latest s r) (f i) (latest_on s w r ∙ on) ∙ ap Some (sym (told_latest s w f))
 
 -- ---- a row for each
 
 abbrev pub row_with : ℕ → Fix → Row Fix
 row_with r f = record { key = r; val = f }
 
-pub rows_told : (f : ℕ → Option Fix) (g : ℕ → Fix) (l : List ℕ) → ((i : ℕ) → i < length l → f (get_or l i 0) ≡ some (g i))
+pub rows_told : (f : ℕ → Option Fix) (g : ℕ → Fix) (l : List ℕ) → ((i : ℕ) → i < length l → f (get_or l i 0) ≡ Some (g i))
     → tab (length l) (λ i. row_with (get_or l i 0) (g i)) ≡ rows_of f (map radio_row l)
 unfolding tab rows_of
 rows_told f g [] h = refl

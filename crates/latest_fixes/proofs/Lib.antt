@@ -1,4 +1,4 @@
 pub mod SeatLaws
-pub mod ColumnLaws
+pub mod FixLaws
 pub mod LatestLaws
 pub mod OnLaws

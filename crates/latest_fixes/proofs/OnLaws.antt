@@ -2,7 +2,7 @@
 use mathlib.Core.Path.{◌≡◌, refl, sym, ap, ap₂, ◌∙◌, subst}
 use mathlib.Core.Bool.{true}
 use mathlib.Core.List.{List, [], ◌∷◌, map}
-use mathlib.Core.Option.{some}
+use Rattle.std.specs.Prelude.{Some}
 use Prim.Native.Nat.{ℕ, zero, suc, ◌≤◌, ◌<◌}
 use native.Mathlib.Omega.{arith}
 use native.Mathlib.Nat.{not-suc-le-zero, le_of_suc-le-suc}
@@ -31,8 +31,9 @@ use Rattle.waiting.specs.Waiting.{reports_of}
 use Rattle.waiting.proofs.WaitingLaws.{reports_laid}
 use Rattle.waiting.proofs.OnLaws.{radios_laid}
 use Rattle.range_places.specs.Places.{over, Readable}
+use Rattle.terms.specs.declared.Fix.{Fix as HeldFix}
 use Rattle.range.proofs.StoreLaws.{Read, cells-Read, slots_Laid, cells_are, waiting_is, memo_is, on_is, range_asks}
-use Rattle.latest_fixes.specs.Fixes.{SeatsOf, Fixes, fixes_in, Holds, entries_told, slot_told, report_told, reports_told, fixes_of, rows_in, FixesOn}
+use Rattle.latest_fixes.specs.Fixes.{SeatsOf, Fixes, fixes_in, entries_told, slot_told, report_told, reports_told, fixes_of, rows_in, FixesOn}
 use Rattle.latest_fixes.proofs.LatestLaws.{cell_told, latest_told, row_with, rows_told}
 
 -- ---- cells in the directory
@@ -79,7 +80,7 @@ module _ (ledger : Ledger) (b : List ℕ) (s : SoundLedger ledger b) where
   pub Rising_on : Rising 0 (radios_of (ledger_on ledger))
   Rising_on = subst (λ (l : Rows (Unit {0})). Rising 0 l) (sym rows_on) s.well.rising_on
 
-  -- ---- what is laid over the columns is what the store has
+  -- ---- what is laid over the fixes is what the store has
 
   fixes_are : (seats : List ℕ) (f : Fixes) → fixes_of b seats (slots_in (ledger_grid ledger).cells) (lines_of (ledger_memo ledger)) (reports_of (ledger_waiting ledger)) f
       ≡ over (report_told seats) s.store.waiting (over (cell_told seats s.store.memo) s.store.cells f)
@@ -92,43 +93,47 @@ module _ (ledger : Ledger) (b : List ℕ) (s : SoundLedger ledger b) where
 
   -- ---- a row for each radio on
 
-  abbrev used : List ℕ
+  abbrev pub used : List ℕ
   used = take n ledger.on
 
-  length-used : length used ≡ n
+  pub length-used : length used ≡ n
   length-used = let z = size_on in let f = few_on in rw length-take (omega arith)
 
   on-used : map radio_row used ≡ s.store.on
   on-used = unfold radios_of in rows_on
 
+  -- they rise, and are radios
+  pub used_rise : Rising 0 (map radio_row used)
+  used_rise = unfold radios_of in Rising_on
+
+  pub used_small : UpTo max_radio (map radio_row used)
+  used_small = unfold radios_of in small_on
+
+  pub used_few : length used ≤ max_on
+  used_few = omega (arith, length-used, few_on)
+
   is_on_lem : (i : ℕ) → i < length used → is_on s.store (get_or used i 0) ≡ true
   unfolding is_on
   is_on_lem i h = ap (λ (l : Rows (Unit {0})). is_some (find l (get_or used i 0))) (sym on-used) ∙ found_at used i h
 
-  module _ {seats : List ℕ} (own : SeatsOf ledger.on n seats) (easts norths minutes : List ℕ) (f : Fixes)
-      (told : fixes_in easts norths minutes ≡ over (report_told seats) s.store.waiting (over (cell_told seats s.store.memo) s.store.cells f)) where
-    latest_at : (i : ℕ) → i < length used → latest s.store (get_or used i 0) ≡ some (fixes_in easts norths minutes i)
+  module _ {seats : List ℕ} (own : SeatsOf used seats) (fixes : List HeldFix) (f : Fixes)
+      (told : fixes_in fixes ≡ over (report_told seats) s.store.waiting (over (cell_told seats s.store.memo) s.store.cells f)) where
+    latest_at : (i : ℕ) → i < length used → latest s.store (get_or used i 0) ≡ Some (fixes_in fixes i)
     latest_at i h =
-        let k : i < n = omega (arith, length-used) in
-        latest_told seats i (get_or used i 0) (λ q. own.own i k q ∙ ap (λ (r : ℕ). eqb r q) (sym (get_or-take n ledger.on i 0 k))) s.store s.well (is_on_lem i h) f
-        ∙ ap (λ (g : Fixes). some (g i)) (sym told)
+        latest_told seats i (get_or used i 0) (λ q. own.own i h q) s.store s.well (is_on_lem i h) f
+        ∙ ap (λ (g : Fixes). Some (g i)) (sym told)
 
-    rows_are : rows_in n ledger.on easts norths minutes ≡ everyone s.store
+    rows_are : rows_in n ledger.on fixes ≡ everyone s.store
     unfolding everyone fixes_in
     rows_are =
-        tab_ext n (λ i. row_with (get_or ledger.on i 0) (fixes_in easts norths minutes i)) (λ i. row_with (get_or used i 0) (fixes_in easts norths minutes i))
-        (λ i h. ap (λ (r : ℕ). row_with r (fixes_in easts norths minutes i)) (sym (get_or-take n ledger.on i 0 h)))
-        ∙ ap (λ (m : ℕ). tab m (λ i. row_with (get_or used i 0) (fixes_in easts norths minutes i))) (sym length-used)
-        ∙ rows_told (latest s.store) (fixes_in easts norths minutes) used latest_at
+        tab_ext n (λ i. row_with (get_or ledger.on i 0) (fixes_in fixes i)) (λ i. row_with (get_or used i 0) (fixes_in fixes i))
+        (λ i h. ap (λ (r : ℕ). row_with r (fixes_in fixes i)) (sym (get_or-take n ledger.on i 0 h)))
+        ∙ ap (λ (m : ℕ). tab m (λ i. row_with (get_or used i 0) (fixes_in fixes i))) (sym length-used)
+        ∙ rows_told (latest s.store) (fixes_in fixes) used latest_at
         ∙ ap (rows_of (latest s.store)) on-used
 
-  -- the columns after the entries and the waiting reports
-  pub fixes_found : (f : Fixes) {seats easts norths minutes : List ℕ} → SeatsOf ledger.on n seats
-      → Holds easts norths minutes (fixes_of b seats (slots_in (ledger_grid ledger).cells) (lines_of (ledger_memo ledger)) (reports_of (ledger_waiting ledger)) f)
-      → FixesOn s.store n ledger.on easts norths minutes
-  fixes_found f {seats} {easts} {norths} {minutes} own h = record {
-    size_easts = h.columns.east;
-    size_norths = h.columns.north;
-    size_minutes = h.columns.minute;
-    rows = rows_are own easts norths minutes f (h.fixes ∙ fixes_are seats f);
-  }
+  -- the fixes after the entries and the waiting reports
+  pub fixes_found : (f : Fixes) {seats : List ℕ} {fixes : List HeldFix} → SeatsOf used seats
+      → fixes_in fixes ≡ fixes_of b seats (slots_in (ledger_grid ledger).cells) (lines_of (ledger_memo ledger)) (reports_of (ledger_waiting ledger)) f
+      → FixesOn s.store n ledger.on fixes
+  fixes_found f {seats} {fixes} own h = record { rows = rows_are own fixes f (h ∙ fixes_are seats f) }

@@ -1,7 +1,9 @@
--- What the latest report of each radio on told (01, "How a record is carried out": "latest place, a waiting report's before a stored one's"; 02, Job 3: "each
--- waiting report and page entry carries the minute of its report"), in columns beside the radios on.
-use Rattle.std.specs.Prelude.{Bool, cond, List, ◌≡◌, ℕ, suc, ◌≤◌, ◌<◌, eqb, length, get_or}
-use Rattle.terms.specs.Terms.{Fix, fix_at, max_on}
+-- What the latest report of each radio on told ("How a record is carried out": "latest place, a waiting report's before a stored one's"; "each waiting report and
+-- page entry carries the minute of its report"), beside the radios on.
+use Rattle.std.specs.Prelude.{Bool, cond, List, ◌≡◌, ℕ, zero, suc, ◌≤◌, ◌<◌, eqb, length, get_or, Option, None, Some}
+use Rattle.terms.specs.Terms.{Fix, max_on}
+use Rattle.terms.specs.Values.{fix_of}
+use Rattle.terms.specs.declared.Fix.{Fix as HeldFix}
 use Rattle.lists.specs.Parts.{tab}
 use Rattle.lists.specs.Rows.{Row, Rows}
 use Rattle.page.specs.Buffer.{entries_from}
@@ -11,18 +13,28 @@ use Rattle.rules.specs.Everyone.{everyone}
 use Rattle.desk.specs.declared.Slot.{Slot}
 use Rattle.range_places.specs.Places.{over}
 
+-- ---- a fix for each place among those on
+
+-- what stands past the end of a list of them
+abbrev pub no_fix : HeldFix
+no_fix = record { place = record { east = 0; north = 0 }; minute = 0 }
+
+-- what stands at each place
+abbrev pub Fixes : Type 0
+Fixes = ℕ → Fix
+
+unfoldable pub fixes_in : List HeldFix → Fixes
+fixes_in fixes i = fix_of (get_or fixes i no_fix)
+
 -- ---- all radios on
 
--- the rows that four arrays hold side by side
-abbrev pub rows_in : ℕ → List ℕ → List ℕ → List ℕ → List ℕ → Rows Fix
-rows_in n radios easts norths minutes = tab n (λ i. record { key = get_or radios i 0; val = fix_at (get_or easts i 0) (get_or norths i 0) (get_or minutes i 0) })
+-- the rows that radios and fixes hold side by side
+abbrev pub rows_in : ℕ → List ℕ → List HeldFix → Rows Fix
+rows_in n radios fixes = tab n (λ i. record { key = get_or radios i 0; val = fix_of (get_or fixes i no_fix) })
 
 -- "all radios on": beside each stands what its latest report told
-pub record FixesOn (s : Store) (n : ℕ) (radios easts norths minutes : List ℕ) : Type 0 where
-  pub size_easts : length easts ≡ max_on
-  pub size_norths : length norths ≡ max_on
-  pub size_minutes : length minutes ≡ max_on
-  pub rows : rows_in n radios easts norths minutes ≡ everyone s
+pub record FixesOn (s : Store) (n : ℕ) (radios : List ℕ) (fixes : List HeldFix) : Type 0 where
+  pub rows : rows_in n radios fixes ≡ everyone s
 
 -- ---- where the radios on stand
 
@@ -31,28 +43,17 @@ pub record Seats (seats : List ℕ) : Type 0 where
   pub place : (q : ℕ) → get_or seats q 0 ≤ max_on
 
 -- and it is the radio's own: radio r stands at i exactly if the radio at i is r
-pub record SeatsOf (radios : List ℕ) (n : ℕ) (seats : List ℕ) : Type 0 where
+pub record SeatsOf (radios seats : List ℕ) : Type 0 where
   pub places : Seats seats
-  pub own : (i : ℕ) → i < n → (r : ℕ) → eqb (get_or seats r 0) (suc i) ≡ eqb (get_or radios i 0) r
+  pub own : (i : ℕ) → i < length radios → (r : ℕ) → eqb (get_or seats r 0) (suc i) ≡ eqb (get_or radios i 0) r
 
--- ---- three columns
+abbrev pub seated : ℕ → Option ℕ
+seated zero = None
+seated (suc i) = Some i
 
-pub record Columns (easts norths minutes : List ℕ) : Type 0 where
-  pub east : length easts ≡ max_on
-  pub north : length norths ≡ max_on
-  pub minute : length minutes ≡ max_on
-
--- what stands at each place
-abbrev pub Fixes : Type 0
-Fixes = ℕ → Fix
-
-unfoldable pub fixes_in : List ℕ → List ℕ → List ℕ → Fixes
-fixes_in easts norths minutes i = fix_at (get_or easts i 0) (get_or norths i 0) (get_or minutes i 0)
-
--- the columns hold these
-pub record Holds (easts norths minutes : List ℕ) (f : Fixes) : Type 0 where
-  pub columns : Columns easts norths minutes
-  pub fixes : fixes_in easts norths minutes ≡ f
+-- where a radio stands
+abbrev pub seat_in : List ℕ → ℕ → Option ℕ
+seat_in seats r = seated (get_or seats r 0)
 
 -- ---- one over the other
 

@@ -2,24 +2,23 @@
 -- it has no other entry, and the table has that one's place. Where it has a line, that entry has the line's place, which lies over all entries.
 use mathlib.Core.Bool.{Bool, true, false, not}
 use mathlib.Core.List.{List, [], ◌∷◌, map}
-use mathlib.Core.Option.{Option, none, some}
+use Rattle.std.specs.Prelude.{Option, None, Some}
 use mathlib.Core.Path.{◌≡◌, refl, sym, ap, ap₂, ◌∙◌, subst}
 use Prim.Native.Nat.{ℕ}
 use native.Mathlib.Omega.{arith}
 use lib.Dec.{eqb}
-use lib.ListN.{get_or, take}
+use lib.ListN.{take}
 use borrow.Author.Tests.{eqb-true}
 use Rattle.terms.specs.Terms.{Place, Fix}
 use Rattle.lists.specs.Rows.{Rows, Rising, find, passed}
 use Rattle.lists.specs.Sums.{sum_by}
-use Rattle.lists.specs.Tests.{one_if, is_some, or_else, Each}
+use Rattle.lists.specs.Tests.{one_if, or_else, Each}
 use Rattle.lists.proofs.Cases.{by_cases, option_cases, false-true, none-some, some_injective, is_some-true, or_else_cases}
 use Rattle.lists.proofs.RowsLaws.{find_below}
 use Rattle.lists.proofs.SumsLaws.{sum-cons, sum-nil}
 use Rattle.lists.proofs.TestsLaws.{Each_map}
 use Rattle.rules.specs.Grid.{same_place}
-use Rattle.rules.specs.Store.{Report, Cell, Store}
-use Rattle.rules.specs.Store.{Line as StoreLine}
+use Rattle.rules.specs.Store.{Report, Cell, Store, Line as StoreLine}
 use Rattle.rules.specs.Sweep.{stale_by, stale}
 use Rattle.rules.specs.Carry.{is_on, was_new, live_in, stored_in, fix_of, latest}
 use Rattle.rules.specs.Plain.{place_of}
@@ -31,26 +30,26 @@ use Rattle.desk.specs.declared.Line.{Line}
 use Rattle.desk.specs.declared.Slot.{Slot}
 use Rattle.desk.specs.Held.{Ledger, ledger_grid, ledger_waiting}
 use Rattle.desk.specs.Sound.{SoundLedger}
-use Rattle.desk.specs.Views.{slots_in, lines_in}
+use Rattle.desk.specs.Views.{slots_in}
 use Rattle.memo.specs.Memo.{row_of, lines_of}
 use Rattle.memo.proofs.MemoLaws.{lines_are}
 use Rattle.waiting.specs.Waiting.{reports_of}
 use Rattle.waiting.proofs.WaitingLaws.{reports_laid}
-use Rattle.range_places.specs.Places.{Places, places_in, over, row_over, entries_over, reports_over, slot_over}
+use Rattle.range_places.specs.Places.{Places, over, row_over, entries_over, reports_over, slot_over}
 use Rattle.range.proofs.LatestLaws.{cell_over}
 use Rattle.range.proofs.StoreLaws.{cells-Read, cells_over, slots_Laid, cells_are, waiting_is, memo_is}
-use Rattle.latest_places.specs.Latest.{anywhere, unjudged, every_mark, place_by, places_by, Tells, line_over, lines_over}
+use Rattle.latest_places.specs.Latest.{anywhere, unjudged, place_by, places_by, line_over, lines_over}
 use Rattle.latest_places.proofs.TellLaws.{seen_all, touched_all}
 
 -- ---- rows by rising radio: each radio has at most one
 
 abbrev held_or : Option Fix → Option Place → Option Place
-held_or none o = o
-held_or (some f) o = some f.place
+held_or None o = o
+held_or (Some f) o = Some f.place
 
 abbrev told : {Val : Type 0} → (Val → Fix) → Option Val → Option Fix
-told fix none = none
-told fix (some v) = some (fix v)
+told fix None = None
+told fix (Some v) = Some (fix v)
 
 row_found : {Val : Type 0} (fix : Val → Fix) (b : ℕ) (l : Rows Val) (f : Places) (r : ℕ) → Rising b l → over (row_over anywhere fix) l f r ≡ held_or (told fix (find l r)) (f r)
 unfolding over find
@@ -58,7 +57,7 @@ row_found fix b [] f r a = refl
 row_found fix b (x ∷ xs) f r a =
     row_found fix x.key xs (row_over anywhere fix x f) r a.1
     ∙ by_cases (eqb r x.key)
-    (λ t. rw (t, find_below r x.key xs (omega (arith, eqb-true r x.key t)) a.1) (seen_all (some (fix x.val))))
+    (λ t. rw (t, find_below r x.key xs (omega (arith, eqb-true r x.key t)) a.1) (seen_all (Some (fix x.val))))
     (λ t. rw t)
 
 -- ---- cells
@@ -67,8 +66,8 @@ entries_found : (l : Rows Fix) (f : Places) (r : ℕ) → Rising 0 l → entries
 entries_found l f r a = unfold entries_over in unfold find in (row_found (λ v. v) 0 l f r a ∙ told_same (find l r) (f r))
   where
     told_same : (o : Option Fix) (p : Option Place) → held_or (told (λ v. v) o) p ≡ held_or o p
-    told_same none p = refl
-    told_same (some v) p = refl
+    told_same None p = refl
+    told_same (Some v) p = refl
 
 module _ (r : ℕ) where
   abbrev step : Cell → Places → Places
@@ -83,9 +82,9 @@ module _ (r : ℕ) where
   abbrev entry_count : List Cell → ℕ
   entry_count = sum_by (λ c. count_if any_fix (find c.entries r))
 
-  entry_none : (o : Option Fix) → count_if any_fix o ≡ 0 → o ≡ none
-  entry_none none e = refl
-  entry_none (some f) e = absurd (omega arith)
+  entry_none : (o : Option Fix) → count_if any_fix o ≡ 0 → o ≡ None
+  entry_none None e = refl
+  entry_none (Some f) e = absurd (omega arith)
 
   cells_none : (cells : List Cell) (f : Places) → Each (λ c. Rising 0 c.entries) cells → entry_count cells ≡ 0 → over step cells f r ≡ f r
   unfolding over
@@ -94,7 +93,7 @@ module _ (r : ℕ) where
       let s = sum-cons (λ (x : Cell). count_if any_fix (find x.entries r)) c cs in
       cells_none cs (step c f) a.1 (omega arith) ∙ cell_found c f a.0 ∙ ap (λ (o : Option Fix). held_or o (f r)) (entry_none (find c.entries r) (omega arith))
 
-  module _ (memo : Rows StoreLine) (bare : find memo r ≡ none) where
+  module _ (memo : Rows StoreLine) (bare : find memo r ≡ None) where
     live_any : (c : Cell) → live_in memo r c ≡ find c.entries r
     unfolding live_in
     live_any c = option_cases (find c.entries r) (λ e. rw e) (λ v e. rw (e, bare))
@@ -114,27 +113,27 @@ module _ (r : ℕ) where
     live_count cells = ap (λ (o : Option StoreLine). sum_by (λ c. count_if (λ f. not (stale_by o f)) (find c.entries r)) cells) bare
 
   -- what is stored is not stale
-  live_fresh : (memo : Rows StoreLine) (o : Option Fix) (v : Fix) → passed (λ e. not (stale memo e)) r o ≡ some v → stale_by (find memo r) v ≡ false
-  live_fresh memo none v e = none-some e
-  live_fresh memo (some f) v e =
+  live_fresh : (memo : Rows StoreLine) (o : Option Fix) (v : Fix) → passed (λ e. not (stale memo e)) r o ≡ Some v → stale_by (find memo r) v ≡ false
+  live_fresh memo None v e = none-some e
+  live_fresh memo (Some f) v e =
       by_cases (stale_by (find memo r) f)
       (λ t. none-some (rw t at e))
       (λ t. ap (stale_by (find memo r)) (sym (some_injective (rw t at e))) ∙ t)
 
-  stored_fresh : (memo : Rows StoreLine) (cells : List Cell) (v : Fix) → stored_in memo r cells ≡ some v → stale_by (find memo r) v ≡ false
+  stored_fresh : (memo : Rows StoreLine) (cells : List Cell) (v : Fix) → stored_in memo r cells ≡ Some v → stale_by (find memo r) v ≡ false
   unfolding stored_in live_in
   stored_fresh memo [] v e = none-some e
   stored_fresh memo (c ∷ cs) v e = or_else_cases (live_in memo r c) (stored_in memo r cs) v e (live_fresh memo (find c.entries r) v) (stored_fresh memo cs v)
 
-  at_line : (l : StoreLine) (v : Fix) → stale_by (some l) v ≡ false → l.last ≡ some v.place
+  at_line : (l : StoreLine) (v : Fix) → stale_by (Some l) v ≡ false → l.last ≡ Some v.place
   at_line l v e =
       option_cases l.last
       (λ n. false-true (sym (rw n at e)))
-      (λ p n. n ∙ ap (λ (q : Place). some q) (same_place-true p v.place (by_cases (same_place p v.place) (λ t. t) (λ t. false-true (sym (rw (n, t) at e))))))
+      (λ p n. n ∙ ap (λ (q : Place). Some q) (same_place-true p v.place (by_cases (same_place p v.place) (λ t. t) (λ t. false-true (sym (rw (n, t) at e))))))
 
   -- ---- lines by rising radio
 
-  lines_none : (l : List Line) (f : Places) → find (map row_of l) r ≡ none → over line_over l f r ≡ f r
+  lines_none : (l : List Line) (f : Places) → find (map row_of l) r ≡ None → over line_over l f r ≡ f r
   unfolding over find
   lines_none [] f e = refl
   lines_none (x ∷ xs) f e =
@@ -142,16 +141,16 @@ module _ (r : ℕ) where
       (λ t. none-some (sym (rw t at e)))
       (λ t. lines_none xs (line_over x f) (rw t at e) ∙ rw t)
 
-  last_place : (x : Line) (p : Place) → (row_of x).val.last ≡ some p → record { east = x.east; north = x.north } ≡ p
+  last_place : (x : Line) (p : Place) → (row_of x).val.last ≡ Some p → record { east = x.east; north = x.north } ≡ p
   last_place x p = by_cases (eqb x.placed 0) (λ t. rw t (λ e. none-some e)) (λ t. rw t (λ e. some_injective e))
 
-  lines_some : (b : ℕ) (l : List Line) (f : Places) (v : StoreLine) (p : Place) → Rising b (map row_of l) → find (map row_of l) r ≡ some v → v.last ≡ some p → over line_over l f r ≡ some p
+  lines_some : (b : ℕ) (l : List Line) (f : Places) (v : StoreLine) (p : Place) → Rising b (map row_of l) → find (map row_of l) r ≡ Some v → v.last ≡ Some p → over line_over l f r ≡ Some p
   unfolding over find
   lines_some b [] f v p a e h = none-some e
   lines_some b (x ∷ xs) f v p a e h =
       by_cases (eqb r x.radio)
       (λ t. lines_none xs (line_over x f) (find_below r x.radio (map row_of xs) (omega (arith, eqb-true r x.radio t)) a.1)
-      ∙ rw t (ap (λ (q : Place). some q) (last_place x p (ap (λ (y : StoreLine). y.last) (some_injective (rw t at e)) ∙ h))))
+      ∙ rw t (ap (λ (q : Place). Some q) (last_place x p (ap (λ (y : StoreLine). y.last) (some_injective (rw t at e)) ∙ h))))
       (λ t. lines_some x.radio xs (line_over x f) v p a.1 (rw t at e) h)
 
 -- ---- of a sound ledger
@@ -160,14 +159,14 @@ module _ (r : ℕ) where
 abbrev pub laid_over : Ledger → List ℕ → Places → Places
 laid_over ledger b f =
     reports_over anywhere (reports_of (ledger_waiting ledger))
-    (lines_over (take ledger.parts.lines (lines_in ledger.memo)) (over (slot_over unjudged b anywhere) (slots_in (ledger_grid ledger).cells) f))
+    (lines_over (take ledger.parts.lines ledger.memo) (over (slot_over unjudged b anywhere) (slots_in (ledger_grid ledger).cells) f))
 
 module _ (ledger : Ledger) (b : List ℕ) (s : SoundLedger ledger b) (f : Places) (r : ℕ) (on : is_on s.store r ≡ true) where
   abbrev st : Store
   st = s.store
 
   abbrev lines : List Line
-  lines = take ledger.parts.lines (lines_in ledger.memo)
+  lines = take ledger.parts.lines ledger.memo
 
   abbrev stored : Places
   stored = over (step r) st.cells f
@@ -191,18 +190,18 @@ module _ (ledger : Ledger) (b : List ℕ) (s : SoundLedger ledger b) (f : Places
   entries_rise : Each (λ c. Rising 0 c.entries) st.cells
   entries_rise = Each_map (GoodCell st.cuts) _ st.cells (λ c g. g.rising) s.well.cells
 
-  module _ (quiet : find st.waiting r ≡ none) where
+  module _ (quiet : find st.waiting r ≡ None) where
     stored_latest : latest st r ≡ stored_in st.memo r st.cells
     stored_latest = latest_is ∙ ap (λ (o : Option Report). or_else (fix_of o) (stored_in st.memo r st.cells)) quiet
 
-    without_line : find st.memo r ≡ none → over line_over lines stored r ≡ latest_place st r
+    without_line : find st.memo r ≡ None → over line_over lines stored r ≡ latest_place st r
     without_line bare =
         lines_none r lines stored (ap (λ (l : Rows StoreLine). find l r) lines_laid ∙ bare)
         ∙ cells_one r st.memo bare st.cells f entries_rise
         (omega (arith, live_count r st.memo bare st.cells, s.well.present r, ap (λ (o : Option Report). one_if (was_new o)) quiet, ap one_if on))
         ∙ ap place_of (sym stored_latest)
 
-    with_line : (l : StoreLine) → find st.memo r ≡ some l → over line_over lines stored r ≡ latest_place st r
+    with_line : (l : StoreLine) → find st.memo r ≡ Some l → over line_over lines stored r ≡ latest_place st r
     with_line l e =
         is_some-true (latest st r) (latest_on st s.well r ∙ on)
         (λ v h.
@@ -220,8 +219,8 @@ module _ (ledger : Ledger) (b : List ℕ) (s : SoundLedger ledger b) (f : Places
   reports_over_lem g = row_found (λ w. w.fix) 0 st.waiting g r s.well.waiting_rises ∙ ap (λ (o : Option Fix). held_or o (g r)) (same (find st.waiting r))
     where
       same : (o : Option Report) → told (λ w. w.fix) o ≡ fix_of o
-      same none = refl
-      same (some w) = refl
+      same None = refl
+      same (Some w) = refl
 
   laid_latest : laid_over ledger b f r ≡ latest_place st r
   laid_latest =
@@ -232,24 +231,12 @@ module _ (ledger : Ledger) (b : List ℕ) (s : SoundLedger ledger b) (f : Places
       (λ w e. ap (λ (o : Option Report). held_or (fix_of o) (lines_over lines stored r)) e
       ∙ ap place_of (sym (latest_is ∙ ap (λ (o : Option Report). or_else (fix_of o) (stored_in st.memo r st.cells)) e)))
 
-  -- what a table has of a radio that is marked
-  Table_place : (easts norths : List ℕ) (marks : List Bool) → is_some (places_in easts norths marks r) ≡ true → places_in easts norths marks r ≡ some (place_by easts norths r)
-  unfolding places_in
-  Table_place easts norths marks = by_cases (get_or marks r false) (λ t. rw t (λ e. refl)) (λ t. rw t (λ e. false-true e))
-
-  some_place : (o : Option Fix) → is_some (place_of o) ≡ is_some o
-  some_place none = refl
-  some_place (some v) = refl
-
-  pub latest_told : (easts norths : List ℕ) → places_by easts norths ≡ laid_over ledger b f → latest_place st r ≡ some (place_by easts norths r)
-  latest_told easts norths e =
-      let same = ap (λ (g : Places). g r) e ∙ laid_latest in
-      sym same ∙ Table_place easts norths every_mark (ap is_some same ∙ some_place (latest st r) ∙ latest_on st s.well r ∙ on)
+  pub latest_told : (easts norths : List ℕ) → places_by easts norths ≡ laid_over ledger b f → latest_place st r ≡ Some (place_by easts norths r)
+  unfolding places_by
+  latest_told easts norths e = sym (ap (λ (g : Places). g r) e ∙ laid_latest)
 
 -- the three passes, one over the other
-pub all_told : (ledger : Ledger) (b e₀ n₀ : List ℕ) {e₁ n₁ e₂ n₂ e₃ n₃ : List ℕ} → Tells e₁ n₁ (over (slot_over unjudged b anywhere) (slots_in (ledger_grid ledger).cells) (places_by e₀ n₀))
-    → Tells e₂ n₂ (lines_over (take ledger.parts.lines (lines_in ledger.memo)) (places_by e₁ n₁)) → Tells e₃ n₃ (reports_over anywhere (reports_of (ledger_waiting ledger)) (places_by e₂ n₂))
-    → places_by e₃ n₃ ≡ laid_over ledger b (places_by e₀ n₀)
-all_told ledger b e₀ n₀ h₁ h₂ h₃ =
-    h₃.places ∙ ap (reports_over anywhere (reports_of (ledger_waiting ledger)))
-    (h₂.places ∙ ap (lines_over (take ledger.parts.lines (lines_in ledger.memo))) h₁.places)
+pub all_told : (ledger : Ledger) (b : List ℕ) (f₀ f₁ f₂ f₃ : Places) → f₁ ≡ over (slot_over unjudged b anywhere) (slots_in (ledger_grid ledger).cells) f₀
+    → f₂ ≡ lines_over (take ledger.parts.lines ledger.memo) f₁ → f₃ ≡ reports_over anywhere (reports_of (ledger_waiting ledger)) f₂
+    → f₃ ≡ laid_over ledger b f₀
+all_told ledger b f₀ f₁ f₂ f₃ h₁ h₂ h₃ = h₃ ∙ ap (reports_over anywhere (reports_of (ledger_waiting ledger))) (h₂ ∙ ap (lines_over (take ledger.parts.lines ledger.memo)) h₁)

@@ -2,7 +2,7 @@
 use mathlib.Core.Path.{◌≡◌, refl, ap, ◌∙◌, subst}
 use mathlib.Core.Bool.{Bool, true}
 use mathlib.Core.List.{List, [], ◌∷◌, ◌++◌}
-use mathlib.Core.Option.{some}
+use Rattle.std.specs.Prelude.{Some}
 use Prim.Native.Nat.{ℕ, ◌+◌}
 use Rattle.lists.specs.Among.{Among}
 use Rattle.lists.specs.Sums.{sum_by}
@@ -24,7 +24,7 @@ module _ {A : Type 0} where
   pub sum-Among : (f : A → ℕ) {l : List A} {x : A} (a : Among l x) → sum_by f l ≡ sum_by f (a.before ++ a.after) + f x
   sum-Among f {x = x} a = ap (sum_by f) a.split ∙ sum_middle f a.before x a.after
 
-  pub first_that-Among : (p : A → Bool) (l : List A) (x : A) → first_that p l ≡ some x → (p x ≡ true) × Among l x
+  pub first_that-Among : (p : A → Bool) (l : List A) (x : A) → first_that p l ≡ Some x → (p x ≡ true) × Among l x
   unfolding first_that
   first_that-Among p [] x = none-some
   first_that-Among p (y ∷ l) x =

@@ -1,10 +1,13 @@
+pub mod AlterLaws
 pub mod AmongLaws
 pub mod BitsLaws
 pub mod Cases
 pub mod ChainsLaws
-pub mod CopyLaws
+pub mod FoundLaws
+pub mod KeyedLaws
 pub mod MapLaws
 pub mod PartsLaws
+pub mod PositionLaws
 pub mod RowsLaws
 pub mod SearchLaws
 pub mod ShiftLaws

@@ -2,7 +2,7 @@
 use mathlib.Core.Path.{◌≡◌, refl, sym, ap}
 use mathlib.Core.List.{[], ◌∷◌}
 use mathlib.Core.Logic.{◌≢◌}
-use mathlib.Core.Option.{Option, none, some}
+use Rattle.std.specs.Prelude.{Option, None, Some}
 use Prim.Native.Nat.{ℕ, zero, suc, ◌+◌, ◌≤◌, ◌<◌}
 use native.Mathlib.Nat.{le_of_suc-le-suc, not-suc-le-zero}
 use native.Mathlib.Omega.{arith}
@@ -94,7 +94,7 @@ module _ {Val : Type 0} where
               (λ e. let t = Rising_order 0 l m i d s.rising (omega (arith, eqb-false i m e)) c in omega arith);
         }
 
-  rank_Between_at : (l : Rows Val) (r k : ℕ) (d : Row Val) → k ≤ length l → ((i : ℕ) → i < k → (get_or l i d).key < r) → ((i : ℕ) → k ≤ i → i < length l → r ≤ (get_or l i d).key) → rank r l ≡ k
+  pub rank_Between_at : (l : Rows Val) (r k : ℕ) (d : Row Val) → k ≤ length l → ((i : ℕ) → i < k → (get_or l i d).key < r) → ((i : ℕ) → k ≤ i → i < length l → r ≤ (get_or l i d).key) → rank r l ≡ k
   rank_Between_at [] r k d h b a = rw (rank-nil Val r) (omega arith)
   rank_Between_at (x ∷ xs) r zero d h b a = rw (rank-cons r x xs, le-ltb x.key r (a 0 (omega arith) (omega arith))) (omega (arith, rank_Between_at xs r zero d (omega arith) (λ i q. absurd (not-suc-le-zero q)) (λ i q p. a (suc i) (omega arith) (omega arith))))
   rank_Between_at (x ∷ xs) r (suc k) d h b a = rw (rank-cons r x xs, lt-ltb x.key r (b 0 (omega arith))) (omega (arith, rank_Between_at xs r k d (omega arith) (λ i q. b (suc i) (omega arith)) (λ i q p. a (suc i) (omega arith) (omega arith))))
@@ -104,7 +104,7 @@ module _ {Val : Type 0} where
   rank-Between {l} {r} {d} {lo} {hi} s h = let o = s.ordered in let n = s.inside in rank_Between_at l r lo d (omega arith) s.below (λ i q. s.above i (omega arith))
 
   -- ---- what stands at the place
-  pub find-rank : (b r : ℕ) (l : Rows Val) (d : Row Val) → Rising b l → rank r l < length l → (get_or l (rank r l) d).key ≡ r → find l r ≡ some (get_or l (rank r l) d).val
+  pub find-rank : (b r : ℕ) (l : Rows Val) (d : Row Val) → Rising b l → rank r l < length l → (get_or l (rank r l) d).key ≡ r → find l r ≡ Some (get_or l (rank r l) d).val
   unfolding find
   find-rank b r [] d a = λ h e. absurd (not-suc-le-zero (rw (rank-nil Val r) at h))
   find-rank b r (x ∷ xs) d a =
@@ -112,7 +112,7 @@ module _ {Val : Type 0} where
       (λ t. let u = ltb-true x.key r t in rw (rank_past r x xs u, ne_eqb r x.key (omega arith)) (λ h e. find-rank x.key r xs d a.1 (le_of_suc-le-suc h) e))
       (λ t. rw (rank_here r x xs (ltb-false x.key r t) a.1) (λ h e. rw (eq-eqb r x.key (sym e))))
 
-  pub find-rank-none : (b r : ℕ) (l : Rows Val) (d : Row Val) → Rising b l → (rank r l < length l → (get_or l (rank r l) d).key ≢ r) → find l r ≡ none
+  pub find-rank-none : (b r : ℕ) (l : Rows Val) (d : Row Val) → Rising b l → (rank r l < length l → (get_or l (rank r l) d).key ≢ r) → find l r ≡ None
   unfolding find
   find-rank-none b r [] d a = λ h. refl
   find-rank-none b r (x ∷ xs) d a =
@@ -123,7 +123,7 @@ module _ {Val : Type 0} where
       rw (ne_eqb r x.key (λ z. n (sym z))) (find_below r x.key xs u a.1)))
 
   -- the same of the place at which the key is first met
-  pub first_at-rank : (b r : ℕ) (l : Rows Val) (d : Row Val) → Rising b l → rank r l < length l → (get_or l (rank r l) d).key ≡ r → first_at (λ x. eqb r x.key) l ≡ some (rank r l)
+  pub first_at-rank : (b r : ℕ) (l : Rows Val) (d : Row Val) → Rising b l → rank r l < length l → (get_or l (rank r l) d).key ≡ r → first_at (λ x. eqb r x.key) l ≡ Some (rank r l)
   unfolding first_at
   first_at-rank b r [] d a = λ h e. absurd (not-suc-le-zero (rw (rank-nil Val r) at h))
   first_at-rank b r (x ∷ xs) d a =
@@ -131,12 +131,12 @@ module _ {Val : Type 0} where
       (λ t. let u = ltb-true x.key r t in rw (rank_past r x xs u, ne_eqb r x.key (omega arith)) (λ h e. rw (first_at-rank x.key r xs d a.1 (le_of_suc-le-suc h) e)))
       (λ t. rw (rank_here r x xs (ltb-false x.key r t) a.1) (λ h e. rw (eq-eqb r x.key (sym e))))
 
-  first_at_below : (b r : ℕ) (l : Rows Val) → r ≤ b → Rising b l → first_at (λ x. eqb r x.key) l ≡ none
+  first_at_below : (b r : ℕ) (l : Rows Val) → r ≤ b → Rising b l → first_at (λ x. eqb r x.key) l ≡ None
   unfolding first_at
   first_at_below b r [] h a = refl
   first_at_below b r (x ∷ xs) h a = rw (ne_eqb r x.key (omega (arith, a.0)), first_at_below x.key r xs (omega (arith, a.0)) a.1)
 
-  pub first_at-rank-none : (b r : ℕ) (l : Rows Val) (d : Row Val) → Rising b l → (rank r l < length l → (get_or l (rank r l) d).key ≢ r) → first_at (λ x. eqb r x.key) l ≡ none
+  pub first_at-rank-none : (b r : ℕ) (l : Rows Val) (d : Row Val) → Rising b l → (rank r l < length l → (get_or l (rank r l) d).key ≢ r) → first_at (λ x. eqb r x.key) l ≡ None
   unfolding first_at
   first_at-rank-none b r [] d a = λ h. refl
   first_at-rank-none b r (x ∷ xs) d a =
@@ -148,7 +148,7 @@ module _ {Val : Type 0} where
 
   -- ---- a change of the row at that place
   module _ (f : Option Val → Option Val) (r : ℕ) where
-    pub alter-insert_at : (b : ℕ) (l : Rows Val) (v : Val) → Rising b l → find l r ≡ none → f none ≡ some v → alter f r l ≡ insert_at l (rank r l) (record { key = r; val = v })
+    pub alter-insert_at : (b : ℕ) (l : Rows Val) (v : Val) → Rising b l → find l r ≡ None → f None ≡ Some v → alter f r l ≡ insert_at l (rank r l) (record { key = r; val = v })
     unfolding alter find insert_at
     alter-insert_at b [] v a = λ n e. rw (rank-nil Val r, e)
     alter-insert_at b (x ∷ xs) v a =
@@ -159,7 +159,7 @@ module _ {Val : Type 0} where
         (λ u. let h = ltb-false r x.key u in let k = eqb-false r x.key t in
         rw (t, u, rank_past r x xs (omega arith)) (λ n e. ap (λ (y : Rows Val). x ∷ y) (alter-insert_at x.key xs v a.1 n e))))
 
-    pub alter-set : (b : ℕ) (l : Rows Val) (u v : Val) → Rising b l → find l r ≡ some u → f (some u) ≡ some v → alter f r l ≡ set l (rank r l) (record { key = r; val = v })
+    pub alter-set : (b : ℕ) (l : Rows Val) (u v : Val) → Rising b l → find l r ≡ Some u → f (Some u) ≡ Some v → alter f r l ≡ set l (rank r l) (record { key = r; val = v })
     unfolding alter find
     alter-set b [] u v a = λ n e. cc
     alter-set b (x ∷ xs) u v a =
@@ -171,7 +171,7 @@ module _ {Val : Type 0} where
         (λ w. let h = ltb-false r x.key w in let k = eqb-false r x.key t in
         rw (t, w, rank_past r x xs (omega arith)) (λ n e. ap (λ (y : Rows Val). x ∷ y) (alter-set x.key xs u v a.1 n e))))
 
-    pub alter-remove_at : (b : ℕ) (l : Rows Val) (u : Val) → Rising b l → find l r ≡ some u → f (some u) ≡ none → alter f r l ≡ remove_at l (rank r l)
+    pub alter-remove_at : (b : ℕ) (l : Rows Val) (u : Val) → Rising b l → find l r ≡ Some u → f (Some u) ≡ None → alter f r l ≡ remove_at l (rank r l)
     unfolding alter find remove_at
     alter-remove_at b [] u a = λ n e. cc
     alter-remove_at b (x ∷ xs) u a =

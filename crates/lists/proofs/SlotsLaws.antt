@@ -1,6 +1,6 @@
 -- Slots in use, from the first to a count, as loops meet them: those from i on, those up to i, and one test after the other.
 use mathlib.Core.Path.{◌≡◌, refl, sym, ap, ◌∙◌, subst}
-use mathlib.Core.Bool.{Bool, true, false, not}
+use mathlib.Core.Bool.{Bool, true, false}
 use mathlib.Core.List.{List, [], ◌∷◌, ◌++◌, map, map-append}
 use Prim.Native.Nat.{ℕ, ◌+◌, ◌≤◌, ◌<◌}
 use native.Mathlib.Omega.{arith}
@@ -12,7 +12,7 @@ use borrow.Author.Tests.{ltb-true, ltb-false}
 use Rattle.lists.specs.Tests.{Each, both, all}
 use Rattle.lists.proofs.Cases.{by_cases}
 use Rattle.lists.proofs.MapLaws.{map-take}
-use Rattle.lists.proofs.TestsLaws.{both_left_false, not-true, not-false, Each-get_or}
+use Rattle.lists.proofs.TestsLaws.{both_left_false, Each-get_or}
 
 pub true-both : {a : Bool} (b : Bool) → a ≡ true → both a b ≡ b
 unfolding both
@@ -50,14 +50,14 @@ same_at z n k =
 
 -- ---- one test after the other
 
-pub stops : {a x : Bool} (rest : Bool) → a ≡ x → not a ≡ true → false ≡ both x rest
-stops {a} rest e f = sym (both_left_false rest (sym e ∙ not-true a f))
+pub stops : {a x : Bool} (rest : Bool) → a ≡ x → a ≡ false → false ≡ both x rest
+stops rest e f = sym (both_left_false rest (sym e ∙ f))
 
-pub goes : {a x r rest : Bool} → a ≡ x → not a ≡ false → r ≡ rest → r ≡ both x rest
-goes {a} {x} {r} {rest} e f q = q ∙ sym (true-both rest (sym e ∙ not-false a f))
+pub goes : {a x r rest : Bool} → a ≡ x → a ≡ true → r ≡ rest → r ≡ both x rest
+goes {a} {x} {r} {rest} e f q = q ∙ sym (true-both rest (sym e ∙ f))
 
-pub passed_true : {a x : Bool} → a ≡ x → not a ≡ false → x ≡ true
-passed_true {a} e f = sym e ∙ not-false a f
+pub passed_true : {a x : Bool} → a ≡ x → a ≡ true → x ≡ true
+passed_true e f = sym e ∙ f
 
 -- ---- the slots in use up to i
 

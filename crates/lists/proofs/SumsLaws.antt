@@ -3,7 +3,7 @@ use mathlib.Core.Path.{◌≡◌, refl, sym, ap, ◌∙◌, fun_ext}
 use mathlib.Core.Bool.{Bool, true, false, not}
 use mathlib.Core.List.{List, [], ◌∷◌, ◌++◌, map}
 use mathlib.Core.Logic.{◌≢◌}
-use mathlib.Core.Option.{some}
+use Rattle.std.specs.Prelude.{Some}
 use Prim.Native.Nat.{ℕ, zero, suc, ◌+◌, ◌*◌, ◌≤◌, ◌<◌}
 use native.Mathlib.Omega.{arith}
 use native.Mathlib.Nat.{le_of_suc-le-suc, not-suc-le-zero}
@@ -384,7 +384,7 @@ sum_Each_once n f l h =
     ∙ sum_to_ext n _ f (λ q b. sum_times (f q) (λ x. one_if (eqb q x)) l ∙ rw (h q, lt-ltb q n b) (omega arith))
 
 -- the first number that does not stand in a list shorter than n lies below n
-pub first_at_unused : (n : ℕ) (l : List ℕ) → length l < n → (i : ℕ) × (first_at (λ k. eqb (count k l) 0) (tab n (λ k. k)) ≡ some i) × (i < n) × (count i l ≡ 0)
+pub first_at_unused : (n : ℕ) (l : List ℕ) → length l < n → (i : ℕ) × (first_at (λ k. eqb (count k l) 0) (tab n (λ k. k)) ≡ Some i) × (i < n) × (count i l ≡ 0)
 first_at_unused n l h =
     option_cases (first_at (λ k. eqb (count k l) 0) (tab n (λ k. k)))
     (λ e. let stand : (k : ℕ) → k < n → 1 ≤ count k l = λ k b.

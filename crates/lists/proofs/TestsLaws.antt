@@ -2,7 +2,7 @@
 use mathlib.Core.Path.{◌≡◌, refl, sym, ap, subst}
 use mathlib.Core.Bool.{Bool, true, false, cond, ◌&&◌, ◌||◌}
 use mathlib.Core.List.{List, [], ◌∷◌, ◌++◌, map}
-use mathlib.Core.Option.{Option, none, some}
+use Rattle.std.specs.Prelude.{Option, None, Some}
 use Prim.Native.Nat.{ℕ, zero, suc, ◌+◌, ◌≤◌, ◌<◌}
 use native.Mathlib.Omega.{arith}
 use native.Mathlib.Nat.{le_of_suc-le-suc, not-suc-le-zero}
@@ -232,8 +232,8 @@ module _ {A : Type 0} where
 
   -- what an answer of `first_at` says of the list
   abbrev Says : (A → Bool) → List A → A → Option ℕ → Type 0
-  Says p l d none = (k : ℕ) → k < length l → p (get_or l k d) ≡ false
-  Says p l d (some i) = (i < length l) × (p (get_or l i d) ≡ true) × ((k : ℕ) → k < i → p (get_or l k d) ≡ false)
+  Says p l d None = (k : ℕ) → k < length l → p (get_or l k d) ≡ false
+  Says p l d (Some i) = (i < length l) × (p (get_or l i d) ≡ true) × ((k : ℕ) → k < i → p (get_or l k d) ≡ false)
 
   first_at-Says : (p : A → Bool) (l : List A) (d : A) → Says p l d (first_at p l)
   unfolding first_at
@@ -243,22 +243,22 @@ module _ {A : Type 0} where
       (λ t. rw t (omega arith, t, λ k h. absurd (not-suc-le-zero h)))
       (λ t. option_cases (first_at p xs)
       (λ n. rw (t, n) (fails_cons p x xs d (length xs) t (rw n at (first_at-Says p xs d))))
-      (λ i n. let s : Says p xs d (some i) = rw n at (first_at-Says p xs d) in
+      (λ i n. let s : Says p xs d (Some i) = rw n at (first_at-Says p xs d) in
       rw (t, n) (omega arith, s.1, fails_cons p x xs d i t s.2)))
 
-  pub first_at-some : (p : A → Bool) (l : List A) (i : ℕ) (d : A) → first_at p l ≡ some i → (i < length l) × (p (get_or l i d) ≡ true) × ((k : ℕ) → k < i → p (get_or l k d) ≡ false)
+  pub first_at-some : (p : A → Bool) (l : List A) (i : ℕ) (d : A) → first_at p l ≡ Some i → (i < length l) × (p (get_or l i d) ≡ true) × ((k : ℕ) → k < i → p (get_or l k d) ≡ false)
   first_at-some p l i d e = rw e at (first_at-Says p l d)
 
-  pub first_at-none : (p : A → Bool) (l : List A) (k : ℕ) (d : A) → first_at p l ≡ none → k < length l → p (get_or l k d) ≡ false
+  pub first_at-none : (p : A → Bool) (l : List A) (k : ℕ) (d : A) → first_at p l ≡ None → k < length l → p (get_or l k d) ≡ false
   first_at-none p l k d e = rw e at (first_at-Says p l d) k
 
-  pub first_at_found : (p : A → Bool) (l : List A) (i : ℕ) (d : A) → i < length l → p (get_or l i d) ≡ true → ((k : ℕ) → k < i → p (get_or l k d) ≡ false) → first_at p l ≡ some i
+  pub first_at_found : (p : A → Bool) (l : List A) (i : ℕ) (d : A) → i < length l → p (get_or l i d) ≡ true → ((k : ℕ) → k < i → p (get_or l k d) ≡ false) → first_at p l ≡ Some i
   unfolding first_at
   first_at_found p [] i d b e h = absurd (not-suc-le-zero b)
   first_at_found p (x ∷ xs) zero d b e h = rw e
   first_at_found p (x ∷ xs) (suc i) d b e h = rw (h 0 (omega arith), first_at_found p xs i d (le_of_suc-le-suc b) e (λ k c. h (suc k) (omega arith)))
 
-  pub first_at_absent : (p : A → Bool) (l : List A) (d : A) → ((k : ℕ) → k < length l → p (get_or l k d) ≡ false) → first_at p l ≡ none
+  pub first_at_absent : (p : A → Bool) (l : List A) (d : A) → ((k : ℕ) → k < length l → p (get_or l k d) ≡ false) → first_at p l ≡ None
   unfolding first_at
   first_at_absent p [] d h = refl
   first_at_absent p (x ∷ xs) d h = rw (h 0 (omega arith), first_at_absent p xs d (λ k c. h (suc k) (omega arith)))

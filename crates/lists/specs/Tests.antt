@@ -1,6 +1,5 @@
 -- Tests as Bools, and what they pick.
-use Rattle.std.specs.Prelude.{Bool, true, false, cond, List, [], ◌∷◌, ℕ, zero, suc}
-use Rattle.std.proofs.Math.Option.{Option, none, some}
+use Rattle.std.specs.Prelude.{Bool, true, false, cond, List, [], ◌∷◌, ℕ, zero, suc, Option, None, Some}
 
 -- 1 or 0
 abbrev pub one_if : Bool → ℕ
@@ -15,18 +14,18 @@ unfoldable pub either : Bool → Bool → Bool
 either a b = cond a true b
 
 abbrev later : Option ℕ → Option ℕ
-later none = none
-later (some i) = some (suc i)
+later None = None
+later (Some i) = Some (suc i)
 
 module _ {A : Type 0} where
   abbrev pub is_some : Option A → Bool
-  is_some none = false
-  is_some (some a) = true
+  is_some None = false
+  is_some (Some a) = true
 
   -- the first, or else the second
   abbrev pub or_else : Option A → Option A → Option A
-  or_else none o = o
-  or_else (some a) o = some a
+  or_else None o = o
+  or_else (Some a) o = Some a
 
   -- a fact of each element
   abbrev pub Each : (A → Type 0) → List A → Type 0
@@ -40,13 +39,13 @@ module _ {A : Type 0} where
 
   -- the place of the first element that passes, counted from 0
   unfoldable pub first_at : (A → Bool) → List A → Option ℕ
-  first_at p [] = none
-  first_at p (x ∷ xs) = cond (p x) (some zero) (later (first_at p xs))
+  first_at p [] = None
+  first_at p (x ∷ xs) = cond (p x) (Some zero) (later (first_at p xs))
 
   -- the first element that passes
   unfoldable pub first_that : (A → Bool) → List A → Option A
-  first_that p [] = none
-  first_that p (x ∷ xs) = cond (p x) (some x) (first_that p xs)
+  first_that p [] = None
+  first_that p (x ∷ xs) = cond (p x) (Some x) (first_that p xs)
 
   -- the best of x and what follows it; of equally good ones the first
   unfoldable pub best : (A → A → Bool) → A → List A → A
@@ -56,5 +55,5 @@ module _ {A : Type 0} where
 module _ {A B : Type 0} where
   -- the first answer that there is
   unfoldable pub first_some : (A → Option B) → List A → Option B
-  first_some f [] = none
+  first_some f [] = None
   first_some f (x ∷ xs) = or_else (f x) (first_some f xs)

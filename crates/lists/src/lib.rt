@@ -1,7 +1,7 @@
-// List theory: specs/ has the definitions, proofs/ their laws. Of code only what every layer may ask: a test counted, numbers copied.
+// List theory: specs/ has the definitions, proofs/ their laws. Of code only what every layer may ask: a test counted.
 #![tactic(auto)]
 
-ghost use Rattle.std.specs.Prelude.{◌≡◌, ◌≤◌, length};
+ghost use Rattle.std.specs.Prelude.{◌≡◌, ◌≤◌};
 ghost use Rattle.lists.specs.Tests.{one_if};
 
 // 1 where the test holds, else 0.
@@ -9,16 +9,4 @@ pub fn one_if(test: bool) -> usize
     ensures { (result ≡ one_if test) × (result ≤ 1) }
 {
     if test { 1 } else { 0 }
-}
-
-// All of `from` stands in `to`.
-pub fn copy(from: &[u16], to: &mut [u16])
-    requires { length from.now ≡ length to.old }
-    ensures { to.new ≡ from.now }
-{
-    let mut i: usize = 0;
-    while i < to.len() {
-        to[i] = from[i];
-        i += 1;
-    }
 }

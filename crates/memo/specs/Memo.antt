@@ -1,22 +1,13 @@
 -- The memo in the desk's array as rows by rising radio (01, "A sound store": "Memo lines by rising radio").
-use Rattle.std.specs.Prelude.{Bool, true, false, cond, map, ◌≡◌, ℕ, ◌≤◌, ◌<◌, eqb, take}
-use Rattle.std.proofs.Math.Option.{Option, none, some}
-use Rattle.terms.specs.Terms.{Place}
-use Rattle.lists.specs.Rows.{Row, Rows, Rising, find, rank}
-use Rattle.lists.specs.Tests.{is_some}
+use Rattle.std.specs.Prelude.{map, ◌≡◌, ℕ, ◌≤◌, ◌<◌, take, None}
+use Rattle.lists.specs.Rows.{Row, Rows, Rising, find}
 use Rattle.rules.specs.Store.{Line as StoreLine, missed_of}
 use Rattle.desk.specs.declared.Line.{Line}
 use Rattle.desk.specs.Held.{Memo}
+use Rattle.desk.specs.Views.{last_of}
 use Rattle.desk.specs.Layout.{line_slots, line_of, memo_of}
-use Rattle.desk.specs.Views.{lines_in}
-use Rattle.memo.specs.declared.Spot.{Spot}
-use Rattle.memo.specs.declared.Spot.TheVariants.{Held, Open}
 
 -- ---- the array as rows
-
--- the place of a line, or "none" where it is not marked to have one
-abbrev pub last_of : Line → Option Place
-last_of l = cond (eqb l.placed 0) none (some (record { east = l.east; north = l.north }))
 
 -- a line as a row: its radio is the key
 abbrev pub row_of : Line → Row StoreLine
@@ -24,11 +15,11 @@ row_of l = record { key = l.radio; val = record { missed = l.missed; last = last
 
 -- what stands past the end of a list of rows
 abbrev pub no_row : Row StoreLine
-no_row = record { key = 0; val = record { missed = 0; last = none } }
+no_row = record { key = 0; val = record { missed = 0; last = None } }
 
 -- the rows that the memo holds
 unfoldable pub lines_of : Memo → Rows StoreLine
-lines_of m = map row_of (take m.n (lines_in m.words))
+lines_of m = map row_of (take m.n m.lines)
 
 -- a line as the desk lays it out: marked 0 or 1, with the place zero where it has none
 abbrev pub Plain : Line → Type 0
@@ -53,14 +44,3 @@ RoomyMemo m = Whole m × (m.n < line_slots) × Rising 0 (lines_of m)
 -- a radio's missed count may grow by 1
 abbrev pub MissFits : ℕ → Memo → Type 0
 MissFits r m = missed_of (find (lines_of m) r) < most_missed
-
--- ---- where a radio stands
-
--- the values of each case of a spot: how many lines are of radios below, and whether the radio has one
-abbrev pub spot_of : Spot → ℕ × Bool
-spot_of (Held k) = (k, true)
-spot_of (Open k) = (k, false)
-
--- where the line of a radio stands, or would
-unfoldable pub spot_in : ℕ → Rows StoreLine → ℕ × Bool
-spot_in r l = (rank r l, is_some (find l r))

@@ -1,13 +1,13 @@
 -- The loop that writes where each line stands: the lines passed are named, and with the rest it is the whole memo.
 use mathlib.Core.Path.{◌≡◌, refl, sym, ap, ◌∙◌, subst}
 use mathlib.Core.List.{List, [], ◌∷◌, map}
-use mathlib.Core.Option.{Option, none, some}
-use Prim.Native.Nat.{ℕ, zero, suc, ◌+◌, ◌*◌, ◌≤◌, ◌<◌}
+use Rattle.std.specs.Prelude.{Option, None, Some}
+use Prim.Native.Nat.{ℕ, zero, suc, ◌+◌, ◌≤◌, ◌<◌}
 use native.Mathlib.Omega.{arith}
 use native.Mathlib.Numerals.{add-one}
 use lib.Dec.{eqb}
 use lib.ListN.{length, get_or, set, take, drop, replicate, length-set, length-replicate}
-use lib.Seq.{get_or-set_same, get_or-set_other}
+use lib.Seq.{get_or-set_same, get_or-set_other, get_or-take, length-take-le}
 use borrow.Author.Tests.{eqb-true, eqb-false}
 use Rattle.terms.specs.Terms.{max_radio}
 use Rattle.lists.specs.Rows.{Rows, Rising, UpTo, find}
@@ -20,9 +20,7 @@ use Rattle.rules.specs.Store.{Line as StoreLine}
 use Rattle.rules.specs.Sweep.{stale_by, stale}
 use Rattle.desk.specs.declared.Line.{Line}
 use Rattle.desk.specs.Held.{Memo}
-use Rattle.desk.specs.Layout.{line_slots, line_fields, no_line}
-use Rattle.desk.specs.Views.{lines_in}
-use Rattle.desk.proofs.LinesLaws.{length-lines_in}
+use Rattle.desk.specs.Layout.{line_slots, no_line}
 use Rattle.memo.specs.Memo.{row_of, lines_of}
 use Rattle.memo_index.specs.Index.{table_size, Blank, Named, line_named, judged}
 
@@ -43,8 +41,8 @@ pub record Indexing (m : Memo) (i : ℕ) (lines : List ℕ) : Type 0 where
   pub rise : Rising 0 (drop i (lines_of m))
   pub radios : UpTo max_radio (drop i (lines_of m))
   pub size : length lines ≡ table_size
-  pub named : Named m.words lines
-  pub found : (q : ℕ) → or_else (find (drop i (lines_of m)) q) (line_named m.words (get_or lines q 0)) ≡ find (lines_of m) q
+  pub named : Named m.lines lines
+  pub found : (q : ℕ) → or_else (find (drop i (lines_of m)) q) (line_named m.lines (get_or lines q 0)) ≡ find (lines_of m) q
 
 get_or-set-le : (t : List ℕ) (k v q b : ℕ) → get_or t q 0 ≤ b → v ≤ b → get_or (set t k v) q 0 ≤ b
 get_or-set-le [] k v q b h g = h
@@ -53,39 +51,39 @@ get_or-set-le (x ∷ t) zero v (suc q) b h g = h
 get_or-set-le (x ∷ t) (suc k) v zero b h g = h
 get_or-set-le (x ∷ t) (suc k) v (suc q) b h g = get_or-set-le t k v q b h g
 
-or_none : {A : Type 0} (o : Option A) → or_else o none ≡ o
-or_none none = refl
-or_none (some a) = refl
+or_none : {A : Type 0} (o : Option A) → or_else o None ≡ o
+or_none None = refl
+or_none (Some a) = refl
 
-pub index_start : (m : Memo) {lines : List ℕ} → length m.words ≡ line_fields * line_slots → Rising 0 (lines_of m) → UpTo max_radio (lines_of m) → Blank lines → Indexing m 0 lines
+pub index_start : (m : Memo) {lines : List ℕ} → length m.lines ≡ line_slots → Rising 0 (lines_of m) → UpTo max_radio (lines_of m) → Blank lines → Indexing m 0 lines
 index_start m l r u z = record {
   rise = r;
   radios = u;
   size = z.size;
   named = record { size = l; place = λ q. omega (arith, z.zeros q) };
-  found = λ q. ap (λ (k : ℕ). or_else (find (lines_of m) q) (line_named m.words k)) (z.zeros q) ∙ or_none (find (lines_of m) q);
+  found = λ q. ap (λ (k : ℕ). or_else (find (lines_of m) q) (line_named m.lines k)) (z.zeros q) ∙ or_none (find (lines_of m) q);
 }
 
 pub lines_none : (m : Memo) {i : ℕ} → m.n ≤ i → drop i (lines_of m) ≡ []
 unfolding lines_of
-lines_none m {i} h = sym (map-drop row_of i (take m.n (lines_in m.words))) ∙ ap (map row_of) (used_none (lines_in m.words) m.n i h)
+lines_none m {i} h = sym (map-drop row_of i (take m.n m.lines)) ∙ ap (map row_of) (used_none m.lines m.n i h)
 
-pub index_end : (m : Memo) {i : ℕ} {lines : List ℕ} → Indexing m i lines → m.n ≤ i → Named m.words lines × (judged m.words lines ≡ stale (lines_of m))
+pub index_end : (m : Memo) {i : ℕ} {lines : List ℕ} → Indexing m i lines → m.n ≤ i → Named m.lines lines × (judged m.lines lines ≡ stale (lines_of m))
 unfolding find judged
 index_end m {i} {lines} l h =
-    let named : (q : ℕ) → line_named m.words (get_or lines q 0) ≡ find (lines_of m) q = λ q.
-    ap (λ (y : Rows StoreLine). or_else (find y q) (line_named m.words (get_or lines q 0))) (sym (lines_none m h)) ∙ l.found q in
+    let named : (q : ℕ) → line_named m.lines (get_or lines q 0) ≡ find (lines_of m) q = λ q.
+    ap (λ (y : Rows StoreLine). or_else (find y q) (line_named m.lines (get_or lines q 0))) (sym (lines_none m h)) ∙ l.found q in
     (l.named, λ j e. stale_by (named e.key j) e.val)
 
-module _ (m : Memo) {i : ℕ} (size : length m.words ≡ line_fields * line_slots) (few : m.n ≤ line_slots) (more : i < m.n) {line : Line} (read : line ≡ get_or (lines_in m.words) i no_line) where
+module _ (m : Memo) {i : ℕ} (size : length m.lines ≡ line_slots) (few : m.n ≤ line_slots) (more : i < m.n) {line : Line} (read : line ≡ get_or m.lines i no_line) where
   pub line_next : drop i (lines_of m) ≡ row_of line ∷ drop (i + 1) (lines_of m)
   unfolding lines_of
   line_next =
-      let used : List Line = take m.n (lines_in m.words) in
-      let l = length-lines_in line_slots m.words size in
+      let used : List Line = take m.n m.lines in
+      let l = size in
       rw read
-      (sym (map-drop row_of i used) ∙ ap (map row_of) (used_cons (lines_in m.words) m.n i no_line (omega arith) more)
-      ∙ ap (λ (y : Rows StoreLine). row_of (get_or (lines_in m.words) i no_line) ∷ y) (map-drop row_of (i + 1) used))
+      (sym (map-drop row_of i used) ∙ ap (map row_of) (used_cons m.lines m.n i no_line (omega arith) more)
+      ∙ ap (λ (y : Rows StoreLine). row_of (get_or m.lines i no_line) ∷ y) (map-drop row_of (i + 1) used))
 
   module _ {lines : List ℕ} (l : Indexing m i lines) where
     radios_here : UpTo max_radio (row_of line ∷ drop (i + 1) (lines_of m))
@@ -98,12 +96,12 @@ module _ (m : Memo) {i : ℕ} (size : length m.words ≡ line_fields * line_slot
     rise_next = (subst (λ (y : Rows StoreLine). Rising 0 y) line_next l.rise).1
 
     module _ {k : ℕ} (at : k ≡ line.radio) (inside : k < table_size) where
-      named_next : (q : ℕ) → or_else (find (drop (i + 1) (lines_of m)) q) (line_named m.words (get_or (set lines k (i + 1)) q 0)) ≡ find (lines_of m) q
+      named_next : (q : ℕ) → or_else (find (drop (i + 1) (lines_of m)) q) (line_named m.lines (get_or (set lines k (i + 1)) q 0)) ≡ find (lines_of m) q
       unfolding find
       named_next q =
           let rest = drop (i + 1) (lines_of m) in
-          let before : or_else (find (row_of line ∷ rest) q) (line_named m.words (get_or lines q 0)) ≡ find (lines_of m) q =
-          ap (λ (y : Rows StoreLine). or_else (find y q) (line_named m.words (get_or lines q 0))) (sym line_next) ∙ l.found q in
+          let before : or_else (find (row_of line ∷ rest) q) (line_named m.lines (get_or lines q 0)) ≡ find (lines_of m) q =
+          ap (λ (y : Rows StoreLine). or_else (find y q) (line_named m.lines (get_or lines q 0))) (sym line_next) ∙ l.found q in
           by_cases (eqb q line.radio)
           (λ e.
           let z : q ≡ k = eqb-true q line.radio e ∙ sym at in
@@ -121,3 +119,17 @@ module _ (m : Memo) {i : ℕ} (size : length m.words ≡ line_fields * line_slot
             named = record { size = size; place = λ j. get_or-set-le lines k (i + 1) j line_slots (l.named.place j) (omega arith) };
             found = named_next;
           })
+
+-- the lines in use
+module _ (m : Memo) (size : length m.lines ≡ line_slots) (few : m.n ≤ line_slots) where
+  used_count : length (take m.n m.lines) ≡ m.n
+  used_count = length-take-le m.n m.lines (omega (arith, size))
+
+  pub used_more : {i : ℕ} → i < length (take m.n m.lines) → i < m.n
+  used_more h = omega (arith, used_count)
+
+  pub used_end : {i : ℕ} → length (take m.n m.lines) ≤ i → m.n ≤ i
+  used_end h = omega (arith, used_count)
+
+  pub used_line : {i : ℕ} → i < length (take m.n m.lines) → get_or (take m.n m.lines) i no_line ≡ get_or m.lines i no_line
+  used_line {i} h = get_or-take m.n m.lines i no_line (used_more h)

@@ -1,25 +1,26 @@
 // Where each radio's memo line stands, in a table by radio, and an entry judged by the line that the table names: the memo is not searched for it.
 #![tactic(auto)]
 
-ghost use Rattle.std.specs.Prelude.{not, ◌≡◌, ◌+◌, ◌-◌, ◌*◌, ◌<◌, ◌≤◌, length};
+ghost use Rattle.std.specs.Prelude.{◌≡◌, ◌+◌, ◌<◌, ◌≤◌};
 ghost use Rattle.terms.specs.Terms.{max_radio};
 ghost use Rattle.lists.specs.Rows.{Rising, UpTo};
 ghost use Rattle.lists.specs.Tests.{one_if};
-ghost use Rattle.entries.specs.Entries.{row_of, place_of};
-ghost use Rattle.rules.specs.Sweep.{is_at, stale};
-ghost use Rattle.desk.specs.Layout.{line_slots, line_fields};
+ghost use Rattle.entries.specs.Entries.{row_of};
+ghost use Rattle.rules.specs.Sweep.{stale};
+ghost use Rattle.desk.specs.Layout.{line_slots};
 ghost use Rattle.desk.specs.Held.{memo_in};
-ghost use Rattle.memo.specs.Memo.{last_of, lines_of};
+ghost use Rattle.memo.specs.Memo.{lines_of};
 ghost use Rattle.memo_index.specs.Index.{table_size, Blank, Named, judged};
 
 use desk::{Desk, Line};
 use entries::Entry;
-use terms::MAX_RADIO;
+use memo::is_elsewhere;
+use terms::{MAX_RADIO, Place};
 
 // A number for each radio, and one for 0.
 pub const RADIOS: usize = MAX_RADIO as usize + 1;
 
-// Where a radio's line stands in the memo counts from 1.
+// Where a radio's line stands in the memo counts from 1, in two bytes a radio: an Option would take four.
 pub const NO_LINE: u16 = 0;
 
 // ---- where the lines stand
@@ -38,61 +39,41 @@ pub fn place_from_one(i: usize) -> u16
     (i + 1) as u16
 }
 
-fn index_from_one(place: u16) -> usize
-    requires { 0 < place }
-    ensures { result ≡ place - 1 }
-{
-    place as usize - 1
-}
-
 // Each line writes where it stands.
-pub fn index_lines(words: &[u16; Desk::MEMO_WORDS], n: u16, lines: &mut [u16; RADIOS])
-    requires { (length words.now ≡ line_fields * line_slots) × (n ≤ line_slots) × Rising 0 (lines_of (memo_in n words.now))
-        × UpTo max_radio (lines_of (memo_in n words.now)) × Blank lines.old }
-    ensures { Named words.now lines.new
-        × (judged words.now lines.new ≡ stale (lines_of (memo_in n words.now))) }
+pub fn index_lines(memo: &[Line; Desk::LINE_SLOTS], n: u16, lines: &mut [u16; RADIOS])
+    requires { (n ≤ line_slots) × Rising 0 (lines_of (memo_in n memo.now)) × UpTo max_radio (lines_of (memo_in n memo.now)) × Blank lines.old }
+    ensures { Named memo.now lines.new × (judged memo.now lines.new ≡ stale (lines_of (memo_in n memo.now))) }
 {
-    let mut i: usize = 0;
-    while i < n as usize {
-        let x = desk::line_at(words, i);
-        let k = radio_index(x.radio);
+    for (i, line) in memo[..n as usize].iter().enumerate() {
+        let k = radio_index(line.radio);
         lines[k] = place_from_one(i);
-        i += 1;
     }
 }
 
 // ---- an entry, judged
 
-// 1 if a line has another place than the entry or none, else 0.
-fn judge(x: Line, e: Entry) -> u16
-    ensures { (result ≡ one_if (not (is_at (last_of x) (place_of e)))) × (result ≤ 1) }
+// Whether an entry is stale by the line that the table names.
+pub fn is_stale(e: Entry, memo: &[Line; Desk::LINE_SLOTS], lines: &[u16; RADIOS]) -> bool
+    requires { (e.radio ≤ max_radio) × Named memo.now lines.now }
+    ensures { result ≡ judged memo.now lines.now (row_of e) }
 {
-    if x.placed == 0 {
-        return 1;
+    let k = radio_index(e.radio);
+    let at = lines[k];
+    if at == NO_LINE {
+        return false;
     }
-    if x.east != e.east {
-        return 1;
-    }
-    if x.north == e.north { 0 } else { 1 }
+    let line = memo[at as usize - 1];
+    let place = Place {
+        east: e.east,
+        north: e.north,
+    };
+    is_elsewhere(line, place)
 }
 
 // 1 if an entry is stale by the line that the table names, else 0.
-pub fn judge_entry(e: Entry, words: &[u16; Desk::MEMO_WORDS], lines: &[u16; RADIOS]) -> u16
-    requires { (e.radio ≤ max_radio) × Named words.now lines.now }
-    ensures { (result ≡ one_if (judged words.now lines.now (row_of e))) × (result ≤ 1) }
+pub fn judge_entry(e: Entry, memo: &[Line; Desk::LINE_SLOTS], lines: &[u16; RADIOS]) -> u16
+    requires { (e.radio ≤ max_radio) × Named memo.now lines.now }
+    ensures { (result ≡ one_if (judged memo.now lines.now (row_of e))) × (result ≤ 1) }
 {
-    let k = radio_index(e.radio);
-    let place = lines[k];
-    if place == NO_LINE {
-        return 0;
-    }
-    judge(desk::line_at(words, index_from_one(place)), e)
-}
-
-// Whether an entry is stale by the line that the table names.
-pub fn is_stale(e: Entry, words: &[u16; Desk::MEMO_WORDS], lines: &[u16; RADIOS]) -> bool
-    requires { (e.radio ≤ max_radio) × Named words.now lines.now }
-    ensures { result ≡ judged words.now lines.now (row_of e) }
-{
-    judge_entry(e, words, lines) != 0
+    u16::from(is_stale(e, memo, lines))
 }

@@ -3,33 +3,30 @@
 use mathlib.Core.Path.{◌≡◌, refl, sym, ap, ap₂, ◌∙◌, subst}
 use mathlib.Core.Bool.{Bool, true, false, not, cond, ◌&&◌}
 use mathlib.Core.List.{List, [], ◌∷◌, ◌++◌, append-nil, map, map-append}
-use mathlib.Core.Option.{Option, none, some}
-use Prim.Native.Nat.{ℕ, zero, suc, ◌+◌, ◌-◌, ◌*◌, ◌≤◌, ◌<◌}
-use native.Mathlib.Nat.{add-zero}
+use Rattle.std.specs.Prelude.{Option, None, Some}
+use Prim.Native.Nat.{ℕ, zero, suc, ◌+◌, ◌-◌, ◌≤◌, ◌<◌}
 use native.Mathlib.Numerals.{add-one}
 use native.Mathlib.Omega.{arith}
-use lib.Dec.{eqb, ltb}
-use lib.ListN.{length, length-append, length-map, get_or, set, take, drop, replicate, length-replicate, replicate-append-replicate}
-use lib.Seq.{take-suc, take_all, take-append-le, take-set-le, take-suc-set, length-take-le, drop_at, drop-drop, drop-set-lt, get_or-drop}
+use lib.Dec.{eqb}
+use lib.ListN.{length, length-append, length-map, length-take, length-drop, get_or, set, take, drop, replicate, replicate-append-replicate}
+use lib.Seq.{take-suc, take_all, take-append-le, take-suc-set, length-take-le, drop_at, drop-drop, drop-set-lt, get_or-drop, get_or-take}
 use borrow.Author.Tests.{not-true, not-false, eqb-true, eqb-false, lt-ltb, le-ltb}
-use Rattle.lists.specs.Parts.{put}
 use Rattle.lists.specs.Rows.{Row, Rows, Rising, rank, put_row}
-use Rattle.lists.specs.Tests.{one_if, both, is_some}
-use Rattle.lists.proofs.Cases.{by_cases}
+use Rattle.lists.specs.Tests.{both, is_some}
+use Rattle.std.proofs.Common.{position, unwrap_or}
+use Rattle.lists.proofs.PositionLaws.{position-first}
+use Rattle.lists.proofs.Cases.{by_cases, option_cases, none-some, some_injective}
 use Rattle.lists.proofs.MapLaws.{map-take}
-use Rattle.lists.proofs.PartsLaws.{put_def, put_fill}
-use Rattle.lists.proofs.TestsLaws.{and_both, both_left, both_right}
+use Rattle.lists.proofs.TestsLaws.{first_at-some, first_at-none, and_both, both_left, both_right}
 use Rattle.lists.proofs.SearchLaws.{rank-Between, Rising_order}
 use Rattle.rules.specs.Store.{Line as StoreLine}
 use Rattle.desk.specs.declared.Line.{Line}
-use Rattle.desk.specs.Held.{Memo}
-use Rattle.desk.specs.Layout.{line_slots, line_fields, slotted, no_line, line_of, memo_of}
-use Rattle.desk.specs.Views.{lines_in}
-use Rattle.desk.proofs.LinesLaws.{length-lines_in, lines_laid, words_laid}
+use Rattle.desk.specs.Held.{Memo, memo_in}
+use Rattle.desk.specs.Layout.{line_slots, slotted, no_line, line_of, memo_of}
 use Rattle.memo.specs.Memo.{row_of, no_row, lines_of, Plain, Whole}
-use Rattle.memo.proofs.MemoLaws.{row_line, Plain-recounted, count_memo, Whole_size}
-use Rattle.waiting.proofs.SlotsLaws.{Slots, Slots_get}
-use Rattle.memo_sweep.specs.Lowering.{lower_if, line_if, lower_where, mark_of, Unmarked, MovedUp}
+use Rattle.memo.proofs.MemoLaws.{row_line, Plain-recounted, in_slots, slots_are, Whole_size}
+use Rattle.desk.proofs.SlotsLaws.{Slots, Slots_get}
+use Rattle.memo_sweep.specs.Lowering.{lower_if, line_left, lower_where, mark_of, Unmarked, MovedUp}
 
 -- ---- lists
 
@@ -44,13 +41,13 @@ rank_at l i d a h =
       above = λ j k g. by_cases (eqb j i) (λ e. rw (eqb-true j i e) (omega arith)) (λ e. let o = Rising_order 0 l i j d a (omega (arith, eqb-false j i e)) g in omega arith);
     }) (omega arith)
 
-pub is_some_kept : {A : Type 0} (b : Bool) (x : A) → is_some (cond b (some x) none) ≡ b
+pub is_some_kept : {A : Type 0} (b : Bool) (x : A) → is_some (cond b (Some x) None) ≡ b
 is_some_kept true x = refl
 is_some_kept false x = refl
 
 append-put_row : {Val : Type 0} (k : ℕ) (o : Option Val) (l m : Rows Val) → put_row k o (l ++ m) ≡ put_row k o l ++ m
-append-put_row k none l m = refl
-append-put_row k (some v) l m = refl
+append-put_row k None l m = refl
+append-put_row k (Some v) l m = refl
 
 module _ (mark : Row StoreLine → Bool) where
   lower_append : (l m : Rows StoreLine) → lower_where mark (l ++ m) ≡ lower_where mark l ++ lower_where mark m
@@ -65,42 +62,36 @@ module _ (mark : Row StoreLine → Bool) where
 -- ---- one line
 
 module _ (x : Line) (mark : Bool) where
-  pub line_kept : Plain x → not mark ≡ true → x ≡ line_if x.radio (lower_if mark (row_of x).val)
-  line_kept p t = rw (not-true mark t) p
+  pub line_kept : Plain x → not mark ≡ true → Some x ≡ line_left x.radio (lower_if mark (row_of x).val)
+  line_kept p t = rw (not-true mark t) (ap Some p)
 
   module _ (on : not mark ≡ false) where
-    pub line_dropped : {y : Line} → x.missed ≤ 1 → y ≡ no_line → y ≡ line_if x.radio (lower_if mark (row_of x).val)
-    line_dropped h e = rw (not-false mark on, le-ltb 1 x.missed h) e
+    pub line_dropped : x.missed ≤ 1 → None ≡ line_left x.radio (lower_if mark (row_of x).val)
+    line_dropped h = rw (not-false mark on, le-ltb 1 x.missed h)
 
-    pub line_lowered : Plain x → 1 < x.missed → record { radio = x.radio; missed = x.missed - 1; placed = x.placed; east = x.east; north = x.north } ≡ line_if x.radio (lower_if mark (row_of x).val)
-    line_lowered p h = rw (not-false mark on, lt-ltb 1 x.missed h) (Plain-recounted x (x.missed - 1) p)
-
-  pub stays_kept : not mark ≡ true → true ≡ is_some (lower_if mark (row_of x).val)
-  stays_kept t = rw (not-true mark t)
-
-  pub stays_lowered : not mark ≡ false → ltb 1 x.missed ≡ is_some (lower_if mark (row_of x).val)
-  stays_lowered t = rw (not-false mark t) (sym (is_some_kept (ltb 1 x.missed) _))
+    pub line_lowered : Plain x → 1 < x.missed → Some (record x { missed = x.missed - 1 }) ≡ line_left x.radio (lower_if mark (row_of x).val)
+    line_lowered p h = rw (not-false mark on, lt-ltb 1 x.missed h) (ap Some (Plain-recounted x (x.missed - 1) p))
 
 -- ---- a whole memo
 
 module _ (m : Memo) (whole : Whole m) where
-  pub in_Slots : Slots line_slots no_line line_of (lines_of m) m.n (lines_in m.words)
-  in_Slots = record { count = ap (λ (x : Memo). x.n) whole ∙ count_memo (lines_of m); list = ap (λ (x : Memo). lines_in x.words) whole ∙ lines_laid (lines_of m) }
+  pub in_Slots : Slots line_slots no_line line_of (lines_of m) m.n m.lines
+  in_Slots = in_slots whole
 
-  module _ {i : ℕ} {x : Line} (read : x ≡ get_or (lines_in m.words) i no_line) (more : i < m.n) where
+  module _ {i : ℕ} {x : Line} (read : x ≡ get_or m.lines i no_line) (more : i < m.n) where
     pub row_at : row_of x ≡ get_or (lines_of m) i no_row
     row_at = ap row_of (read ∙ Slots_get in_Slots i no_row more) ∙ row_line (get_or (lines_of m) i no_row)
 
     line_Plain : Plain x
     line_Plain = read ∙ Slots_get in_Slots i no_row more ∙ ap line_of (sym row_at)
 
-  first_Slots : (i : ℕ) → i ≤ m.n → take i (lines_in m.words) ≡ map line_of (take i (lines_of m))
+  first_Slots : (i : ℕ) → i ≤ m.n → take i m.lines ≡ map line_of (take i (lines_of m))
   unfolding slotted
   first_Slots i h =
       ap (take i) in_Slots.list ∙ take-append-le i (map line_of (lines_of m)) _ (omega (arith, in_Slots.count, length-map (lines_of m) line_of))
       ∙ sym (map-take line_of i (lines_of m))
 
-  last_Slots : drop m.n (lines_in m.words) ≡ replicate (line_slots - m.n) no_line
+  last_Slots : drop m.n m.lines ≡ replicate (line_slots - m.n) no_line
   unfolding slotted
   last_Slots =
       let e : length (map line_of (lines_of m)) ≡ m.n = length-map (lines_of m) line_of ∙ sym in_Slots.count in
@@ -108,95 +99,100 @@ module _ (m : Memo) (whole : Whole m) where
 
 -- ---- the lines that stay move up
 
-module _ {rows : Rows StoreLine} {i k : ℕ} {old words : List ℕ} (c : MovedUp rows i k old words) where
-  rest_read : get_or (lines_in words) i no_line ≡ get_or (lines_in old) i no_line
+module _ {rows : Rows StoreLine} {i k : ℕ} {old words : List Line} (c : MovedUp rows i k old words) where
+  rest_read : get_or words i no_line ≡ get_or old i no_line
   rest_read =
       let e : i + 0 ≡ i = omega arith in
-      ap (λ (j : ℕ). get_or (lines_in words) j no_line) (sym e) ∙ sym (get_or-drop i (lines_in words) 0 no_line)
+      ap (λ (j : ℕ). get_or words j no_line) (sym e) ∙ sym (get_or-drop i words 0 no_line)
       ∙ ap (λ (l : List Line). get_or l 0 no_line) c.rest
-      ∙ get_or-drop i (lines_in old) 0 no_line ∙ ap (λ (j : ℕ). get_or (lines_in old) j no_line) e
+      ∙ get_or-drop i old 0 no_line ∙ ap (λ (j : ℕ). get_or old j no_line) e
 
-  module _ (after : List ℕ) (low : k ≤ i) (inside : i < line_slots) (size : length after ≡ line_fields * line_slots) where
-    rest_then : (y : Line) → lines_in after ≡ set (lines_in words) k y → drop (i + 1) (lines_in after) ≡ drop (i + 1) (lines_in old)
-    rest_then y e =
-        ap (drop (i + 1)) e ∙ drop-set-lt (i + 1) (lines_in words) k y (omega arith)
-        ∙ sym (drop-drop 1 i (lines_in words)) ∙ ap (drop 1) c.rest ∙ drop-drop 1 i (lines_in old)
+  module _ (low : k ≤ i) (inside : i < line_slots) (size : length old ≡ line_slots) where
+    all : length words ≡ line_slots
+    all = omega (arith, size, ap length c.rest, length-drop i words, length-drop i old)
 
-    -- one line more: it stays, or what comes next is written over it
-    up_put : (r : ℕ) (o : Option StoreLine) → lines_in after ≡ set (lines_in words) k (line_if r o) → MovedUp (rows ++ put_row r o []) (i + 1) (k + one_if (is_some o)) old after
-    up_put r none e = rw (append-nil, add-zero) (record {
-      count = c.count;
-      front = ap (take k) e ∙ take-set-le k (lines_in words) k no_line (omega arith) ∙ c.front;
-      rest = rest_then no_line e;
-      size = size;
-    })
-    up_put r (some v) e =
-        let x : Row StoreLine = record { key = r; val = v } in
-        let all = length-lines_in line_slots words c.size in
-        let front : take (k + 1) (set (lines_in words) k (line_of x)) ≡ take k (lines_in words) ++ (line_of x ∷ []) = rw add-one (take-suc-set (lines_in words) k (line_of x) (omega arith)) in
+    rest_kept : drop (i + 1) words ≡ drop (i + 1) old
+    rest_kept = sym (drop-drop 1 i words) ∙ ap (drop 1) c.rest ∙ drop-drop 1 i old
+
+    -- the line at i goes
+    up_none : MovedUp (rows ++ []) (i + 1) k old words
+    up_none = rw append-nil (record { count = c.count; front = c.front; rest = rest_kept })
+
+    -- it stays, and is written after those that stay
+    up_some : (x : Row StoreLine) → MovedUp (rows ++ (x ∷ [])) (i + 1) (k + 1) old (set words k (line_of x))
+    up_some x =
+        let front : take (k + 1) (set words k (line_of x)) ≡ take k words ++ (line_of x ∷ []) = rw add-one (take-suc-set words k (line_of x) (omega (arith, all))) in
         record {
           count = omega (arith, c.count, length-append rows (x ∷ []));
-          front = ap (take (k + 1)) e ∙ front ∙ ap (λ (l : List Line). l ++ (line_of x ∷ [])) c.front ∙ sym (map-append line_of rows (x ∷ []));
-          rest = rest_then (line_of x) e;
-          size = size;
+          front = front ∙ ap (λ (l : List Line). l ++ (line_of x ∷ [])) c.front ∙ sym (map-append line_of rows (x ∷ []));
+          rest = drop-set-lt (i + 1) words k (line_of x) (omega arith) ∙ rest_kept;
         }
 
-module _ (m : Memo) (whole : Whole m) (marks : List Bool) {i k : ℕ} {words : List ℕ} (c : MovedUp (lower_where (mark_of marks (lines_of m)) (take i (lines_of m))) i k m.words words) where
-  module _ {x : Line} (read : x ≡ get_or (lines_in words) i no_line) (more : i < m.n) where
-    pub up_Plain : Plain x
-    up_Plain = line_Plain m whole (read ∙ rest_read c) more
+module _ (m : Memo) (whole : Whole m) (marks : List Bool) {i k : ℕ} {words : List Line} (c : MovedUp (lower_where (mark_of marks (lines_of m)) (take i (lines_of m))) i k m.lines words) where
+  module _ (more : i < m.n) where
+    pub up_Plain : Plain (get_or words i no_line)
+    up_Plain = line_Plain m whole (rest_read c) more
 
-    pub up_turn : {y : Line} {s : Bool} {d : ℕ} {after : List ℕ} → Rising 0 (lines_of m) → m.n ≤ line_slots → k ≤ i
-        → y ≡ line_if x.radio (lower_if (get_or marks i false) (row_of x).val) → s ≡ is_some (lower_if (get_or marks i false) (row_of x).val) → d ≡ one_if s
-        → lines_in after ≡ set (lines_in words) k y → length after ≡ line_fields * line_slots
-        → MovedUp (lower_where (mark_of marks (lines_of m)) (take (i + 1) (lines_of m))) (i + 1) (k + d) m.words after
-    up_turn {y} {s} {d} {after} a f g u v w put size =
-        let l : Rows StoreLine = lines_of m in
-        let p : Row StoreLine → Bool = mark_of marks l in
-        let z : Row StoreLine = get_or l i no_row in
-        let o : Option StoreLine = lower_if (p z) z.val in
-        let n : i < length l = omega (arith, (in_Slots m whole).count) in
-        let row : row_of x ≡ z = row_at m whole (read ∙ rest_read c) more in
-        let e : lower_if (get_or marks i false) (row_of x).val ≡ o =
-        ap₂ (λ (j : ℕ) (t : Row StoreLine). lower_if (get_or marks j false) t.val) (sym (rank_at l i no_row a n)) row in
-        let q : lower_where p (take (i + 1) l) ≡ lower_where p (take i l) ++ put_row z.key o [] =
-        rw (add-one i, take-suc l i no_row n) (lower_append p (take i l) (z ∷ []) ∙ rw (lower_one p z)) in
-        let y' : y ≡ line_if z.key o = u ∙ ap₂ line_if (ap (λ (t : Row StoreLine). t.key) row) e in
-        let d' : d ≡ one_if (is_some o) = w ∙ ap one_if (v ∙ ap is_some e) in
-        rw (q, d') (up_put c after g (omega arith) size z.key o (put ∙ ap (set (lines_in words) k) y'))
+    module _ {o : Option Line} (rising : Rising 0 (lines_of m)) (few : m.n ≤ line_slots) (low : k ≤ i)
+        (told : o ≡ line_left (get_or words i no_line).radio (lower_if (get_or marks i false) (row_of (get_or words i no_line)).val)) where
+      abbrev here : Row StoreLine
+      here = get_or (lines_of m) i no_row
 
-  pub up_end : i ≤ m.n → m.n ≤ i → MovedUp (lower_where (mark_of marks (lines_of m)) (lines_of m)) m.n k m.words words
+      abbrev left : Option StoreLine
+      left = lower_if (mark_of marks (lines_of m) here) here.val
+
+      row : row_of (get_or words i no_line) ≡ here
+      row = row_at m whole (rest_read c) more
+
+      inside : i < length (lines_of m)
+      inside = omega (arith, (in_Slots m whole).count)
+
+      left_is : o ≡ line_left here.key left
+      left_is =
+          told ∙ ap₂ line_left (ap (λ (t : Row StoreLine). t.key) row)
+          (ap₂ (λ (j : ℕ) (t : Row StoreLine). lower_if (get_or marks j false) t.val) (sym (rank_at (lines_of m) i no_row rising inside)) row)
+
+      more_rows : lower_where (mark_of marks (lines_of m)) (take (i + 1) (lines_of m)) ≡ lower_where (mark_of marks (lines_of m)) (take i (lines_of m)) ++ put_row here.key left []
+      more_rows =
+          let p : Row StoreLine → Bool = mark_of marks (lines_of m) in
+          rw (add-one i, take-suc (lines_of m) i no_row inside) (lower_append p (take i (lines_of m)) (here ∷ []) ∙ rw (lower_one p here))
+
+      pub up_goes : o ≡ None → MovedUp (lower_where (mark_of marks (lines_of m)) (take (i + 1) (lines_of m))) (i + 1) k m.lines words
+      up_goes e = option_cases left
+          (λ f. rw (more_rows, f) (up_none c low (omega arith) (Whole_size whole few)))
+          (λ v f. none-some (sym e ∙ left_is ∙ ap (line_left here.key) f))
+
+      pub up_stays : {y : Line} → o ≡ Some y → MovedUp (lower_where (mark_of marks (lines_of m)) (take (i + 1) (lines_of m))) (i + 1) (k + 1) m.lines (set words k y)
+      up_stays {y} e = option_cases left
+          (λ f. none-some (sym (sym e ∙ left_is ∙ ap (line_left here.key) f)))
+          (λ v f.
+          let x : Row StoreLine = record { key = here.key; val = v } in
+          let q : y ≡ line_of x = some_injective (sym e ∙ left_is ∙ ap (line_left here.key) f) in
+          rw (more_rows, f, q) (up_some c low (omega arith) (Whole_size whole few) x))
+
+  pub up_end : i ≤ m.n → m.n ≤ i → MovedUp (lower_where (mark_of marks (lines_of m)) (lines_of m)) m.n k m.lines words
   up_end g h =
       let e : i ≡ m.n = omega arith in
       let t = take_all i (lines_of m) (omega (arith, (in_Slots m whole).count)) in
-      subst (λ (j : ℕ). MovedUp (lower_where (mark_of marks (lines_of m)) (lines_of m)) j k m.words words) e
-      (subst (λ (l : Rows StoreLine). MovedUp (lower_where (mark_of marks (lines_of m)) l) i k m.words words) t c)
+      subst (λ (j : ℕ). MovedUp (lower_where (mark_of marks (lines_of m)) (lines_of m)) j k m.lines words) e
+      (subst (λ (l : Rows StoreLine). MovedUp (lower_where (mark_of marks (lines_of m)) l) i k m.lines words) t c)
 
 -- ---- the slots that they leave
 
-module _ (old : List ℕ) (k : ℕ) {n i : ℕ} {ys : List Line} (done : ys ≡ put (lines_in old) k (replicate (i - k) no_line)) where
-  pub clear_turn : {x : Line} {zs : List Line} → k ≤ i → i < n → n ≤ line_slots → length old ≡ line_fields * line_slots → x ≡ no_line → zs ≡ set ys i x → zs ≡ put (lines_in old) k (replicate (i + 1 - k) no_line)
-  clear_turn h g few size z f = f ∙ ap (set ys i) z ∙ put_fill (lines_in old) k i no_line h (omega (arith, length-lines_in line_slots old size)) done
-
-  pub clear_end : i ≤ n → n ≤ i → ys ≡ put (lines_in old) k (replicate (n - k) no_line)
-  clear_end g h = let e : i ≡ n = omega arith in done ∙ ap (λ (j : ℕ). put (lines_in old) k (replicate (j - k) no_line)) e
-
-module _ (m : Memo) (whole : Whole m) {rows : Rows StoreLine} {k : ℕ} {up : List ℕ} (c : MovedUp rows m.n k m.words up) (low : k ≤ m.n) (few : m.n ≤ line_slots) where
-  Slots_left : (after : List ℕ) → lines_in after ≡ put (lines_in up) k (replicate (m.n - k) no_line) → lines_in after ≡ slotted line_slots no_line (map line_of rows)
+module _ (m : Memo) (whole : Whole m) {rows : Rows StoreLine} {k : ℕ} {up : List Line} (c : MovedUp rows m.n k m.lines up) (low : k ≤ m.n) (few : m.n ≤ line_slots) where
+  pub lower_end : length up ≡ line_slots → {ys : List Line} → ys ≡ replicate (length (take (m.n - k) (drop k up))) no_line → memo_in k (take k up ++ (ys ++ drop (m.n - k) (drop k up))) ≡ memo_of rows
   unfolding slotted
-  Slots_left after e =
-      let z : List Line = replicate (m.n - k) no_line in
-      let n : k + length z ≡ m.n = omega (arith, length-replicate (m.n - k) no_line) in
+  lower_end size {ys} e =
+      let mid : length (take (m.n - k) (drop k up)) ≡ m.n - k = simp (length-take, length-drop) (omega arith) in
+      let n : k + (m.n - k) ≡ m.n = omega arith in
       let r : m.n - k + (line_slots - m.n) ≡ line_slots - length (map line_of rows) = omega (arith, length-map rows line_of, c.count) in
-      e ∙ put_def (lines_in up) k z
-      ∙ ap₂ (λ (a b : List Line). a ++ (z ++ b)) c.front (ap (λ (j : ℕ). drop j (lines_in up)) n ∙ c.rest ∙ last_Slots m whole)
-      ∙ ap (λ (l : List Line). map line_of rows ++ l) (replicate-append-replicate (m.n - k) (line_slots - m.n) no_line ∙ ap (λ (j : ℕ). replicate j no_line) r)
-
-  pub lower_end : {after : List ℕ} → (lines_in after ≡ put (lines_in up) k (replicate (m.n - k) no_line)) × (length after ≡ line_fields * line_slots) → record { n = k; words = after } ≡ memo_of rows
-  lower_end {after} e =
-      let n : k ≡ (memo_of rows).n = c.count ∙ sym (count_memo rows) in
-      let ws : after ≡ (memo_of rows).words = words_laid after rows e.1 (Slots_left after e.0) in
-      λ t. record { n = n t; words = ws t }
+      slots_are (record {
+        count = c.count;
+        list =
+            rw (e, mid)
+            (ap₂ (λ (a b : List Line). a ++ (replicate (m.n - k) no_line ++ b)) c.front (drop-drop (m.n - k) k up ∙ ap (λ (j : ℕ). drop j up) n ∙ c.rest ∙ last_Slots m whole)
+            ∙ ap (λ (l : List Line). map line_of rows ++ l) (replicate-append-replicate (m.n - k) (line_slots - m.n) no_line ∙ ap (λ (j : ℕ). replicate j no_line) r));
+      })
 
 -- ---- no mark
 
@@ -224,10 +220,10 @@ module _ {marks : List Bool} {i : ℕ} {so : Bool} (s : Seen marks i so) where
     all = λ u. rw (s.all (λ k h. u k (omega (arith, h))), u i (omega arith));
   }
 
-  pub Seen_end : {n : ℕ} → i ≤ n → n ≤ i → (so ≡ true → Unmarked marks n) × (Unmarked marks n → so ≡ true)
-  Seen_end g h = (λ e k b. s.only e k (omega (arith, h, b)), λ u. s.all (λ k b. u k (omega (arith, g, b))))
+  pub Seen_end : {n : ℕ} → i ≡ n → (so ≡ true → Unmarked marks n) × (Unmarked marks n → so ≡ true)
+  Seen_end e = rw (← e) (s.only, s.all)
 
-module _ (marks : List Bool) (l : Rows StoreLine) (lines : Rising 0 l) (k : ℕ) (none : Unmarked marks k) (inside : k ≤ length l) where
+module _ (marks : List Bool) (l : Rows StoreLine) (lines : Rising 0 l) (k : ℕ) (None : Unmarked marks k) (inside : k ≤ length l) where
   keep_each : (i : ℕ) → i ≤ k → lower_where (mark_of marks l) (take i l) ≡ take i l
   unfolding lower_where
   keep_each zero h = refl
@@ -235,12 +231,12 @@ module _ (marks : List Bool) (l : Rows StoreLine) (lines : Rising 0 l) (k : ℕ)
       let z : Row StoreLine = get_or l i no_row in
       let p : Row StoreLine → Bool = mark_of marks l in
       let b : i < length l = omega arith in
-      let f : p z ≡ false = ap (λ (j : ℕ). get_or marks j false) (rank_at l i no_row lines b) ∙ none i h in
+      let f : p z ≡ false = ap (λ (j : ℕ). get_or marks j false) (rank_at l i no_row lines b) ∙ None i h in
       rw (take-suc l i no_row b) (lower_append p (take i l) (z ∷ []) ∙ ap₂ (λ (a b : Rows StoreLine). a ++ b) (keep_each i (omega arith)) (lower_one p z ∙ ap (λ (b : Bool). put_row z.key (lower_if b z.val) []) f))
 
 module _ (m : Memo) (marks : List Bool) (whole : Whole m) (lines : Rising 0 (lines_of m)) where
   -- where the first marked line is
-  pub up_start : (i : ℕ) → m.n ≤ line_slots → i ≤ m.n → Unmarked marks i → MovedUp (lower_where (mark_of marks (lines_of m)) (take i (lines_of m))) i i m.words m.words
+  pub up_start : (i : ℕ) → m.n ≤ line_slots → i ≤ m.n → Unmarked marks i → MovedUp (lower_where (mark_of marks (lines_of m)) (take i (lines_of m))) i i m.lines m.lines
   up_start i few h u =
       let n = (in_Slots m whole).count in
       let k = keep_each marks (lines_of m) lines i u (omega arith) i (omega arith) in
@@ -248,11 +244,36 @@ module _ (m : Memo) (marks : List Bool) (whole : Whole m) (lines : Rising 0 (lin
         count = sym (ap length k ∙ length-take-le i (lines_of m) (omega arith));
         front = first_Slots m whole i h ∙ ap (map line_of) (sym k);
         rest = refl;
-        size = Whole_size whole few;
       }
 
-  pub lower_none : {b : Bool} → (b ≡ true → Unmarked marks m.n) × (Unmarked marks m.n → b ≡ true) → b ≡ true → m ≡ memo_of (lower_where (mark_of marks (lines_of m)) (lines_of m))
-  lower_none says so =
+  pub lower_none : Unmarked marks m.n → m ≡ memo_of (lower_where (mark_of marks (lines_of m)) (lines_of m))
+  lower_none so =
       let n : length (lines_of m) ≡ m.n = sym (in_Slots m whole).count in
       let t = take_all m.n (lines_of m) (omega arith) in
-      whole ∙ ap memo_of (sym (ap (lower_where (mark_of marks (lines_of m))) (sym t) ∙ keep_each marks (lines_of m) lines m.n (says.0 so) (omega arith) m.n (omega arith) ∙ t))
+      whole ∙ ap memo_of (sym (ap (lower_where (mark_of marks (lines_of m))) (sym t) ∙ keep_each marks (lines_of m) lines m.n so (omega arith) m.n (omega arith) ∙ t))
+
+-- ---- the marks of the lines in use
+
+module _ (marks : List Bool) (n : ℕ) (long : n ≤ length marks) where
+  length_used : length (take n marks) ≡ n
+  length_used = length-take-le n marks long
+
+  pub used_unmarked : (k : ℕ) → k ≤ n → Unmarked (take n marks) k → Unmarked marks k
+  used_unmarked k h u i b = sym (get_or-take n marks i false (omega arith)) ∙ u i b
+
+  pub none_used : Unmarked (take n marks) (length (take n marks)) → Unmarked marks n
+  none_used u = used_unmarked n (omega arith) (rw length_used at u)
+
+  pub first_inside : {k : ℕ} → k ≤ length (take n marks) → k ≤ n
+  first_inside h = rw length_used at h
+
+-- the place of the first mark, or else the end
+pub first_mark : (marks : List Bool) {at : ℕ} → at ≡ unwrap_or (position (λ b. b) marks) (length marks) → (at ≤ length marks) × Unmarked marks at
+first_mark marks {at} e = option_cases (position (λ b. b) marks)
+    (λ f.
+    let z : at ≡ length marks = e ∙ ap (λ (o : Option ℕ). unwrap_or o (length marks)) f in
+    (omega arith, λ k h. first_at-none (λ b. b) marks k false (sym (position-first (λ b. b) marks) ∙ f) (omega arith)))
+    (λ i f.
+    let z : at ≡ i = e ∙ ap (λ (o : Option ℕ). unwrap_or o (length marks)) f in
+    let s = first_at-some (λ b. b) marks i false (sym (position-first (λ b. b) marks) ∙ f) in
+    (omega (arith, s.0), λ k h. s.2 k (omega arith)))

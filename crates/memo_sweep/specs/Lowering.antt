@@ -1,21 +1,19 @@
 -- Lines lowered (01, "How a record is carried out"): what is left of a memo whose marked lines have one miss less, those at 0 being dropped.
-use Rattle.std.specs.Prelude.{Bool, false, cond, List, [], ◌∷◌, map, ◌≡◌, ℕ, ◌*◌, ◌<◌, length, get_or, take, drop}
-use Rattle.std.proofs.Math.Option.{Option, none, some}
+use Rattle.std.specs.Prelude.{Bool, false, cond, List, [], ◌∷◌, map, ◌≡◌, ℕ, ◌<◌, length, get_or, take, drop, Option, None, Some}
 use Rattle.lists.specs.Rows.{Row, Rows, rank, put_row}
 use Rattle.rules.specs.Store.{Line}
 use Rattle.rules.specs.Sweep.{lowered}
-use Rattle.desk.specs.declared.Line.{Line as Slot}
-use Rattle.desk.specs.Layout.{line_slots, line_fields, line_with, line_of, no_line}
-use Rattle.desk.specs.Views.{lines_in}
+use Rattle.desk.specs.Layout.{line_with, line_of}
+use Rattle.desk.specs.declared.Line.{Line as DeskLine}
 
 -- "lower the missed count by 1; drop the line at 0", if it is marked
 abbrev pub lower_if : Bool → Line → Option Line
-lower_if mark l = cond mark (lowered (some l)) (some l)
+lower_if mark l = cond mark (lowered (Some l)) (Some l)
 
--- what is left of a line in its slot
-abbrev pub line_if : ℕ → Option Line → Slot
-line_if r none = no_line
-line_if r (some l) = line_with r l.missed l.last
+-- what is left of a line of that radio, if it stays
+abbrev pub line_left : ℕ → Option Line → Option DeskLine
+line_left r None = None
+line_left r (Some l) = Some (line_with r l.missed l.last)
 
 -- every line that stays
 unfoldable pub lower_where : (Row Line → Bool) → Rows Line → Rows Line
@@ -31,8 +29,7 @@ abbrev pub Unmarked : List Bool → ℕ → Type 0
 Unmarked marks n = (k : ℕ) → k < n → get_or marks k false ≡ false
 
 -- these rows, k in all, are in the first slots, and those from i on are as they were
-pub record MovedUp (rows : Rows Line) (i k : ℕ) (old new : List ℕ) : Type 0 where
+pub record MovedUp (rows : Rows Line) (i k : ℕ) (old new : List DeskLine) : Type 0 where
   pub count : k ≡ length rows
-  pub front : take k (lines_in new) ≡ map line_of rows
-  pub rest : drop i (lines_in new) ≡ drop i (lines_in old)
-  pub size : length new ≡ line_fields * line_slots
+  pub front : take k new ≡ map line_of rows
+  pub rest : drop i new ≡ drop i old

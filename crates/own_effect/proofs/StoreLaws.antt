@@ -1,7 +1,7 @@
 -- The desk of a well-formed store: what each record's own effect asks of its parts holds, and what it gives are the parts of the store after it.
 use mathlib.Core.Bool.{true, cond}
 use mathlib.Core.List.{List}
-use mathlib.Core.Option.{none, some}
+use Rattle.std.specs.Prelude.{None, Some}
 use mathlib.Core.Path.{◌≡◌, sym, ap, ◌∙◌, subst}
 use Prim.Native.Nat.{ℕ, ◌≤◌, ◌<◌}
 use native.Mathlib.Omega.{arith}
@@ -14,8 +14,7 @@ use Rattle.rules.specs.Carry.{on_count, was_new, signed_on, reported, signed_off
 use Rattle.rules.specs.WellFormed.{WellFormed}
 use Rattle.rules.proofs.WellLaws.{well_Core}
 use Rattle.rules.proofs.BooksLaws.{missed_few}
-use Rattle.desk.specs.Held.{Memo, On, Waiting, ledger_grid, ledger_waiting, ledger_memo, ledger_on}
-use Rattle.desk.specs.Held.{Ledger}
+use Rattle.desk.specs.Held.{Memo, On, Waiting, ledger_grid, ledger_waiting, ledger_memo, ledger_on, Ledger}
 use Rattle.desk.specs.Layout.{grid_of, waiting_of, memo_of, on_of, ledger_holding, ledger_of, store_leaves, Laid}
 use Rattle.desk.specs.Views.{radios_of}
 use Rattle.memo.specs.Memo.{lines_of, RoomyMemo, MissFits}
@@ -102,21 +101,21 @@ module _ (s : Store) (d : Ledger) (held : d ≡ ledger_of s) where
           (λ i. with_parts (said.0 i) (memo_held i) (said.1 i) f.minute)
           ∙ rw (reports_laid waiting_held, radios_laid on_held) (given (insert r (record { fix = f; new = true }) s.waiting) s.memo (insert r tt s.on) f.minute)
 
-      pub report_gives : {waiting : Waiting} → waiting ≡ waiting_of (alter (λ x. some (record { fix = f; new = was_new x })) r (reports_of (ledger_waiting d)))
+      pub report_gives : {waiting : Waiting} → waiting ≡ waiting_of (alter (λ x. Some (record { fix = f; new = was_new x })) r (reports_of (ledger_waiting d)))
           → ledger_holding (ledger_grid d) waiting (ledger_memo d) (ledger_on d) d.parts.tally f.minute ≡ ledger_of (reported r f (with_highest f.minute s))
       unfolding reported
       report_gives said =
           (λ i. with_parts (said i) (memo_held i) (on_held i) f.minute)
-          ∙ rw (reports_laid waiting_held) (given (alter (λ x. some (record { fix = f; new = was_new x })) r s.waiting) s.memo s.on f.minute)
+          ∙ rw (reports_laid waiting_held) (given (alter (λ x. Some (record { fix = f; new = was_new x })) r s.waiting) s.memo s.on f.minute)
 
     pub off_gives : (minute : ℕ) {waiting : Waiting} {memo : Memo} {on : On}
-        → (waiting ≡ waiting_of (alter (λ _. none) r (reports_of (ledger_waiting d)))) × (memo ≡ memo_of (cond (was_new (find (reports_of (ledger_waiting d)) r)) (lines_of (ledger_memo d)) (alter (raised none) r (lines_of (ledger_memo d))))) × (on ≡ on_of (alter (λ _. none) r (radios_of (ledger_on d))))
+        → (waiting ≡ waiting_of (alter (λ _. None) r (reports_of (ledger_waiting d)))) × (memo ≡ memo_of (cond (was_new (find (reports_of (ledger_waiting d)) r)) (lines_of (ledger_memo d)) (alter (raised None) r (lines_of (ledger_memo d))))) × (on ≡ on_of (alter (λ _. None) r (radios_of (ledger_on d))))
         → ledger_holding (ledger_grid d) waiting memo on d.parts.tally minute ≡ ledger_of (signed_off r (with_highest minute s))
     unfolding signed_off
     off_gives minute said =
         (λ i. with_parts (said.0 i) (said.1 i) (said.2 i) minute)
         ∙ rw (reports_laid waiting_held, radios_laid on_held, lines_are s.memo memo_held)
-        (given (alter (λ _. none) r s.waiting) (cond (was_new (find s.waiting r)) s.memo (alter (raised none) r s.memo)) (alter (λ _. none) r s.on) minute)
+        (given (alter (λ _. None) r s.waiting) (cond (was_new (find s.waiting r)) s.memo (alter (raised None) r s.memo)) (alter (λ _. None) r s.on) minute)
 
 -- ---- the pages, which no record's own effect changes
 

@@ -1,14 +1,12 @@
-// A record's own effect on what the desk holds, before any flush: what waits, who is on, and the memo, whose arrays are lent. Their counts go by value, and the
-// new ones are answered.
+// A record's own effect on what a lent desk holds, before any flush: what waits, who is on, and the memo.
 #![tactic(auto)]
 
-ghost use Rattle.std.specs.Prelude.{true, cond, ◌≡◌};
-ghost use Rattle.std.proofs.Math.Option.{none, some};
-ghost use Rattle.terms.specs.Terms.{fix_at};
+ghost use Rattle.std.specs.Prelude.{true, cond, ◌≡◌, None, Some};
+ghost use Rattle.terms.specs.Values.{fix_of};
 ghost use Rattle.lists.specs.Rows.{find, alter, insert};
 ghost use Rattle.rules.specs.Flush.{raised};
 ghost use Rattle.rules.specs.Carry.{was_new};
-ghost use Rattle.desk.specs.Held.{memo_in, on_with, waiting_with};
+ghost use Rattle.desk.specs.Held.{desk_ledger, ledger_waiting, ledger_memo, ledger_on};
 ghost use Rattle.desk.specs.Layout.{waiting_of, memo_of, on_of};
 ghost use Rattle.desk.specs.Views.{radios_of};
 ghost use Rattle.memo.specs.Memo.{lines_of, RoomyMemo, MissFits};
@@ -16,120 +14,90 @@ ghost use Rattle.waiting.specs.Waiting.{reports_of, GoodWaiting, RoomyWaiting};
 ghost use Rattle.waiting.specs.On.{GoodOn, RoomyOn};
 
 use desk::Desk;
-use waiting::Waited;
-
-// How many reports wait after a sign-on, and how many radios are on.
-#[derive(Drop)]
-pub struct SignedOn {
-    pub waiting: u16,
-    pub on: u16,
-}
-
-// How many reports wait after a sign-off, how many memo lines there are, and how many radios are on.
-#[derive(Drop)]
-pub struct SignedOff {
-    pub waiting: u16,
-    pub lines: u16,
-    pub on: u16,
-}
+use terms::Fix;
 
 // "Sign-on puts a report marked new among the waiting.", and its radio is on.
-pub fn signed_on<'a>(
-    waiting: &'a mut [u16; Desk::WAITING_WORDS],
-    reports: u16,
-    on: &'a mut [u16; Desk::MAX_ON],
-    radios: u16,
-    radio: u16,
-    east: u16,
-    north: u16,
-    minute: u32,
-) -> SignedOn
-    requires { RoomyWaiting (waiting_with reports waiting.old) × RoomyOn (on_with radios on.old) }
-    ensures { (waiting_with result.waiting waiting.new
-        ≡ waiting_of (insert radio (record { fix = fix_at east north minute; new = true }) (reports_of (waiting_with reports
-        waiting.old))))
-        × (on_with result.on on.new ≡ on_of (insert radio tt (radios_of (on_with radios on.old)))) }
+pub fn signed_on(desk: &mut Desk, radio: u16, fix: Fix)
+    requires { RoomyWaiting (ledger_waiting (desk_ledger desk.old)) × RoomyOn (ledger_on (desk_ledger desk.old)) }
+    ensures kept { desk.new ≡ record desk.old {
+      parts = record desk.old.parts { waiting = desk.new.parts.waiting; on = desk.new.parts.on };
+      waiting = desk.new.waiting;
+      on = desk.new.on;
+    } }
+    ensures waits { ledger_waiting (desk_ledger desk.new)
+        ≡ waiting_of (insert radio (record { fix = fix_of fix; new = true }) (reports_of (ledger_waiting (desk_ledger desk.old)))) }
+    ensures is_on { ledger_on (desk_ledger desk.new) ≡ on_of (insert radio tt (radios_of (ledger_on (desk_ledger desk.old)))) }
 {
-    SignedOn {
-        waiting: waiting::put_new(waiting, reports, radio, east, north, minute),
-        on: waiting::signed_on(on, radios, radio),
-    }
+    desk.parts.waiting = waiting::put_new(&mut desk.waiting, desk.parts.waiting, radio, fix);
+    desk.parts.on = waiting::signed_on(&mut desk.on, desk.parts.on, radio);
 }
 
-// "Report replaces a waiting report of that radio, keeping its mark new; otherwise it waits unmarked." The answer is how many wait then.
-pub fn reported<'a>(
-    waiting: &'a mut [u16; Desk::WAITING_WORDS],
-    reports: u16,
-    radio: u16,
-    east: u16,
-    north: u16,
-    minute: u32,
-) -> u16
-    requires { RoomyWaiting (waiting_with reports waiting.old) }
-    ensures { waiting_with result waiting.new
-        ≡ waiting_of (alter (λ w. some (record { fix = fix_at east north minute; new = was_new w })) radio
-        (reports_of (waiting_with reports waiting.old))) }
+// "Report replaces a waiting report of that radio, keeping its mark new; otherwise it waits unmarked."
+pub fn reported(desk: &mut Desk, radio: u16, fix: Fix)
+    requires { RoomyWaiting (ledger_waiting (desk_ledger desk.old)) }
+    ensures kept { desk.new ≡ record desk.old {
+      parts = record desk.old.parts { waiting = desk.new.parts.waiting };
+      waiting = desk.new.waiting;
+    } }
+    ensures waits { ledger_waiting (desk_ledger desk.new)
+        ≡ waiting_of (alter (λ w. Some (record { fix = fix_of fix; new = was_new w })) radio
+        (reports_of (ledger_waiting (desk_ledger desk.old)))) }
 {
-    waiting::put_report(waiting, reports, radio, east, north, minute)
+    desk.parts.waiting = waiting::put_report(&mut desk.waiting, desk.parts.waiting, radio, fix);
 }
 
 // Whether a report of `radio` waits and is marked new.
-fn waits_new<'a>(waiting: &'a [u16; Desk::WAITING_WORDS], reports: u16, radio: u16) -> bool
-    requires { GoodWaiting (waiting_with reports waiting.now) }
-    ensures { result ≡ was_new (find (reports_of (waiting_with reports waiting.now)) radio) }
+fn waits_new(desk: &Desk, radio: u16) -> bool
+    requires { GoodWaiting (ledger_waiting (desk_ledger desk.now)) }
+    ensures { result ≡ was_new (find (reports_of (ledger_waiting (desk_ledger desk.now))) radio) }
 {
-    let Waited::Found(report) = waiting::find_report(waiting, reports, radio) else {
-        return false;
-    };
-    report.new != 0
+    match waiting::find_report(&desk.waiting, desk.parts.waiting, radio) {
+        Some(report) => report.new != 0,
+        None => false,
+    }
 }
 
 // "If the discarded one was not marked new, or none waited, the memo's missed count for the radio grows by 1 (made as 1 if absent) and its place becomes none."
-// The answer is how many lines there are then.
-fn missed<'a>(
-    waiting: &'a [u16; Desk::WAITING_WORDS],
-    reports: u16,
-    words: &'a mut [u16; Desk::MEMO_WORDS],
-    lines: u16,
-    radio: u16,
-) -> u16
-    requires { GoodWaiting (waiting_with reports waiting.now) × RoomyMemo (memo_in lines words.old) × MissFits radio (memo_in lines words.old) }
-    ensures { memo_in result words.new
+fn missed(desk: &mut Desk, radio: u16)
+    requires { GoodWaiting (ledger_waiting (desk_ledger desk.old)) × RoomyMemo (ledger_memo (desk_ledger desk.old))
+        × MissFits radio (ledger_memo (desk_ledger desk.old)) }
+    ensures kept { desk.new ≡ record desk.old {
+      parts = record desk.old.parts { lines = desk.new.parts.lines };
+      memo = desk.new.memo;
+    } }
+    ensures counted { ledger_memo (desk_ledger desk.new)
         ≡ memo_of
-        (cond (was_new (find (reports_of (waiting_with reports waiting.now)) radio)) (lines_of (memo_in lines words.old))
-        (alter (raised none) radio (lines_of (memo_in lines words.old)))) }
+        (cond (was_new (find (reports_of (ledger_waiting (desk_ledger desk.old))) radio))
+        (lines_of (ledger_memo (desk_ledger desk.old)))
+        (alter (raised None) radio (lines_of (ledger_memo (desk_ledger desk.old))))) }
 {
-    if waits_new(waiting, reports, radio) {
-        return lines;
+    if waits_new(desk, radio) {
+        return;
     }
-    memo::raised_none(words, lines, radio)
+    desk.parts.lines = memo::raised(&mut desk.memo, desk.parts.lines, radio, None);
 }
 
 // "Sign-off discards a waiting report", the memo counts what is missed, and the radio is on no longer. What is missed is told by the report that waits, so it
 // is counted first.
-pub fn signed_off<'a>(
-    waiting: &'a mut [u16; Desk::WAITING_WORDS],
-    reports: u16,
-    words: &'a mut [u16; Desk::MEMO_WORDS],
-    lines: u16,
-    on: &'a mut [u16; Desk::MAX_ON],
-    radios: u16,
-    radio: u16,
-) -> SignedOff
-    requires { GoodWaiting (waiting_with reports waiting.old) × RoomyMemo (memo_in lines words.old) × MissFits radio (memo_in lines words.old)
-        × GoodOn (on_with radios on.old) }
-    ensures { (waiting_with result.waiting waiting.new
-        ≡ waiting_of (alter (λ _. none) radio (reports_of (waiting_with reports waiting.old))))
-        × (memo_in result.lines words.new
+pub fn signed_off(desk: &mut Desk, radio: u16)
+    requires { GoodWaiting (ledger_waiting (desk_ledger desk.old)) × RoomyMemo (ledger_memo (desk_ledger desk.old))
+        × MissFits radio (ledger_memo (desk_ledger desk.old)) × GoodOn (ledger_on (desk_ledger desk.old)) }
+    ensures kept { desk.new ≡ record desk.old {
+      parts = record desk.old.parts { waiting = desk.new.parts.waiting; lines = desk.new.parts.lines; on = desk.new.parts.on };
+      waiting = desk.new.waiting;
+      memo = desk.new.memo;
+      on = desk.new.on;
+    } }
+    ensures waits { ledger_waiting (desk_ledger desk.new)
+        ≡ waiting_of (alter (λ _. None) radio (reports_of (ledger_waiting (desk_ledger desk.old)))) }
+    ensures counted { ledger_memo (desk_ledger desk.new)
         ≡ memo_of
-        (cond (was_new (find (reports_of (waiting_with reports waiting.old)) radio)) (lines_of (memo_in lines words.old))
-        (alter (raised none) radio (lines_of (memo_in lines words.old)))))
-        × (on_with result.on on.new ≡ on_of (alter (λ _. none) radio (radios_of (on_with radios on.old)))) }
+        (cond (was_new (find (reports_of (ledger_waiting (desk_ledger desk.old))) radio))
+        (lines_of (ledger_memo (desk_ledger desk.old)))
+        (alter (raised None) radio (lines_of (ledger_memo (desk_ledger desk.old))))) }
+    ensures is_off { ledger_on (desk_ledger desk.new) ≡ on_of (alter (λ _. None) radio (radios_of (ledger_on (desk_ledger desk.old)))) }
 {
-    let notes = missed(waiting, reports, words, lines, radio);
-    SignedOff {
-        waiting: waiting::discarded(waiting, reports, radio),
-        lines: notes,
-        on: waiting::signed_off(on, radios, radio),
-    }
+    missed(desk, radio);
+    desk.parts.waiting = waiting::discarded(&mut desk.waiting, desk.parts.waiting, radio);
+    desk.parts.on = waiting::signed_off(&mut desk.on, desk.parts.on, radio);
 }

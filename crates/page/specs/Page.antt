@@ -1,9 +1,11 @@
 -- A page (01, "Records and pages"): its bytes from what it holds, and what it holds from its bytes.
-use Rattle.std.specs.Prelude.{List, [], ◌∷◌, ◌++◌, ℕ, ◌+◌, ◌*◌, ◌-◌, ◌/◌, min, length, replicate}
+use Rattle.std.specs.Prelude.{Option, None, Some, cond, eqb, List, [], ◌∷◌, ◌++◌, ℕ, ◌+◌, ◌*◌, ◌-◌, ◌/◌, min, length, replicate}
 use Rattle.terms.specs.Terms.{Fix, field_bytes, minute_bytes, page_entries, no_cell}
 use Rattle.lists.specs.Parts.{tab}
 use Rattle.lists.specs.Rows.{Row, Rows}
 use Rattle.lists.specs.Words.{le, word}
+use Rattle.page.specs.declared.PageKind.{PageKind}
+use Rattle.page.specs.declared.PageKind.TheVariants.{Free, First, Further}
 
 -- "pages become 328 bytes"
 abbrev pub page_bytes : ℕ
@@ -25,6 +27,15 @@ kind_first = 2
 
 abbrev pub kind_further : ℕ
 kind_further = 3
+
+-- the number of each kind, and the kind of a number
+abbrev pub number_of : PageKind → ℕ
+number_of Free = kind_free
+number_of First = kind_first
+number_of Further = kind_further
+
+abbrev pub kind_numbered : ℕ → Option PageKind
+kind_numbered n = cond (eqb n kind_free) (Some Free) (cond (eqb n kind_first) (Some First) (cond (eqb n kind_further) (Some Further) None))
 
 -- ---- bytes
 

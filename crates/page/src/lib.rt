@@ -18,13 +18,43 @@ pub const HEAD_BYTES: usize = 8;
 
 pub const ENTRY_BYTES: usize = 10;
 
-pub const KIND_FREE: u16 = 1;
+// What a page is: free, the first of a cell's chain, or a further one.
+#[derive(Clone, Copy, Debug, PartialEq, Eq)]
+pub enum PageKind {
+    Free,
+    First,
+    Further,
+}
 
-pub const KIND_FIRST: u16 = 2;
+impl PageKind {
+    ghost use Rattle.page.specs.Page.{number_of, kind_numbered};
 
-pub const KIND_FURTHER: u16 = 3;
+    // The number that a page has for it.
+    pub fn number(self) -> u16
+        ensures { result ≡ number_of self }
+    {
+        match self {
+            PageKind::Free => 1,
+            PageKind::First => 2,
+            PageKind::Further => 3,
+        }
+    }
 
-#[derive(Drop)]
+    // The kind that a page's number says, if it is one of theirs.
+    pub fn numbered(number: u16) -> Option<PageKind>
+        ensures { result ≡ kind_numbered number }
+    {
+        match number {
+            1 => Some(PageKind::Free),
+            2 => Some(PageKind::First),
+            3 => Some(PageKind::Further),
+            _ => None,
+        }
+    }
+}
+
+// The four fields at a page's front, in any condition.
+#[derive(Clone, Copy, Debug)]
 pub struct Header {
     pub used: u16,
     pub kind: u16,
@@ -40,8 +70,7 @@ pub fn page_at(buffer: &[u8], p: usize) -> &[u8]
     ensures { (result.now ≡ page_at buffer.now p) × (length result.now ≡ page_bytes) }
 {
     let start = PAGE_BYTES * p;
-    let end = start + PAGE_BYTES;
-    &buffer[start..end]
+    &buffer[start..start + PAGE_BYTES]
 }
 
 // The four fields at a page's front.
@@ -66,11 +95,7 @@ pub fn read_header(page: &[u8]) -> Header
 pub fn room(used: u16) -> usize
     ensures { result ≡ room_of used }
 {
-    if (used as usize) < HEAD_BYTES {
-        return 0;
-    }
-    let n = (used as usize - HEAD_BYTES) / ENTRY_BYTES;
-    if PAGE_ENTRIES < n { PAGE_ENTRIES } else { n }
+    ((used as usize).saturating_sub(HEAD_BYTES) / ENTRY_BYTES).min(PAGE_ENTRIES)
 }
 
 pub fn entry_count(page: &[u8]) -> usize
@@ -86,22 +111,18 @@ pub fn read_entry(page: &[u8], i: usize) -> Entry
     ensures { row_of result ≡ entry_at page.now i }
 {
     let at = HEAD_BYTES + ENTRY_BYTES * i;
-    let radio = fields::read(page, at);
-    let east = fields::read(page, at + 2);
-    let north = fields::read(page, at + 4);
-    let minute = fields::read_wide(page, at + 6);
     Entry {
-        radio,
-        east,
-        north,
-        minute,
+        radio: fields::read(page, at),
+        east: fields::read(page, at + 2),
+        north: fields::read(page, at + 4),
+        minute: fields::read_wide(page, at + 6),
     }
 }
 
 // ---- chains
 
 // How a chain ends: at none, past its bound, or at a page that is not there.
-#[derive(Clone, Copy)]
+#[derive(Clone, Copy, Debug, PartialEq, Eq)]
 pub enum ChainEnd {
     Ended,
     PastBound,
@@ -121,10 +142,7 @@ pub fn is_there(buffer: &[u8], p: u16) -> bool
     ensures { result ≡ there buffer.now p }
 {
     let at = p as usize;
-    if PAGES <= at {
-        return false;
-    }
-    PAGE_BYTES * at + PAGE_BYTES <= buffer.len()
+    at < PAGES && PAGE_BYTES * at + PAGE_BYTES <= buffer.len()
 }
 
 // The page that follows page p.
@@ -132,6 +150,5 @@ pub fn next_page(buffer: &[u8], p: u16) -> u16
     requires { there buffer.now p ≡ true }
     ensures { result ≡ next (page_at buffer.now p) }
 {
-    let page = page_at(buffer, p as usize);
-    fields::read(page, 4)
+    fields::read(page_at(buffer, p as usize), 4)
 }

@@ -1,5 +1,5 @@
 -- The loop that reads a chain.
-use mathlib.Core.Bool.{Bool, true, false, not}
+use mathlib.Core.Bool.{Bool, true, false}
 use mathlib.Core.List.{List, [], ◌∷◌, ◌++◌, append_assoc, append-nil}
 use mathlib.Core.Logic.{◌≢◌}
 use mathlib.Core.Path.{◌≡◌, refl, sym, ap, ◌∙◌}
@@ -8,11 +8,11 @@ use native.Mathlib.Omega.{arith}
 use native.Mathlib.Numerals.{add-one}
 use lib.ListN.{length, take, set, length-set}
 use lib.Seq.{take-suc-set}
-use borrow.Author.Tests.{eq-eqb, ne_eqb, not-true}
+use borrow.Author.Tests.{eq-eqb, ne_eqb}
 use Rattle.terms.specs.Terms.{pages, no_page}
 use Rattle.page.specs.Page.{next}
 use Rattle.page.specs.Buffer.{page_at, there, chain_from, End, at_none, past_bound, not_there, bound_end, end_from}
-use Rattle.page.proofs.ChainLaws.{was_there, chain_ended, chain_not_there, chain_there, chain_out}
+use Rattle.page.proofs.ChainLaws.{chain_ended, chain_not_there, chain_there, chain_out}
 
 -- ---- the end of a chain that has as many pages as it may
 
@@ -43,10 +43,10 @@ module _ {b : List ℕ} {first : ℕ} {ps : List ℕ} {p n : ℕ} (w : Walking b
   pub Walking_ended : p ≡ no_page → Read b first ps n at_none
   Walking_ended e = let t = chain_ended b p (pages - n) e in Walking_stop t.0 t.1
 
-  pub Walking_not_there : {r : Bool} → n < pages → p ≢ no_page → r ≡ there b p → not r ≡ true → Read b first ps n (not_there p)
-  Walking_not_there {r} h k e i =
+  pub Walking_not_there : {r : Bool} → n < pages → p ≢ no_page → r ≡ there b p → r ≡ false → Read b first ps n (not_there p)
+  Walking_not_there h k e i =
       let f : pages - n ≡ suc (pages - (n + 1)) = omega arith in
-      let t = chain_not_there b p (pages - (n + 1)) k (sym e ∙ not-true r i) in
+      let t = chain_not_there b p (pages - (n + 1)) k (sym e ∙ i) in
       Walking_stop (rw f t.0) (rw f t.1)
 
   pub Walking_out : {e : End} → pages ≤ n → e ≡ bound_end p → Read b first ps n e
@@ -55,10 +55,10 @@ module _ {b : List ℕ} {first : ℕ} {ps : List ℕ} {p n : ℕ} (w : Walking b
       let t = chain_out b p in
       Walking_stop (rw f t.0) (rw f (t.1 ∙ sym k))
 
-  pub Walking_turn : {r : Bool} {q : ℕ} → n < pages → r ≡ there b p → not r ≡ false → q ≡ next (page_at b p) → Walking b first (set ps n p) q (n + 1)
+  pub Walking_turn : {r : Bool} {q : ℕ} → n < pages → r ≡ there b p → r ≡ true → q ≡ next (page_at b p) → Walking b first (set ps n p) q (n + 1)
   Walking_turn h e i g =
       let f : pages - n ≡ suc (pages - (n + 1)) = omega arith in
-      let t = chain_there b p (pages - (n + 1)) (was_there b p e i) in
+      let t = chain_there b p (pages - (n + 1)) (sym e ∙ i) in
       let s = w.size in
       let m : take (n + 1) (set ps n p) ≡ take n ps ++ (p ∷ []) = rw add-one (take-suc-set ps n p (omega arith)) in
       let r : p ∷ chain_from (pages - (n + 1)) b (next (page_at b p)) ≡ chain_from (pages - n) b p = rw f (sym t.0) in

@@ -16,8 +16,7 @@ pub fn read_chain(buffer: &[u8], first: u16) -> Chain
 {
     let mut pages = [0u16; PAGES];
     let mut p = first;
-    let mut n: usize = 0;
-    while n < PAGES {
+    for n in 0..PAGES {
         if p == NO_PAGE {
             return Chain {
                 end: ChainEnd::Ended,
@@ -34,11 +33,10 @@ pub fn read_chain(buffer: &[u8], first: u16) -> Chain
         }
         pages[n] = p;
         p = page::next_page(buffer, p);
-        n += 1;
     }
     Chain {
         end: bound_end(p),
-        n,
+        n: PAGES,
         pages,
     }
 }

@@ -1,7 +1,7 @@
 -- A page that passes the test is the bytes of the entries that it says, and the bytes of such entries pass.
 use mathlib.Core.Bool.{true, false}
 use mathlib.Core.List.{List, [], ◌∷◌, ◌++◌, append_assoc}
-use mathlib.Core.Option.{none, some}
+use Rattle.std.specs.Prelude.{None, Some}
 use mathlib.Core.Path.{◌≡◌, refl, sym, ap, ap₂, ◌∙◌}
 use Prim.Native.Nat.{ℕ, zero, suc, ◌+◌, ◌-◌, ◌*◌, ◌≤◌, ◌<◌}
 use native.Mathlib.Numerals.{add-one}
@@ -25,7 +25,7 @@ use Rattle.page.proofs.PageLaws.{length-entries_of, length-head_of, length-page_
 
 -- ---- the climb
 
-pub climb_none : (low : ℕ) → climb low [] ≡ some low
+pub climb_none : (low : ℕ) → climb low [] ≡ Some low
 unfolding climb
 climb_none low = refl
 
@@ -33,7 +33,7 @@ pub climb_step : (low : ℕ) (e : Row Fix) (es : Rows Fix) → low < e.key → e
 unfolding climb
 climb_step low e es h k = rw (both_intro (lt-ltb _ _ h) (le-leb _ _ k))
 
-pub climb_stop : (low : ℕ) (e : Row Fix) (es : Rows Fix) → both (ltb low e.key) (leb e.key max_radio) ≡ false → climb low (e ∷ es) ≡ none
+pub climb_stop : (low : ℕ) (e : Row Fix) (es : Rows Fix) → both (ltb low e.key) (leb e.key max_radio) ≡ false → climb low (e ∷ es) ≡ None
 unfolding climb
 climb_stop low e es t = rw t
 
@@ -50,18 +50,18 @@ unfoldable pub last_key : ℕ → Rows Fix → ℕ
 last_key low [] = low
 last_key low (e ∷ es) = last_key e.key es
 
-pub Rising-climb : (low : ℕ) (es : Rows Fix) → Rising low es → UpTo max_radio es → climb low es ≡ some (last_key low es)
+pub Rising-climb : (low : ℕ) (es : Rows Fix) → Rising low es → UpTo max_radio es → climb low es ≡ Some (last_key low es)
 unfolding last_key
 Rising-climb low [] r u = climb_none low
 Rising-climb low (e ∷ es) r u = climb_step low e es r.0 u.0 ∙ Rising-climb e.key es r.1 u.1
 
-pub climb-append : (low : ℕ) (xs ys : Rows Fix) {last : ℕ} → climb low xs ≡ some last → climb low (xs ++ ys) ≡ climb last ys
+pub climb-append : (low : ℕ) (xs ys : Rows Fix) {last : ℕ} → climb low xs ≡ Some last → climb low (xs ++ ys) ≡ climb last ys
 unfolding climb
 climb-append low [] ys = λ e. cc
 climb-append low (x ∷ xs) ys =
     by_cases (both (ltb low x.key) (leb x.key max_radio)) (λ t. rw t (λ e. climb-append x.key xs ys e)) (λ t. rw t (λ e. cc))
 
-pub climb-append_broken : (low : ℕ) (xs ys : Rows Fix) → climb low xs ≡ none → climb low (xs ++ ys) ≡ none
+pub climb-append_broken : (low : ℕ) (xs ys : Rows Fix) → climb low xs ≡ None → climb low (xs ++ ys) ≡ None
 unfolding climb
 climb-append_broken low [] ys = λ e. cc
 climb-append_broken low (x ∷ xs) ys =

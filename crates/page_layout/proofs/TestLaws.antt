@@ -1,15 +1,16 @@
 -- What the functions of the layout test need: a law for each turn, end or return, in the words of the contracts.
-use mathlib.Core.Bool.{Bool, true, false, not, cond}
+use mathlib.Core.Bool.{Bool, true, false, cond}
 use mathlib.Core.List.{List, ◌∷◌}
-use mathlib.Core.Option.{Option, none, some}
+use Rattle.std.specs.Prelude.{Option, None, Some}
 use mathlib.Core.Path.{◌≡◌, refl, sym, ap, ◌∙◌}
-use Prim.Native.Nat.{ℕ, suc, ◌+◌, ◌*◌, ◌≤◌, ◌<◌, max}
+use Prim.Native.Nat.{ℕ, suc, ◌+◌, ◌-◌, ◌*◌, ◌≤◌, ◌<◌, max}
 use native.Mathlib.Numerals.{add-one}
 use native.Mathlib.Omega.{arith}
 use lib.Dec.{eqb, ltb}
-use lib.ListN.{length, get_or, drop, drop_of_length-le}
-use lib.Seq.{drop-cons}
-use borrow.Author.Tests.{eq-eqb, ne_eqb, le-ltb, lt-ltb, lt-leb, ltb-true, ltb-false}
+use lib.ListN.{length, get_or, take, drop, length-drop, drop_of_length-le}
+use lib.Seq.{take-length, drop-cons}
+use Rattle.std.specs.Option as option
+use borrow.Author.Tests.{eqb-true, eq-eqb, ne_eqb, le-ltb, lt-ltb, lt-leb, ltb-true, ltb-false}
 use Rattle.terms.specs.Terms.{Fix, field_bytes, max_radio}
 use Rattle.lists.specs.Parts.{tab}
 use Rattle.lists.specs.Rows.{Row, Rows}
@@ -17,12 +18,12 @@ use Rattle.lists.specs.Tests.{both, either, is_some}
 use Rattle.lists.specs.Words.{word}
 use Rattle.lists.proofs.Cases.{by_cases}
 use Rattle.lists.proofs.PartsLaws.{length-tab, get_or-tab}
-use Rattle.lists.proofs.TestsLaws.{not-true, not-false, both_intro, both_left_false, both_right_false}
+use Rattle.lists.proofs.TestsLaws.{both_intro, both_left_false, both_right_false}
 use Rattle.entries.specs.Entries.{no_row}
-use Rattle.page.specs.Page.{page_bytes, head_bytes, entry_bytes, kind_free, kind_first, kind_further, used, kind, next, cell, room_of, count, entry_at, entries}
-use Rattle.page_layout.specs.Layout.{climb, climb_of, top, kind_fits, laid_out}
-use Rattle.page_layout.specs.declared.Climb.{Climb}
-use Rattle.page_layout.specs.declared.Climb.TheVariants.{To, Broken}
+use Rattle.page.specs.declared.PageKind.{PageKind}
+use Rattle.page.specs.declared.PageKind.TheVariants.{Free, First, Further}
+use Rattle.page.specs.Page.{kind_numbered, page_bytes, head_bytes, entry_bytes, kind_free, kind_first, kind_further, used, kind, next, cell, room_of, count, entry_at, entries}
+use Rattle.page_layout.specs.Layout.{climb, top, kind_fits, laid_out}
 use Rattle.page.specs.declared.Header.{Header}
 use Rattle.page_layout.proofs.LayoutLaws.{climb_none, climb_step, climb_stop}
 
@@ -36,17 +37,21 @@ pub top_end : (b : List ℕ) (i s : ℕ) {t : ℕ} → length b ≤ i → max s 
 unfolding top
 top_end b i s h f = omega (arith, ap top (drop_of_length-le b {i = i} h))
 
+-- what is lent from a place on is the rest
+pub rest_lent : (b : List ℕ) (from : ℕ) → take (length b - from) (drop from b) ≡ drop from b
+rest_lent b from = ap (λ (n : ℕ). take n (drop from b)) (sym (length-drop from b)) ∙ take-length (drop from b)
+
 -- ---- radios_rise
 
 -- the climb of what is left after i radios, where these rise but the last of them may be past the greatest number
 unfoldable pub climb_on : ℕ → ℕ → Rows Fix → Option ℕ
-climb_on i last es = cond (both (ltb 0 i) (ltb max_radio last)) none (climb last es)
+climb_on i last es = cond (both (ltb 0 i) (ltb max_radio last)) None (climb last es)
 
 pub on_start : (last : ℕ) (es : Rows Fix) → climb_on 0 last es ≡ climb last es
 unfolding climb_on both
 on_start last es = refl
 
-on_past : (i last : ℕ) (es : Rows Fix) → 0 < i → max_radio < last → climb_on i last es ≡ none
+on_past : (i last : ℕ) (es : Rows Fix) → 0 < i → max_radio < last → climb_on i last es ≡ None
 unfolding climb_on
 on_past i last es h k = rw (both_intro (lt-ltb 0 i h) (lt-ltb max_radio last k))
 
@@ -54,11 +59,11 @@ on_within : (i last : ℕ) (es : Rows Fix) → last ≤ max_radio → climb_on i
 unfolding climb_on
 on_within i last es k = rw (both_right_false (ltb 0 i) (le-ltb max_radio last k))
 
-on_broken : (i last : ℕ) (es : Rows Fix) → climb last es ≡ none → climb_on i last es ≡ none
+on_broken : (i last : ℕ) (es : Rows Fix) → climb last es ≡ None → climb_on i last es ≡ None
 unfolding climb_on
 on_broken i last es e = by_cases (both (ltb 0 i) (ltb max_radio last)) (λ t. rw t) (λ t. rw t e)
 
-on_stop : (i last : ℕ) (e : Row Fix) (es : Rows Fix) → e.key ≤ last → climb_on i last (e ∷ es) ≡ none
+on_stop : (i last : ℕ) (e : Row Fix) (es : Rows Fix) → e.key ≤ last → climb_on i last (e ∷ es) ≡ None
 on_stop i last e es h = on_broken i last (e ∷ es) (climb_stop last e es (both_left_false _ (le-ltb last e.key h)))
 
 -- a radio past the greatest number ends the climb, and all after it are past it too
@@ -70,7 +75,7 @@ on_step i last e es h =
     (λ t. let k = ltb-false max_radio e.key t in
     on_within i last (e ∷ es) (omega arith) ∙ climb_step last e es h k ∙ sym (on_within (i + 1) e.key es k))
 
-pub climb_empty : (b : List ℕ) (low : ℕ) {n : ℕ} → n ≡ 0 → some low ≡ climb low (tab n (entry_at b))
+pub climb_empty : (b : List ℕ) (low : ℕ) {n : ℕ} → n ≡ 0 → Some low ≡ climb low (tab n (entry_at b))
 unfolding tab
 climb_empty b low e = rw (e, climb_none low)
 
@@ -92,36 +97,45 @@ module _ (b : List ℕ) (n i last : ℕ) {t : Option ℕ} (so : climb_on i last 
         (ap (λ (x : ℕ). climb_on (suc i) x (drop (suc i) (tab n (entry_at b)))) (sym a)
         ∙ rw add-one at (sym (on_step i last (entry_at b i) (drop (suc i) (tab n (entry_at b))) (omega arith))) ∙ open_entry)
 
-    pub climb_low : r ≤ last → none ≡ t
+    pub climb_low : r ≤ last → None ≡ t
     climb_low h = let a = radio_is in sym (on_stop i last (entry_at b i) (drop (suc i) (tab n (entry_at b))) (omega arith)) ∙ open_entry
 
   module _ (some_radio : n ≡ 0 → ⊥) (all : n ≤ i) where
-    pub climb_high : max_radio < last → none ≡ t
+    pub climb_high : max_radio < last → None ≡ t
     climb_high h = sym (on_past i last (drop i (tab n (entry_at b))) (omega (arith, some_radio)) h) ∙ so
 
-    pub climb_end : last ≤ max_radio → some last ≡ t
+    pub climb_end : last ≤ max_radio → Some last ≡ t
     climb_end h =
         let l = length-tab n (entry_at b) in
         sym (climb_none last) ∙ rw (on_within i last (drop i (tab n (entry_at b))) h, drop_of_length-le (tab n (entry_at b)) {i = i} (omega arith)) at so
 
 -- ---- kind_fits
 
-module _ (k n : ℕ) where
-  pub fits_free : k ≡ kind_free → eqb n 0 ≡ kind_fits k n
-  unfolding kind_fits both either
-  fits_free e = by_cases (eqb n 0) (λ t. rw (e, t)) (λ t. rw (e, t))
+-- the test of a kind, if a number is one's
+abbrev pub fits_kind : Option PageKind → ℕ → Bool
+fits_kind (Some Free) n = eqb n 0
+fits_kind (Some First) n = true
+fits_kind (Some Further) n = ltb 0 n
+fits_kind None n = false
 
-  pub fits_first : k ≡ kind_first → true ≡ kind_fits k n
-  unfolding kind_fits both either
-  fits_first e = rw e
+pub fits_numbered : (k n : ℕ) → fits_kind (kind_numbered k) n ≡ kind_fits k n
+unfolding kind_fits both either
+fits_numbered k n =
+    by_cases (eqb k kind_free)
+    (λ t. let e = eqb-true k kind_free t in rw e (by_cases (eqb n 0) (λ z. rw z) (λ z. rw z)))
+    (λ t. rw t (by_cases (eqb k kind_first)
+    (λ u. rw u)
+    (λ u. rw u (by_cases (eqb k kind_further) (λ v. rw v) (λ v. rw v)))))
 
-  pub fits_further : k ≡ kind_further → ltb 0 n ≡ kind_fits k n
-  unfolding kind_fits both either
-  fits_further e = rw e
+pub no_kind_fits : {o : Option PageKind} (k n : ℕ) → o ≡ kind_numbered k → o ≡ None → false ≡ kind_fits k n
+no_kind_fits k n e f = ap (λ (o : Option PageKind). fits_kind o n) (sym f ∙ e) ∙ fits_numbered k n
 
-  pub fits_none : (k ≡ kind_free → ⊥) → (k ≡ kind_first → ⊥) → (k ≡ kind_further → ⊥) → false ≡ kind_fits k n
-  unfolding kind_fits both either
-  fits_none f g h = rw (ne_eqb k kind_free f, ne_eqb k kind_first g, ne_eqb k kind_further h)
+pub that_kind_fits : {o : Option PageKind} {x y : PageKind} (k n : ℕ) → o ≡ kind_numbered k → o ≡ Some x → x ≡ y → fits_kind (Some y) n ≡ kind_fits k n
+that_kind_fits k n e f g = ap (λ (o : Option PageKind). fits_kind o n) (ap Some (sym g) ∙ sym f ∙ e) ∙ fits_numbered k n
+
+same_some : (o : Option ℕ) → option.is_some o ≡ is_some o
+same_some None = refl
+same_some (Some x) = refl
 
 -- ---- laid_out: the sections grow with the tests passed
 
@@ -145,22 +159,16 @@ module _ (b : List ℕ) (whole : length b ≡ page_bytes) (h : Header) (head : h
   laid_used f = rw (eq-eqb (length b) page_bytes whole, count_is, used_is, ne_eqb h.used (head_bytes + entry_bytes * n) f)
 
   module _ (fit : h.used ≡ head_bytes + entry_bytes * n) {f : Bool} (fits : f ≡ kind_fits h.kind n) where
-    pub laid_kind : not f ≡ true → false ≡ laid_out b
+    pub laid_kind : f ≡ false → false ≡ laid_out b
     unfolding laid_out both
-    laid_kind t = rw (eq-eqb (length b) page_bytes whole, count_is, used_is, eq-eqb h.used (head_bytes + entry_bytes * n) fit, kind_is, ← fits, not-true f t)
+    laid_kind t = rw (eq-eqb (length b) page_bytes whole, count_is, used_is, eq-eqb h.used (head_bytes + entry_bytes * n) fit, kind_is, ← fits, t)
 
-    module _ (good : not f ≡ false) {s : ℕ} (most : s ≡ top (drop (head_bytes + entry_bytes * n) b)) where
+    module _ (good : f ≡ true) {s : ℕ} (most : s ≡ top (drop (head_bytes + entry_bytes * n) b)) where
       pub laid_unused : (s ≡ 0 → ⊥) → false ≡ laid_out b
       unfolding laid_out both
-      laid_unused z = rw (eq-eqb (length b) page_bytes whole, count_is, used_is, eq-eqb h.used (head_bytes + entry_bytes * n) fit, kind_is, ← fits, not-false f good, ← most, ne_eqb s 0 z)
+      laid_unused z = rw (eq-eqb (length b) page_bytes whole, count_is, used_is, eq-eqb h.used (head_bytes + entry_bytes * n) fit, kind_is, ← fits, good, ← most, ne_eqb s 0 z)
 
       module _ (zeros : s ≡ 0) where
-        laid_rest : {last : Option ℕ} → last ≡ climb 0 (tab n (entry_at b)) → is_some last ≡ laid_out b
+        pub laid_rest : {last : Option ℕ} {r : Bool} → last ≡ climb 0 (tab n (entry_at b)) → r ≡ option.is_some last → r ≡ laid_out b
         unfolding laid_out both entries
-        laid_rest rise = rw (eq-eqb (length b) page_bytes whole, count_is, used_is, eq-eqb h.used (head_bytes + entry_bytes * n) fit, kind_is, ← fits, not-false f good, ← most, eq-eqb s 0 zeros, ← rise)
-
-        pub laid_rise : {r : Climb} {last : ℕ} → climb_of r ≡ climb 0 (tab n (entry_at b)) → r ≡ To last → true ≡ laid_out b
-        laid_rise rise e = laid_rest (sym (ap climb_of e) ∙ rise)
-
-        pub laid_broken : {r : Climb} → climb_of r ≡ climb 0 (tab n (entry_at b)) → r ≡ Broken → false ≡ laid_out b
-        laid_broken rise e = laid_rest (sym (ap climb_of e) ∙ rise)
+        laid_rest {last} rise e = e ∙ same_some last ∙ rw (eq-eqb (length b) page_bytes whole, count_is, used_is, eq-eqb h.used (head_bytes + entry_bytes * n) fit, kind_is, ← fits, good, ← most, eq-eqb s 0 zeros, ← rise)

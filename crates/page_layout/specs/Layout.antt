@@ -1,12 +1,9 @@
 -- A page is laid out (01, "Records and pages"): what that is, and the test of it that the program runs.
-use Rattle.std.specs.Prelude.{Bool, cond, List, [], ◌∷◌, ◌≡◌, ℕ, ◌+◌, ◌*◌, ◌≤◌, max, eqb, leb, ltb, length, drop}
-use Rattle.std.proofs.Math.Option.{Option, none, some}
+use Rattle.std.specs.Prelude.{Bool, cond, List, [], ◌∷◌, ◌≡◌, ℕ, ◌+◌, ◌*◌, ◌≤◌, max, eqb, leb, ltb, length, drop, Option, None, Some}
 use Rattle.terms.specs.Terms.{Fix, max_radio, page_entries}
 use Rattle.lists.specs.Rows.{Rows, Rising, UpTo}
 use Rattle.lists.specs.Tests.{both, either, is_some}
 use Rattle.page.specs.Page.{page_bytes, head_bytes, entry_bytes, kind_free, kind_first, kind_further, page_of, used, kind, next, cell, count, entries}
-use Rattle.page_layout.specs.declared.Climb.{Climb}
-use Rattle.page_layout.specs.declared.Climb.TheVariants.{To, Broken}
 
 -- the bytes are those of some entries; next page and cell are not looked at
 pub record LaidOut (b : List ℕ) : Type 0 where
@@ -27,13 +24,8 @@ pub record LaidOut (b : List ℕ) : Type 0 where
 
 -- the last radio, if they rise from above low up to the greatest number
 unfoldable pub climb : ℕ → Rows Fix → Option ℕ
-climb low [] = some low
-climb low (e ∷ es) = cond (both (ltb low e.key) (leb e.key max_radio)) (climb e.key es) none
-
--- the last radio that each case of an answer gives, if any
-abbrev pub climb_of : Climb → Option ℕ
-climb_of (To last) = some last
-climb_of Broken = none
+climb low [] = Some low
+climb low (e ∷ es) = cond (both (ltb low e.key) (leb e.key max_radio)) (climb e.key es) None
 
 -- the greatest of a list, 0 for none
 unfoldable pub top : List ℕ → ℕ

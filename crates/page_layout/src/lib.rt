@@ -5,46 +5,29 @@ ghost use Rattle.std.specs.Prelude.{◌≡◌, ◌+◌, ◌*◌, ◌≤◌, max,
 ghost use Rattle.terms.specs.Terms.{page_entries};
 ghost use Rattle.lists.specs.Parts.{tab};
 ghost use Rattle.page.specs.Page.{head_bytes, entry_bytes, entry_at};
-ghost use Rattle.page_layout.specs.Layout.{climb, climb_of, top, kind_fits, laid_out};
+ghost use Rattle.page_layout.specs.Layout.{climb, top, kind_fits, laid_out};
 
-use page::{ENTRY_BYTES, HEAD_BYTES, KIND_FIRST, KIND_FREE, KIND_FURTHER, PAGE_BYTES};
+use page::{ENTRY_BYTES, HEAD_BYTES, PAGE_BYTES, PageKind};
 use terms::MAX_RADIO;
 
-// How far the radios of a page rise: to the last of them, or not at all.
-#[derive(Drop)]
-pub enum Climb {
-    To(u16),
-    Broken,
-}
-
-// The first n radios rise from above `low` up to the greatest number. The last of them is the greatest, so that it alone is compared with that number.
-pub fn radios_rise(page: &[u8], n: usize, low: u16) -> Climb
+// The last of the first n radios, if they rise from above `low` up to the greatest number; for none of them `low`. The last is the greatest, so that it alone is
+// compared with that number.
+pub fn radios_rise(page: &[u8], n: usize, low: u16) -> Option<u16>
     requires { (n ≤ page_entries) × (head_bytes + entry_bytes * n ≤ length page.now) }
-    ensures { climb_of result ≡ climb low (tab n (entry_at page.now)) }
+    ensures { result ≡ climb low (tab n (entry_at page.now)) }
 {
     if n == 0 {
-        return Climb::To(low);
+        return Some(low);
     }
     let mut last = low;
-    let mut i: usize = 0;
-    while i < n {
+    for i in 0..n {
         let radio = fields::read(page, HEAD_BYTES + ENTRY_BYTES * i);
         if radio <= last {
-            return Climb::Broken;
+            return None;
         }
         last = radio;
-        i += 1;
     }
-    if MAX_RADIO < last {
-        return Climb::Broken;
-    }
-    Climb::To(last)
-}
-
-fn greater(a: u8, b: u8) -> u8
-    ensures { result ≡ max a b }
-{
-    if a < b { b } else { a }
+    if MAX_RADIO < last { None } else { Some(last) }
 }
 
 // The greatest byte from `from` on. It never leaves early, so that many bytes are compared at a time.
@@ -53,10 +36,8 @@ pub fn top_from(page: &[u8], from: usize) -> u8
     ensures { result ≡ top (drop from page.now) }
 {
     let mut most: u8 = 0;
-    let mut i = from;
-    while i < page.len() {
-        most = greater(most, page[i]);
-        i += 1;
+    for &byte in &page[from..] {
+        most = most.max(byte);
     }
     most
 }
@@ -64,16 +45,12 @@ pub fn top_from(page: &[u8], from: usize) -> u8
 fn kind_fits(kind: u16, n: usize) -> bool
     ensures { result ≡ kind_fits kind n }
 {
-    if kind == KIND_FREE {
-        return n == 0;
+    match PageKind::numbered(kind) {
+        Some(PageKind::Free) => n == 0,
+        Some(PageKind::First) => true,
+        Some(PageKind::Further) => 0 < n,
+        None => false,
     }
-    if kind == KIND_FIRST {
-        return true;
-    }
-    if kind == KIND_FURTHER {
-        return 0 < n;
-    }
-    false
 }
 
 // The bytes are those of a page with some entries; next page and cell are not looked at.
@@ -95,6 +72,5 @@ pub fn laid_out(page: &[u8]) -> bool
     if top_from(page, end) != 0 {
         return false;
     }
-    let rise = radios_rise(page, n, 0);
-    if let Climb::To(_) = rise { true } else { false }
+    radios_rise(page, n, 0).is_some()
 }

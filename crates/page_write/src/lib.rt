@@ -1,15 +1,15 @@
-// Pages written: one page of the lent buffer anew, from a table's entries or as a free page.
+// Pages written: one page of those lent anew, from entries or as a free page.
 #![tactic(auto)]
 
 ghost use Rattle.std.specs.Prelude.{◌≡◌, ◌+◌, ◌-◌, ◌<◌, ◌≤◌, length, replicate};
-ghost use Rattle.terms.specs.Terms.{max_on, pages, page_entries};
-ghost use Rattle.lists.specs.Parts.{part, put};
-ghost use Rattle.entries.specs.Entries.{row_of, table_with, table_words, rows_of};
+ghost use Rattle.terms.specs.Terms.{pages as sheets, page_entries};
+ghost use Rattle.lists.specs.Parts.{put};
+ghost use Rattle.entries.specs.Entries.{row_of, rows_of};
 ghost use Rattle.page.specs.Page.{page_bytes, head_bytes, entry_bytes, entry_of, head_of, page_of, free_page_of};
 ghost use Rattle.page.specs.Buffer.{buffer_bytes, put_page};
 
-use entries::{Entry, TABLE_WORDS};
-use page::{ENTRY_BYTES, HEAD_BYTES, Header, KIND_FREE, PAGE_BYTES};
+use entries::Entry;
+use page::{ENTRY_BYTES, HEAD_BYTES, Header, PAGE_BYTES, PageKind};
 use terms::NO_CELL;
 
 fn write_entry(page: &mut [u8], at: usize, e: Entry)
@@ -37,63 +37,43 @@ fn clear(page: &mut [u8], from: usize)
     requires { from ≤ length page.old }
     ensures { page.new ≡ put page.old from (replicate (length page.old - from) 0) }
 {
-    let mut i = from;
-    while i < page.len() {
-        page[i] = 0;
-        i += 1;
-    }
+    page[from..].fill(0);
 }
 
-// The whole page from its header's fields and the table's `n` entries from `from` on.
-fn fill_page(
-    page: &mut [u8],
-    kind: u16,
-    next: u16,
-    cell: u16,
-    table: &[u16; TABLE_WORDS],
-    from: usize,
-    n: usize,
-)
-    requires { (length page.old ≡ page_bytes) × (n ≤ page_entries) × (from + n ≤ max_on) × (length table.now ≡ table_words) }
-    ensures { page.new ≡ page_of kind next cell (part (rows_of (table_with (from + n) table.now)) from n) }
+// The whole page from its header's fields and its entries.
+fn fill_page(page: &mut [u8], kind: u16, next: u16, cell: u16, entries: &[Entry])
+    requires { (length page.old ≡ page_bytes) × (length entries.now ≤ page_entries) }
+    ensures { page.new ≡ page_of kind next cell (rows_of entries.now) }
 {
-    let used = (HEAD_BYTES + ENTRY_BYTES * n) as u16;
+    let used = HEAD_BYTES + ENTRY_BYTES * entries.len();
     write_header(
         page,
         Header {
-            used,
+            used: used as u16,
             kind,
             next,
             cell,
         },
     );
-    let mut i = 0;
-    while i < n {
-        let e = entries::entry_at(table, from + i);
-        write_entry(page, HEAD_BYTES + ENTRY_BYTES * i, e);
-        i += 1;
+    for (i, &entry) in entries.iter().enumerate() {
+        write_entry(page, HEAD_BYTES + ENTRY_BYTES * i, entry);
     }
-    clear(page, HEAD_BYTES + ENTRY_BYTES * n);
+    clear(page, used);
 }
 
-// Page p of the buffer is written anew; every other page keeps every byte.
-pub fn write_page(
-    buffer: &mut [u8],
-    p: usize,
-    kind: u16,
-    next: u16,
-    cell: u16,
-    table: &[u16; TABLE_WORDS],
-    from: usize,
-    n: usize,
-)
-    requires { (length buffer.old ≡ buffer_bytes) × (p < pages) × (n ≤ page_entries) × (from + n ≤ max_on) × (length table.now ≡ table_words) }
-    ensures { buffer.new
-        ≡ put_page buffer.old p (page_of kind next cell (part (rows_of (table_with (from + n) table.now)) from n)) }
+// Page p is written anew; every other page keeps every byte. The kind is a number: a page's kind alone would ask more of callers.
+pub fn write_page(pages: &mut [u8], p: usize, kind: u16, next: u16, cell: u16, entries: &[Entry])
+    requires { (length pages.old ≡ buffer_bytes) × (p < sheets) × (length entries.now ≤ page_entries) }
+    ensures { pages.new ≡ put_page pages.old p (page_of kind next cell (rows_of entries.now)) }
 {
     let start = PAGE_BYTES * p;
-    let end = start + PAGE_BYTES;
-    fill_page(&mut buffer[start..end], kind, next, cell, table, from, n);
+    fill_page(
+        &mut pages[start..start + PAGE_BYTES],
+        kind,
+        next,
+        cell,
+        entries,
+    );
 }
 
 fn fill_free(page: &mut [u8], next: u16)
@@ -104,7 +84,7 @@ fn fill_free(page: &mut [u8], next: u16)
         page,
         Header {
             used: HEAD_BYTES as u16,
-            kind: KIND_FREE,
+            kind: PageKind::Free.number(),
             next,
             cell: NO_CELL,
         },
@@ -113,11 +93,10 @@ fn fill_free(page: &mut [u8], next: u16)
 }
 
 // Page p is free, and `next` follows it; every other page keeps every byte.
-pub fn free_page(buffer: &mut [u8], p: usize, next: u16)
-    requires { (length buffer.old ≡ buffer_bytes) × (p < pages) }
-    ensures { buffer.new ≡ put_page buffer.old p (free_page_of next) }
+pub fn free_page(pages: &mut [u8], p: usize, next: u16)
+    requires { (length pages.old ≡ buffer_bytes) × (p < sheets) }
+    ensures { pages.new ≡ put_page pages.old p (free_page_of next) }
 {
     let start = PAGE_BYTES * p;
-    let end = start + PAGE_BYTES;
-    fill_free(&mut buffer[start..end], next);
+    fill_free(&mut pages[start..start + PAGE_BYTES], next);
 }

@@ -4,7 +4,7 @@
 use mathlib.Core.Path.{◌≡◌, refl, sym, ap, ap₂, ◌∙◌, fun_ext}
 use mathlib.Core.Bool.{Bool, true, false, not, cond}
 use mathlib.Core.List.{List, [], ◌∷◌}
-use mathlib.Core.Option.{Option, none, some}
+use Rattle.std.specs.Prelude.{Option, None, Some}
 use Prim.Native.Nat.{ℕ, ◌+◌, ◌-◌, ◌≤◌}
 use native.Mathlib.Omega.{arith}
 use lib.Dec.{eqb, leb}
@@ -35,22 +35,22 @@ abbrev Fixes : Type 0
 Fixes = ℕ → Option Fix
 
 abbrev no_fixes : Fixes
-no_fixes r = none
+no_fixes r = None
 
 -- the radio of a row has what the row tells, whatever it had
 abbrev row_any : {Val : Type 0} → (Val → Fix) → Row Val → Fixes → Fixes
-row_any fix x f = put_at x.key (some (fix x.val)) f
+row_any fix x f = put_at x.key (Some (fix x.val)) f
 
 abbrev found_or : {Val : Type 0} → (Val → Fix) → Option Val → Option Fix → Option Fix
-found_or fix none o = o
-found_or fix (some v) o = some (fix v)
+found_or fix None o = o
+found_or fix (Some v) o = Some (fix v)
 
 -- rows by rising radio: each radio has at most one
 over-find : {Val : Type 0} (fix : Val → Fix) (b : ℕ) (l : Rows Val) (f : Fixes) (r : ℕ) → Rising b l → over (row_any fix) l f r ≡ found_or fix (find l r) (f r)
 unfolding over find
 over-find fix b [] f r a = refl
 over-find fix b (x ∷ xs) f r a =
-    over-find fix x.key xs (put_at x.key (some (fix x.val)) f) r a.1
+    over-find fix x.key xs (put_at x.key (Some (fix x.val)) f) r a.1
     ∙ by_cases (eqb r x.key)
     (λ t. rw (t, find_below r x.key xs (omega (arith, eqb-true r x.key t)) a.1))
     (λ t. rw t)
@@ -78,13 +78,13 @@ abbrev any_fix : Fix → Bool
 any_fix f = true
 
 count_or_else : (t : Fix → Bool) (a b : Option Fix) → count_if any_fix a + count_if any_fix b ≤ 1 → count_if t (or_else a b) ≡ count_if t a + count_if t b
-count_or_else t none b h = omega arith
-count_or_else t (some p) none h = omega arith
-count_or_else t (some p) (some q) h = absurd (omega arith)
+count_or_else t None b h = omega arith
+count_or_else t (Some p) None h = omega arith
+count_or_else t (Some p) (Some q) h = absurd (omega arith)
 
-passed-some : {Val : Type 0} (p : Row Val → Bool) (r : ℕ) (o : Option Val) (v : Val) → passed p r o ≡ some v → o ≡ some v
-passed-some p r none v e = e
-passed-some p r (some w) v e = by_cases (p (record { key = r; val = w })) (λ t. rw t at e) (λ t. none-some (rw t at e))
+passed-some : {Val : Type 0} (p : Row Val → Bool) (r : ℕ) (o : Option Val) (v : Val) → passed p r o ≡ Some v → o ≡ Some v
+passed-some p r None v e = e
+passed-some p r (Some w) v e = by_cases (p (record { key = r; val = w })) (λ t. rw t at e) (λ t. none-some (rw t at e))
 
 module _ (memo : Rows Line) (r : ℕ) where
   -- entries of the radio that are not stale and pass
@@ -92,8 +92,8 @@ module _ (memo : Rows Line) (r : ℕ) where
   live_count t = sum_by (λ c. count_if t (live_in memo r c))
 
   live_one : (o : Option Fix) → count_if (λ f. not (stale_by (find memo r) f)) o ≡ count_if any_fix (passed (λ e. not (stale memo e)) r o)
-  live_one none = refl
-  live_one (some f) = by_cases (not (stale_by (find memo r) f)) (λ s. rw s) (λ s. rw s)
+  live_one None = refl
+  live_one (Some f) = by_cases (not (stale_by (find memo r) f)) (λ s. rw s) (λ s. rw s)
 
   live_all : (cells : List Cell) → live_of memo r cells ≡ live_count any_fix cells
   unfolding live_of live_in
@@ -123,7 +123,7 @@ module _ (memo : Rows Line) (look : Sought) (r : ℕ) where
   unfolding live_in
   entries_live c f k = over_live (stale memo) 0 c.entries f r k.rising
 
-  live_inside : (c : Cell) (v : Fix) → Placed c → live_in memo r c ≡ some v → inside c.edges v.place ≡ true
+  live_inside : (c : Cell) (v : Fix) → Placed c → live_in memo r c ≡ Some v → inside c.edges v.place ≡ true
   unfolding live_in
   live_inside c v k e = Each-find (λ _ (q : Fix). inside c.edges q.place ≡ true) r v c.entries k.placed (passed-some (λ e. not (stale memo e)) r (find c.entries r) v e)
 
@@ -166,10 +166,10 @@ abbrev Alike : Sought → Option Fix → Option Fix → Type 0
 Alike look a b = (t : Fix → Bool) → ((v : Fix) → t v ≡ true → is_sought look v ≡ true) → count_if t a ≡ count_if t b
 
 seen-Alike : (look : Sought) (a b : Option Fix) → Alike look a b → seen look a ≡ seen look b
-seen-Alike look none none h = refl
-seen-Alike look none (some q) h = rw (one_if-false (is_sought look q) (sym (h (is_sought look) (λ p e. e))))
-seen-Alike look (some p) none h = rw (one_if-false (is_sought look p) (h (is_sought look) (λ q e. e)))
-seen-Alike look (some p) (some q) h =
+seen-Alike look None None h = refl
+seen-Alike look None (Some q) h = rw (one_if-false (is_sought look q) (sym (h (is_sought look) (λ p e. e))))
+seen-Alike look (Some p) None h = rw (one_if-false (is_sought look p) (h (is_sought look) (λ q e. e)))
+seen-Alike look (Some p) (Some q) h =
     by_cases (is_sought look p)
     (λ i. let t : Fix → Bool = λ x. both (is_sought look x) (same_place p.place x.place) in
     let w : (x : Fix) → t x ≡ true → is_sought look x ≡ true = λ x e. both_left _ _ e in
@@ -200,7 +200,7 @@ module _ (s : Store) (w : WellFormed s) (look : Sought) (r : ℕ) (on : is_on s 
   unfolding latest
   latest_is = refl
 
-  module _ (quiet : find s.waiting r ≡ none) where
+  module _ (quiet : find s.waiting r ≡ None) where
     one_live : live_count s.memo r any_fix s.cells ≡ 1
     one_live = omega (arith, live_all s.memo r s.cells, w.present r, ap (λ (o : Option Report). one_if (was_new o)) quiet, ap one_if on)
 
@@ -239,7 +239,7 @@ module _ (look : Sought) where
   put_seen r o f = fun_ext (λ q. by_cases (eqb q r) (λ t. rw t) (λ t. rw t))
 
   entry_seen : (old : Row Fix → Bool) (e : Row Fix) (f : Fixes) → entry_over old look e (seen_at f) ≡ seen_at (entry_any old e f)
-  entry_seen old e f = by_cases (old e) (λ t. rw t) (λ t. rw t (put_seen e.key (some e.val) f))
+  entry_seen old e f = by_cases (old e) (λ t. rw t) (λ t. rw t (put_seen e.key (Some e.val) f))
 
   entries_seen : (old : Row Fix → Bool) (l : Rows Fix) (f : Fixes) → entries_over old look l (seen_at f) ≡ seen_at (over (entry_any old) l f)
   unfolding entries_over
@@ -259,7 +259,7 @@ module _ (look : Sought) where
   unfolding reports_over no_places
   table_seen s =
       ap (reports_over look s.waiting) (over_seen (cell_any s.memo look) (cell_over s.memo) (cell_seen s.memo) s.cells no_fixes)
-      ∙ over_seen (row_any (λ w. w.fix)) _ (λ x f. put_seen x.key (some x.val.fix) f) s.waiting _
+      ∙ over_seen (row_any (λ w. w.fix)) _ (λ x f. put_seen x.key (Some x.val.fix) f) s.waiting _
 
 -- ---- the same list
 
@@ -274,8 +274,8 @@ sought-listed rect minute f = ap (both (covers rect f.place)) late
         (λ t. rw t (le-leb (minute - kept_minutes) f.minute (omega (arith, ltb-false (f.minute + kept_minutes) minute t))))
 
 list_if-seen : (rect : Rect) (minute r : ℕ) (o : Option Fix) (l : Rows Place) → list_if rect minute r o l ≡ put_row r (seen (sought rect minute) o) l
-list_if-seen rect minute r none l = refl
-list_if-seen rect minute r (some f) l =
+list_if-seen rect minute r None l = refl
+list_if-seen rect minute r (Some f) l =
     by_cases (listed rect minute f) (λ t. rw (t, sought-listed rect minute f ∙ t)) (λ t. rw (t, sought-listed rect minute f ∙ t))
 
 held_seen : (rect : Rect) (minute : ℕ) (f : Places) (g : Fixes) (l : Rows (Unit {0})) → Each (λ x. f x.key ≡ seen (sought rect minute) (g x.key)) l

@@ -18,8 +18,7 @@ use Rattle.rules.specs.Carry.{list_bytes, found, Outcome, answered}
 use Rattle.rules.specs.Told.{Told, told_list}
 use Rattle.rules.specs.WellFormed.{WellFormed, GoodCell}
 use Rattle.desk.specs.declared.Slot.{Slot}
-use Rattle.desk.specs.Held.{Directory, On, ledger_grid, ledger_waiting, ledger_memo, ledger_on}
-use Rattle.desk.specs.Held.{Ledger}
+use Rattle.desk.specs.Held.{Directory, On, ledger_grid, ledger_waiting, ledger_memo, ledger_on, Ledger}
 use Rattle.desk.specs.Layout.{slot_of, directory_of, grid_of, waiting_of, memo_of, on_of, ledger_of, Laid}
 use Rattle.desk.specs.Views.{slots_in, radios_of}
 use Rattle.desk.proofs.UniqueLaws.{take_slots}
@@ -28,7 +27,7 @@ use Rattle.memo.proofs.MemoLaws.{lines_are, count_is, well_memo}
 use Rattle.waiting.specs.Waiting.{reports_of}
 use Rattle.waiting.proofs.WaitingLaws.{reports_laid, count_laid}
 use Rattle.waiting.proofs.OnLaws.{radios_laid, count_on_laid}
-use Rattle.waiting.proofs.SlotsLaws.{length-slotted}
+use Rattle.desk.proofs.SlotsLaws.{length-slotted}
 use Rattle.page.specs.Buffer.{entries_on, entries_from}
 use Rattle.sweep.proofs.CellLaws.{Sweepable, well_sweep}
 use Rattle.range_places.specs.Places.{Sought, sought, Places, no_places, over, reports_over, slot_over, places_of, Readable}

@@ -1,6 +1,9 @@
 -- Range (01, "How a record is carried out"): which of the radios on are found, and the list that they give.
-use Rattle.std.specs.Prelude.{Bool, false, List, [], ◌∷◌, map, ℕ, get_or}
+use Rattle.std.specs.Prelude.{Bool, false, List, [], ◌∷◌, map, ℕ, get_or, Option, None, Some}
+use Rattle.lists.specs.Tests.{is_some}
 use Rattle.terms.specs.Terms.{Place}
+use Rattle.terms.specs.Values.{place_of}
+use Rattle.terms.specs.declared.Place.{Place as HeldPlace}
 use Rattle.lists.specs.Rows.{Row, Rows, put_row}
 use Rattle.desk.specs.Held.{Directory, Memo, On, Waiting}
 use Rattle.desk.specs.Views.{slots_in, radios_of}
@@ -8,16 +11,20 @@ use Rattle.memo.specs.Memo.{lines_of}
 use Rattle.waiting.specs.Waiting.{reports_of}
 use Rattle.range_places.specs.Places.{Places, Sought, places_of}
 
--- a radio that the table marks
-abbrev pub is_marked : List Bool → Row (Unit {0}) → Bool
-is_marked marks x = get_or marks x.key false
+-- a radio that has a place in the table
+abbrev pub is_marked : List (Option HeldPlace) → Row (Unit {0}) → Bool
+is_marked table x = is_some (get_or table x.key None)
 
--- a radio with what stands in the columns
-abbrev pub row_at : List ℕ → List ℕ → ℕ → Row Place
-row_at easts norths r = record { key = r; val = record { east = get_or easts r 0; north = get_or norths r 0 } }
+-- a radio with its place in the table
+abbrev pub place_or : Option HeldPlace → Place
+place_or None = record { east = 0; north = 0 }
+place_or (Some p) = place_of p
 
-unfoldable pub rows_at : List ℕ → List ℕ → Rows (Unit {0}) → Rows Place
-rows_at easts norths = map (λ x. row_at easts norths x.key)
+abbrev pub row_at : List (Option HeldPlace) → ℕ → Row Place
+row_at table r = record { key = r; val = place_or (get_or table r None) }
+
+unfoldable pub rows_at : List (Option HeldPlace) → Rows (Unit {0}) → Rows Place
+rows_at table = map (λ x. row_at table x.key)
 
 -- the list of those radios that have a place
 unfoldable pub list_held : Places → Rows (Unit {0}) → Rows Place

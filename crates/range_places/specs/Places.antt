@@ -1,7 +1,8 @@
 -- A place for each radio (01, "How a record is carried out"): that of its entry that isn't stale, over it a waiting report's, each as far as it lies in the
 -- rectangle, and the table by radio that holds them.
-use Rattle.std.specs.Prelude.{Bool, false, cond, List, [], ◌∷◌, ◌≡◌, ℕ, ◌-◌, ◌*◌, ◌≤◌, leb, length, get_or}
-use Rattle.std.proofs.Math.Option.{Option, none, some}
+use Rattle.std.specs.Prelude.{Bool, cond, List, [], ◌∷◌, ℕ, ◌-◌, ◌≤◌, leb, get_or, Option, None, Some, option_map}
+use Rattle.terms.specs.declared.Place.{Place as HeldPlace}
+use Rattle.terms.specs.Values.{place_of}
 use Rattle.terms.specs.Terms.{Place, Fix, max_radio}
 use Rattle.lists.specs.Rows.{Row, Rows, Rising, UpTo}
 use Rattle.lists.specs.Tests.{both, Each, either}
@@ -13,10 +14,9 @@ use Rattle.rules.specs.Sweep.{stale}
 use Rattle.rules.specs.Plain.{put_at}
 use Rattle.desk.specs.declared.Slot.{Slot}
 use Rattle.desk.specs.Held.{Directory, Memo, Waiting}
-use Rattle.desk.specs.Layout.{slot_fields, report_fields, line_fields, line_slots}
+use Rattle.desk.specs.Layout.{line_slots}
 use Rattle.desk.specs.Views.{slots_in, edges_of, rect_of}
 use Rattle.memo.specs.Memo.{lines_of}
-use Rattle.memo_index.specs.Index.{table_size}
 use Rattle.waiting.specs.Waiting.{reports_of}
 use Rattle.range_places.specs.declared.Search.{Search}
 
@@ -44,21 +44,11 @@ abbrev pub Places : Type 0
 Places = ℕ → Option Place
 
 unfoldable pub no_places : Places
-no_places r = none
+no_places r = None
 
--- the places in a table by radio: two columns of coordinates, and one that marks the radios which have a place
-unfoldable pub places_in : List ℕ → List ℕ → List Bool → Places
-places_in easts norths marks r = cond (get_or marks r false) (some (record { east = get_or easts r 0; north = get_or norths r 0 })) none
-
-pub record Columns (easts norths : List ℕ) (marks : List Bool) : Type 0 where
-  pub east : length easts ≡ table_size
-  pub north : length norths ≡ table_size
-  pub mark : length marks ≡ table_size
-
--- the table holds these places
-pub record Holds (easts norths : List ℕ) (marks : List Bool) (f : Places) : Type 0 where
-  pub columns : Columns easts norths marks
-  pub places : places_in easts norths marks ≡ f
+-- the places in a table by radio
+unfoldable pub places_in : List (Option HeldPlace) → Places
+places_in table r = option_map place_of (get_or table r None)
 
 -- ---- one over the other
 
@@ -69,12 +59,12 @@ over step (x ∷ l) f = over step l (step x f)
 
 -- the place of what is looked for; what is not has none
 abbrev pub seen : Sought → Option Fix → Option Place
-seen q none = none
-seen q (some f) = cond (is_sought q f) (some f.place) none
+seen q None = None
+seen q (Some f) = cond (is_sought q f) (Some f.place) None
 
 -- the radio of a row has the row's place, or none where that is not looked for, whatever it had
 abbrev pub row_over : {Val : Type 0} → Sought → (Val → Fix) → Row Val → Places → Places
-row_over q fix x f = put_at x.key (seen q (some (fix x.val))) f
+row_over q fix x f = put_at x.key (seen q (Some (fix x.val))) f
 
 -- an entry's place; a stale entry is passed over
 abbrev pub entry_over : (Row Fix → Bool) → Sought → Row Fix → Places → Places
@@ -103,12 +93,6 @@ unfoldable pub places_of : List ℕ → Sought → List Slot → Rows Line → R
 places_of b q slots memo waiting = reports_over q waiting (over (slot_over (stale memo) b q) slots no_places)
 
 -- ---- what is asked of desk and pages
-
--- arrays of the desk's lengths
-pub record Arrays (cells waiting memo : List ℕ) : Type 0 where
-  pub cell_words : length cells ≡ slot_fields * max_cells
-  pub report_words : length waiting ≡ report_fields * full_memory
-  pub line_words : length memo ≡ line_fields * line_slots
 
 -- counts within their slots, no radio above the greatest, and the memo's lines by rising radio
 pub record Readable (b : List ℕ) (cells : Directory) (waiting : Waiting) (memo : Memo) : Type 0 where

@@ -1,7 +1,6 @@
 -- What a record's bytes ask of a desk, or the number under which they are turned down (01, "Records and pages", "Turned down, in checking order").
-use Rattle.std.specs.Prelude.{Bool, true, false, cond, List, ℕ, ◌≤◌, ◌<◌, ◌≡◌, eqb, length}
-use Rattle.std.proofs.Math.Option.{Option, none, some}
-use Rattle.terms.specs.Terms.{Fix, fix_at, max_radio, max_on}
+use Rattle.std.specs.Prelude.{Bool, true, false, cond, List, ℕ, ◌≤◌, ◌<◌, ◌≡◌, eqb, length, Option, None, Some}
+use Rattle.terms.specs.Terms.{Fix, max_radio, max_on}
 use Rattle.lists.specs.Rows.{find}
 use Rattle.lists.specs.Tests.{is_some}
 use Rattle.rules.specs.Records.{Request, sign_on, report, sign_off, range, length_field, kind_field, length_of}
@@ -9,11 +8,13 @@ use Rattle.rules.specs.Store.{Store}
 use Rattle.rules.specs.Carry.{is_on, on_count}
 use Rattle.rules.specs.WellFormed.{InSquare}
 use Rattle.desk.specs.Held.{On}
-use Rattle.desk.specs.Views.{radios_of}
-use Rattle.records.specs.declared.Length.{Length}
-use Rattle.records.specs.declared.Length.TheVariants.{Bytes, NoSuchKind}
+use Rattle.desk.specs.Views.{radios_of, rect_of}
+use Rattle.std.specs.Prelude.{Result, Ok, Err}
+use Rattle.terms.specs.Values.{fix_of}
+use Rattle.terms.specs.Refusals.{number_of}
+use Rattle.terms.specs.declared.Refusal.{Refusal}
 use Rattle.records.specs.declared.Asked.{Asked}
-use Rattle.records.specs.declared.Asked.TheVariants.{SignOn, Report, SignOff, Range, Refused}
+use Rattle.records.specs.declared.Asked.TheVariants.{SignOn, Report, SignOff, Range}
 
 -- "its length in bytes, its kind"
 abbrev pub head_bytes : ℕ
@@ -29,14 +30,9 @@ place_end = 10
 abbrev pub rect_end : ℕ
 rect_end = 12
 
--- the length in each case, "and none for any other kind"
-abbrev pub length_in : Length → Option ℕ
-length_in (Bytes n) = some n
-length_in NoSuchKind = none
-
 -- the length is the one for its kind, and as many bytes are at hand: no fewer than a radio and what stands before it
 pub record Whole (b : List ℕ) : Type 0 where
-  pub long : length_of (kind_field b) ≡ some (length_field b)
+  pub long : length_of (kind_field b) ≡ Some (length_field b)
   pub there : length_field b ≤ length b
   pub least : radio_end ≤ length b
 
@@ -51,18 +47,22 @@ pub record Checked : Type 0 where
 
 -- "An accepted record carries number 0"
 abbrev pub asks : Request → Checked
-asks q = record { number = 0; request = some q }
+asks q = record { number = 0; request = Some q }
 
 abbrev pub fails : ℕ → Checked
-fails n = record { number = n; request = none }
+fails n = record { number = n; request = None }
 
--- the number and the values of each case: "radio, east, north", "radio", "west, east, south, north", and the minute
-abbrev pub asked_of : Asked → Checked
-asked_of (SignOn r e n m) = asks (sign_on r (fix_at e n m))
-asked_of (Report r e n m) = asks (report r (fix_at e n m))
-asked_of (SignOff r m) = asks (sign_off r m)
-asked_of (Range w e s n m) = asks (range (record { easts = record { low = w; high = e }; norths = record { low = s; high = n } }) m)
-asked_of (Refused n) = fails n
+-- the values of each case: "radio, east, north", "radio", "west, east, south, north", and the minute
+abbrev pub asked_in : Asked → Request
+asked_in (SignOn r f) = sign_on r (fix_of f)
+asked_in (Report r f) = report r (fix_of f)
+asked_in (SignOff r m) = sign_off r m
+asked_in (Range a m) = range (rect_of a) m
+
+-- what is asked, or the number of the check that fails
+abbrev pub asked_of : Result Asked Refusal → Checked
+asked_of (Ok a) = asks (asked_in a)
+asked_of (Err e) = fails (number_of e)
 
 -- under number 0 the request is carried out, under any other the record is turned down
 unfoldable pub checked : ℕ → Request → Checked

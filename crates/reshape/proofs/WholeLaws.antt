@@ -1,9 +1,9 @@
 -- Which way d goes, in the words of the calls.
 use mathlib.Core.Bool.{true, false}
 use mathlib.Core.List.{List, ◌∷◌, ◌++◌, map}
-use mathlib.Core.Option.{some}
+use Rattle.std.specs.Prelude.{Option, None, Some, option_map}
 use mathlib.Core.Path.{◌≡◌, sym, ap, ap₂, subst, ◌∙◌}
-use Prim.Native.Nat.{ℕ, suc, ◌-◌, ◌*◌, ◌≤◌, ◌<◌}
+use Prim.Native.Nat.{ℕ, suc, ◌-◌, ◌≤◌, ◌<◌}
 use native.Mathlib.Omega.{arith}
 use lib.Dec.{ltb}
 use lib.ListN.{length, take, drop, get_or, length-take}
@@ -24,26 +24,23 @@ use Rattle.rules.proofs.NeighbourLaws.{neighbour-Near}
 use Rattle.desk.specs.declared.Frame.{Frame}
 use Rattle.desk.specs.declared.Slot.{Slot}
 use Rattle.desk.specs.Held.{Directory, Grid, Memo, directory_in, grid_in}
-use Rattle.desk.specs.Layout.{no_slot, slot_fields, cut_list_of, slot_of, grid_of}
-use Rattle.desk.specs.Views.{every_slot, cuts_by, slots_in, directory_with, edges_of}
+use Rattle.desk.specs.Layout.{no_slot, cut_list_of, slot_of, grid_of}
+use Rattle.desk.specs.Views.{cuts_by, slots_in, directory_with, edges_of}
 use Rattle.desk.proofs.UniqueLaws.{cuts_Laid}
 use Rattle.desk.specs.Laid.{LaidGrid, LaidMemo}
-use Rattle.cut.specs.Choice.{cut_at, choice_of}
-use Rattle.cut.specs.declared.CutChoice.{CutChoice}
-use Rattle.cut.specs.declared.CutChoice.TheVariants.{At, NoCut}
-use Rattle.directory.proofs.CellLaws.{slots_at, whole_size}
+use Rattle.cut.specs.Choice.{cut_of}
+use Rattle.cut.specs.declared.Cut.{Cut as CodeCut}
+use Rattle.directory.proofs.CellLaws.{slots_at}
 use Rattle.directory.specs.Directory.{Stands}
 use Rattle.directory.proofs.DirectoryLaws.{directory_slots, directory_count, cuts_count, Stands_index}
 use Rattle.settle.proofs.SettleLaws.{CellAt, chains_of}
-use Rattle.join.specs.declared.Neighbour.{Neighbour}
-use Rattle.join.specs.declared.Neighbour.TheVariants.{At as Beside, Nobody}
-use Rattle.join.specs.Join.{neighbour_of, nearest}
+use Rattle.join.specs.Join.{HasPage, nearest}
 use Rattle.join.proofs.NeighbourLaws.{first-pages, neighbour_at, neighbour-none}
 use Rattle.cell_last.specs.Settling.{BeforeReshape, BeforeSettle, BeforeLast, moved_last}
 use Rattle.cell_split.specs.Splitting.{BeforeSplit}
 use Rattle.cell_join.specs.Joining.{BeforeJoin}
 use Rattle.cell_last.proofs.MidwayLaws.{d_Apart, midway_loose, midway_slot, grown_Laid}
-use Rattle.cell_last.proofs.MovedLaws.{get_or_middle, loose_in, loose_reads, settles_out, hand_puts}
+use Rattle.cell_last.proofs.MovedLaws.{get_or_middle, loose_in, settles_out}
 use Rattle.reshape.proofs.ReshapeLaws.{full_grown, uncut_grown, cut_split, lone_grown, near_joined}
 
 Stands_get_or : {A : Type 0} (l : List A) (c z : A) (k : ℕ) → k < length l → l ≡ take k l ++ (c ∷ drop (suc k) l) → get_or l k z ≡ c
@@ -54,10 +51,7 @@ module _ {grid : Grid} {at : ℕ} {chain : List ℕ} {rows : Rows Fix} {memo : M
   abbrev f : Flushed
   f = x.flushed
 
-  pub midway_reads : (at < max_cells) × (length grid.cells.words ≡ slot_fields * max_cells)
-  midway_reads = loose_reads (midway_loose x)
-
-  d_slot : {d : Slot} → d ≡ get_or (every_slot grid.cells.words) at no_slot → d ≡ slot_of f.cell
+  d_slot : {d : Slot} → d ≡ get_or grid.cells.slots at no_slot → d ≡ slot_of f.cell
   d_slot e = e ∙ sym (slots_at grid.cells at (loose_in (midway_loose x))) ∙ midway_slot x
 
   pub count_cells : grid.cells.n ≡ length f.store.cells
@@ -84,8 +78,8 @@ module _ {grid : Grid} {at : ℕ} {chain : List ℕ} {rows : Rows Fix} {memo : M
     omega (arith, cuts_count f.store.cuts.norths norths_held, x.mid.tiled.few_cuts northward),
   )
 
-  pub chosen : {d : Slot} (o : CutChoice) → d ≡ get_or (every_slot grid.cells.words) at no_slot → choice_of o ≡ chosen_cut (cuts_by grid.easts grid.norths) (edges_of d) rows
-      → chosen_cut f.store.cuts f.cell.edges f.cell.entries ≡ choice_of o
+  pub chosen : {d : Slot} (o : Option CodeCut) → d ≡ get_or grid.cells.slots at no_slot → option_map cut_of o ≡ chosen_cut (cuts_by grid.easts grid.norths) (edges_of d) rows
+      → chosen_cut f.store.cuts f.cell.edges f.cell.entries ≡ option_map cut_of o
   chosen o read e =
       let cuts : cuts_by grid.easts grid.norths ≡ f.store.cuts = ap₂ (λ (l m : List ℕ). record { easts = l; norths = m }) (cuts_Laid easts_held) (cuts_Laid norths_held) in
       sym (e ∙ ap₂ (λ (c : Cuts) (p : Rect × Rows Fix). chosen_cut c p.0 p.1) cuts (ap₂ (λ (r : Rect) (l : Rows Fix). (r, l)) (ap edges_of (d_slot read)) x.entered))
@@ -101,23 +95,22 @@ module _ {grid : Grid} {at : ℕ} {chain : List ℕ} {rows : Rows Fix} {memo : M
       less : ltb (length f.store.cells) max_cells ≡ true
       less = lt-ltb (length f.store.cells) max_cells (omega (arith, few, count_cells))
 
-      pub uncut_returns : {g : Grid} {b' : List ℕ} {d : Slot} {o : CutChoice} → d ≡ get_or (every_slot grid.cells.words) at no_slot → choice_of o ≡ chosen_cut (cuts_by grid.easts grid.norths) (edges_of d) rows → o ≡ NoCut
-          → ((y : BeforeSettle grid at chain rows b) → LaidGrid (moved_last y.store (y.before ++ y.after) y.cell) g b') → LaidMemo (reshaped f) g memo b'
-      uncut_returns {o = o} read e n l = grew (uncut_grown f many less (chosen o read e ∙ ap choice_of n)) (l (midway_loose x))
+      module _ {d : Slot} {o : Option CodeCut} (read : d ≡ get_or grid.cells.slots at no_slot) (said : option_map cut_of o ≡ chosen_cut (cuts_by grid.easts grid.norths) (edges_of d) rows) where
+        pub uncut_returns : {g : Grid} {b' : List ℕ} → o ≡ None → ((y : BeforeSettle grid at chain rows b) → LaidGrid (moved_last y.store (y.before ++ y.after) y.cell) g b') → LaidMemo (reshaped f) g memo b'
+        uncut_returns n l = grew (uncut_grown f many less (chosen o read said ∙ ap (option_map cut_of) n)) (l (midway_loose x))
 
-      abbrev pub splits : (axis cut : ℕ) {d : Slot} {o : CutChoice} → d ≡ get_or (every_slot grid.cells.words) at no_slot → choice_of o ≡ chosen_cut (cuts_by grid.easts grid.norths) (edges_of d) rows → o ≡ At axis cut
-          → BeforeSplit grid at chain rows axis cut b
-      splits axis cut {o = o} read e n = record { memo = memo; midway = x; few = omega (arith, few, count_cells); chosen = chosen o read e ∙ ap choice_of n }
+        module _ (cut : CodeCut) (found : o ≡ Some cut) where
+          abbrev pub splits : BeforeSplit grid at chain rows (cut_of cut) b
+          splits = record { memo = memo; midway = x; few = omega (arith, few, count_cells); chosen = chosen o read said ∙ ap (option_map cut_of) found }
 
-      pub split_returns : (axis cut : ℕ) {g : Grid} {b' : List ℕ} {d : Slot} {o : CutChoice} → d ≡ get_or (every_slot grid.cells.words) at no_slot → choice_of o ≡ chosen_cut (cuts_by grid.easts grid.norths) (edges_of d) rows → o ≡ At axis cut
-          → ((y : BeforeSplit grid at chain rows axis cut b) → LaidGrid (split_at (cut_at axis cut) y.midway.flushed) g b') → LaidMemo (reshaped f) g memo b'
-      unfolding split_at
-      split_returns axis cut {o = o} read e n l = rw (cut_split f many less (cut_at axis cut) (chosen o read e ∙ ap choice_of n)) (record { in_grid = l (splits axis cut read e n); memo_is = x.laid.memo_is })
+          pub split_returns : {g : Grid} {b' : List ℕ} → ((y : BeforeSplit grid at chain rows (cut_of cut) b) → LaidGrid (split_at (cut_of cut) y.midway.flushed) g b') → LaidMemo (reshaped f) g memo b'
+          unfolding split_at
+          split_returns l = rw (cut_split f many less (cut_of cut) (chosen o read said ∙ ap (option_map cut_of) found)) (record { in_grid = l splits; memo_is = x.laid.memo_is })
 
 -- ---- at most a page of entries: d's slot is taken out of the round
 
-module _ (frame : Frame) {ws : List ℕ} {at : ℕ} {chain : List ℕ} {rows : Rows Fix} {memo : Memo} {b : List ℕ} (x : BeforeReshape (grid_in frame ws) at chain rows memo b)
-    {d : Slot} {vs : List ℕ} (read : d ≡ get_or (every_slot ws) at no_slot) (taken : directory_in (frame.cells - 1) vs ≡ directory_with (remove_at (slots_in (directory_in frame.cells ws)) at)) where
+module _ (frame : Frame) {ws : List Slot} {at : ℕ} {chain : List ℕ} {rows : Rows Fix} {memo : Memo} {b : List ℕ} (x : BeforeReshape (grid_in frame ws) at chain rows memo b)
+    {d : Slot} {vs : List Slot} (read : d ≡ get_or ws at no_slot) (taken : directory_in (frame.cells - 1) vs ≡ directory_with (remove_at (slots_in (directory_in frame.cells ws)) at)) where
   abbrev cells : List Cell
   cells = x.before ++ x.after
 
@@ -142,16 +135,8 @@ module _ (frame : Frame) {ws : List ℕ} {at : ℕ} {chain : List ℕ} {rows : R
   rest_slots : slots_in others ≡ map slot_of cells
   rest_slots = directory_slots cells lasts.out.rest_is
 
-  pub lone_asks : {n : ℕ} → n ≡ length rows → length rows ≤ page_entries
-      → (length b ≡ buffer_bytes) × (n ≤ max_on) × (frame.cells - 1 ≤ max_cells) × (length vs ≡ slot_fields * max_cells) × Each (λ s. s.first < pages) (slots_in (directory_in (frame.cells - 1) vs))
-  lone_asks e few =
-      let p = hand_puts lasts in (
-        x.laid.in_grid.laid.size,
-        omega (arith, e, few),
-        omega (arith, p.1),
-        whole_size p.0 (omega (arith, p.1)),
-        first-pages (slots_in others) cells rest_slots cells_below cells_paged,
-      )
+  pub lone_asks : {n : ℕ} → n ≡ length rows → length rows ≤ page_entries → (length b ≡ buffer_bytes) × (n ≤ max_on) × Each HasPage (slots_in others)
+  lone_asks e few = (x.laid.in_grid.laid.size, omega (arith, e, few), first-pages (slots_in others) cells rest_slots cells_below cells_paged)
 
   module _ {n : ℕ} (is_n : n ≡ length rows) (few : length rows ≤ page_entries) where
     small : ltb page_entries (length x.flushed.cell.entries) ≡ false
@@ -163,16 +148,16 @@ module _ (frame : Frame) {ws : List ℕ} {at : ℕ} {chain : List ℕ} {rows : R
     count_d : n ≡ length x.flushed.cell.entries
     count_d = is_n ∙ ap length x.entered
 
-    module _ {o : Neighbour} (found : neighbour_of o ≡ nearest b (slots_in (directory_in (frame.cells - 1) vs)) d n) where
-      pub lone_returns : {g : Grid} {b' : List ℕ} → o ≡ Nobody
+    module _ {o : Option ℕ} (found : o ≡ nearest b (slots_in (directory_in (frame.cells - 1) vs)) d n) where
+      pub lone_returns : {g : Grid} {b' : List ℕ} → o ≡ None
           → ((y : BeforeLast frame vs d chain rows b) → LaidGrid (moved_last y.settles.store (y.settles.before ++ y.settles.after) y.settles.cell) g b') → LaidMemo (reshaped x.flushed) g memo b'
       lone_returns e l = grew x (lone_grown x.flushed small (neighbour-none b d n x.flushed edges count_d (slots_in others) cells x.mid.rest rest_slots cells_laid cells_paged found e)) (l lasts)
 
-      module _ (k : ℕ) (at_k : o ≡ Beside k) where
+      module _ (k : ℕ) (at_k : o ≡ Some k) where
         abbrev pub near : Cell
         near = get_or cells k x.d
 
-        pub near_at : (k < length cells) × (neighbour x.flushed ≡ some near)
+        pub near_at : (k < length cells) × (neighbour x.flushed ≡ Some near)
         near_at = neighbour_at b d n x.flushed edges count_d (slots_in others) cells x.mid.rest rest_slots cells_laid cells_paged found k x.d at_k
 
         pub standing : Stands others cells near k

@@ -2,132 +2,71 @@
 // the round.
 #![tactic(auto)]
 
-ghost use Rattle.std.specs.Prelude.{◌≡◌, ◌<◌, ◌≤◌, length};
-ghost use Rattle.terms.specs.Terms.{max_on, pages, page_entries};
-ghost use Rattle.entries.specs.Entries.{table_with, table_words, rows_of};
-ghost use Rattle.rules.specs.Cut.{chosen_cut};
-ghost use Rattle.rules.specs.Limits.{max_cuts};
-ghost use Rattle.desk.specs.Views.{cuts_by, edges_of};
-ghost use Rattle.cut.specs.Choice.{choice_of};
+ghost use Rattle.std.specs.Prelude.{◌<◌, ◌≤◌, length};
+ghost use Rattle.terms.specs.Terms.{page_entries};
 ghost use Rattle.page.specs.Buffer.{pages_of};
 ghost use Rattle.rules.specs.Flush.{reshaped};
 ghost use Rattle.desk.specs.Laid.{LaidMemo};
-ghost use Rattle.desk.specs.Held.{grid_in, memo_in};
-ghost use Rattle.cell_last.specs.Settling.{HandFits, BeforeReshape};
-ghost use Rattle.reshape.specs.Reshape.{BeforeSplitOrGrow};
+ghost use Rattle.cell_last.specs.Settling.{HandFits, desk_grid, desk_memo, CellsChanged, BeforeReshape};
 
-use cell_last::Reshaped;
-use cut::CutChoice;
-use desk::{CutList, Desk, Frame, Slot};
-use entries::TABLE_WORDS;
-use join::Neighbour;
+use desk::Desk;
+use entries::Table;
 use page::Chain;
 use terms::PAGE_ENTRIES;
-
-// The cut of d, if there is one. The places of its entries are lent column by column, as the table has them.
-fn chosen_cut(
-    easts: CutList,
-    norths: CutList,
-    d: Slot,
-    table: &[u16; TABLE_WORDS],
-    n: usize,
-) -> CutChoice
-    requires { (n ≤ max_on) × (length table.now ≡ table_words) × (easts.n ≤ max_cuts) × (norths.n ≤ max_cuts) }
-    ensures { choice_of result ≡ chosen_cut (cuts_by easts norths) (edges_of d) (rows_of (table_with n table.now)) }
-{
-    let eastings = entries::easts(table);
-    let northings = entries::norths(table);
-    cut::chosen_cut(easts, norths, d, n, eastings, northings)
-}
 
 // ---- split, joined or left
 
 // "when d has more than 32 entries": split, if there are "fewer than 64 cells" and a cut is found; else "d grows its chain".
-fn split_or_grown(
-    buffer: &mut [u8],
-    frame: Frame,
-    cells: &mut [u16; Desk::CELL_WORDS],
-    at: usize,
-    chain: Chain,
-    table: &mut [u16; TABLE_WORDS],
-    count: usize,
-) -> Frame
-    requires { HandFits chain count table.old × (page_entries < length (rows_of (table_with count table.old)))
-        × BeforeSplitOrGrow (grid_in frame cells.old) at (pages_of chain) (rows_of (table_with count table.old)) buffer.old }
-    ensures { (x : BeforeSplitOrGrow (grid_in frame cells.old) at (pages_of chain) (rows_of (table_with count table.old))
-        buffer.old)
-        → LaidMemo (reshaped x.midway.flushed) (grid_in result cells.new) x.memo buffer.new }
+fn split_or_grown(desk: &mut Desk, pages: &mut [u8], at: usize, chain: Chain, table: &Table)
+    requires { HandFits chain × (page_entries < length table.now)
+        × BeforeReshape (desk_grid desk.old) at (pages_of chain) table.now (desk_memo desk.old) pages.old }
+    ensures kept { CellsChanged desk.old desk.new }
+    ensures laid { (x : BeforeReshape (desk_grid desk.old) at (pages_of chain) table.now (desk_memo desk.old) pages.old)
+        → LaidMemo (reshaped x.flushed) (desk_grid desk.new) (desk_memo desk.new) pages.new }
 {
+    let frame = desk.parts.frame;
     if Desk::MAX_CELLS <= frame.cells as usize {
-        return cell_last::settled_last(buffer, frame, cells, at, chain, table, count);
+        desk.parts.frame = cell_last::settled_last(pages, frame, &mut desk.cells, at, chain, table);
+        return;
     }
-    let d = desk::slot_at(cells, at);
-    let easts = frame.easts;
-    let norths = frame.norths;
-    let CutChoice::At(axis, cut) = chosen_cut(easts, norths, d, table, count) else {
-        return cell_last::settled_last(buffer, frame, cells, at, chain, table, count);
+    let d = desk.cells[at];
+    let Some(cut) = cut::chosen_cut(frame.easts, frame.norths, d, table.as_slice()) else {
+        desk.parts.frame = cell_last::settled_last(pages, frame, &mut desk.cells, at, chain, table);
+        return;
     };
-    cell_split::split(buffer, frame, cells, at, chain, table, count, axis, cut)
+    desk.parts.frame = cell_split::split(pages, frame, &mut desk.cells, at, chain, table, cut);
 }
 
 // "after a flush that left d at most 32 entries": joined, if a cell beside it may be. d is taken out of the round first, so that the others are looked through.
-fn joined_or_grown(
-    buffer: &mut [u8],
-    frame: Frame,
-    cells: &mut [u16; Desk::CELL_WORDS],
-    at: usize,
-    chain: Chain,
-    table: &mut [u16; TABLE_WORDS],
-    count: usize,
-    words: &mut [u16; Desk::MEMO_WORDS],
-    lines: u16,
-) -> Reshaped
-    requires { (chain.n ≤ pages) × (count ≡ length (rows_of (table_with count table.old))) × (length (rows_of (table_with count table.old)) ≤ page_entries)
-        × BeforeReshape (grid_in frame cells.old) at (pages_of chain) (rows_of (table_with count table.old)) (memo_in lines words.old) buffer.old
-        × (length table.old ≡ table_words) }
-    ensures { (x : BeforeReshape (grid_in frame cells.old) at (pages_of chain) (rows_of (table_with count table.old))
-        (memo_in lines words.old) buffer.old)
-        → LaidMemo (reshaped x.flushed) (grid_in result.frame cells.new) (memo_in result.lines words.new) buffer.new }
+fn joined_or_grown(desk: &mut Desk, pages: &mut [u8], at: usize, chain: Chain, table: &mut Table)
+    requires { HandFits chain × (length table.old ≤ page_entries)
+        × BeforeReshape (desk_grid desk.old) at (pages_of chain) table.old (desk_memo desk.old) pages.old }
+    ensures kept { CellsChanged desk.old desk.new }
+    ensures laid { (x : BeforeReshape (desk_grid desk.old) at (pages_of chain) table.old (desk_memo desk.old) pages.old)
+        → LaidMemo (reshaped x.flushed) (desk_grid desk.new) (desk_memo desk.new) pages.new }
 {
-    let d = desk::slot_at(cells, at);
-    let n = frame.cells;
-    directory::take_out(cells, n, at);
-    let Neighbour::At(k) = join::find_neighbour(buffer, cells, n - 1, d, count) else {
-        let grown = cell_last::hand_last(buffer, frame, cells, d, chain, table, count);
-        return Reshaped {
-            frame: grown,
-            lines,
-        };
+    let frame = desk.parts.frame;
+    let d = desk.cells[at];
+    directory::take_out(&mut desk.cells, frame.cells, at);
+    let others = frame.cells - 1;
+    let Some(k) = join::find_neighbour(pages, &desk.cells[..others as usize], d, table.len()) else {
+        desk.parts.frame = cell_last::hand_last(pages, frame, &mut desk.cells, d, chain, table);
+        return;
     };
-    cell_join::join(
-        buffer, frame, cells, d, k, chain, table, count, words, lines,
-    )
+    cell_join::join(desk, pages, d, k, chain, table);
 }
 
 // d, with the reports in it, is split, joined, or keeps to itself; it goes to the end of the round with the pages that it needs.
-pub fn reshape(
-    buffer: &mut [u8],
-    frame: Frame,
-    cells: &mut [u16; Desk::CELL_WORDS],
-    at: usize,
-    chain: Chain,
-    table: &mut [u16; TABLE_WORDS],
-    count: usize,
-    words: &mut [u16; Desk::MEMO_WORDS],
-    lines: u16,
-) -> Reshaped
-    requires { HandFits chain count table.old × (count ≡ length (rows_of (table_with count table.old)))
-        × BeforeReshape (grid_in frame cells.old) at (pages_of chain) (rows_of (table_with count table.old)) (memo_in lines words.old) buffer.old }
-    ensures { (x : BeforeReshape (grid_in frame cells.old) at (pages_of chain) (rows_of (table_with count table.old))
-        (memo_in lines words.old) buffer.old)
-        → LaidMemo (reshaped x.flushed) (grid_in result.frame cells.new) (memo_in result.lines words.new) buffer.new }
+pub fn reshape(desk: &mut Desk, pages: &mut [u8], at: usize, chain: Chain, table: &mut Table)
+    requires { HandFits chain
+        × BeforeReshape (desk_grid desk.old) at (pages_of chain) table.old (desk_memo desk.old) pages.old }
+    ensures kept { CellsChanged desk.old desk.new }
+    ensures laid { (x : BeforeReshape (desk_grid desk.old) at (pages_of chain) table.old (desk_memo desk.old) pages.old)
+        → LaidMemo (reshaped x.flushed) (desk_grid desk.new) (desk_memo desk.new) pages.new }
 {
-    if PAGE_ENTRIES < count {
-        let shape = split_or_grown(buffer, frame, cells, at, chain, table, count);
-        return Reshaped {
-            frame: shape,
-            lines,
-        };
+    if PAGE_ENTRIES < table.len() {
+        split_or_grown(desk, pages, at, chain, table);
+        return;
     }
-    joined_or_grown(buffer, frame, cells, at, chain, table, count, words, lines)
+    joined_or_grown(desk, pages, at, chain, table);
 }

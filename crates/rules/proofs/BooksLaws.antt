@@ -2,7 +2,7 @@
 use mathlib.Core.Path.{◌≡◌, refl, sym, ap, ◌∙◌, subst}
 use mathlib.Core.Bool.{Bool, true, false, not, cond}
 use mathlib.Core.List.{List, [], ◌∷◌, ◌++◌}
-use mathlib.Core.Option.{Option, none, some}
+use Rattle.std.specs.Prelude.{Option, None, Some}
 use Prim.Native.Nat.{ℕ, suc, ◌+◌, ◌-◌, ◌≤◌, ◌<◌}
 use native.Mathlib.Omega.{arith}
 use lib.Dec.{eqb, ltb}
@@ -40,8 +40,8 @@ abbrev held_c : ℕ → Cell → ℕ
 held_c r c = count_if (λ _. true) (find c.entries r)
 
 count_split : (t : Fix → Bool) (x : Option Fix) → count_if (λ p. not (t p)) x + count_if t x ≡ count_if (λ _. true) x
-count_split t none = refl
-count_split t (some p) = by_cases (t p) (λ e. rw e) (λ e. rw e)
+count_split t None = refl
+count_split t (Some p) = by_cases (t p) (λ e. rw e) (λ e. rw e)
 
 -- every count of a step is this, before and after
 live_stale : (o : Option Line) (r : ℕ) (cells : List Cell) → sum_by (live_c o r) cells + sum_by (stale_c o r) cells ≡ sum_by (held_c r) cells
@@ -51,20 +51,20 @@ judged_by : {o u : Option Line} (f : Fix) → u ≡ o → stale_by u f ≡ stale
 judged_by p e = ap (λ o. stale_by o p) e
 
 pub count_passed : (t : Fix → Bool) (u : Row Fix → Bool) (r : ℕ) (x : Option Fix) → count_if t (passed u r x) + count_if t (passed (λ e. not (u e)) r x) ≡ count_if t x
-count_passed t u r none = refl
-count_passed t u r (some p) = by_cases (u (record { key = r; val = p })) (λ e. rw e (omega arith)) (λ e. rw e (omega arith))
+count_passed t u r None = refl
+count_passed t u r (Some p) = by_cases (u (record { key = r; val = p })) (λ e. rw e (omega arith)) (λ e. rw e (omega arith))
 
-count_zero : (t : Fix → Bool) (x : Option Fix) (f : Fix) → count_if t x ≡ 0 → x ≡ some f → t f ≡ false
+count_zero : (t : Fix → Bool) (x : Option Fix) (f : Fix) → count_if t x ≡ 0 → x ≡ Some f → t f ≡ false
 count_zero t x p z e = one_if-false (t p) (sym (ap (count_if t) e) ∙ z)
 
 -- two tests that judge the entry alike count alike
-count_same : (t u : Fix → Bool) (x : Option Fix) → ((f : Fix) → x ≡ some f → t f ≡ u f) → count_if t x ≡ count_if u x
-count_same t u none h = refl
-count_same t u (some p) h = ap one_if (h p refl)
+count_same : (t u : Fix → Bool) (x : Option Fix) → ((f : Fix) → x ≡ Some f → t f ≡ u f) → count_if t x ≡ count_if u x
+count_same t u None h = refl
+count_same t u (Some p) h = ap one_if (h p refl)
 
 held_found : (x : Option Fix) → count_if (λ _. true) x ≡ one_if (is_some x)
-held_found none = refl
-held_found (some p) = refl
+held_found None = refl
+held_found (Some p) = refl
 
 -- the books of one radio, by its line, its mark and whether it is on
 record Book (cells : List Cell) (r : ℕ) (o : Option Line) (n b : Bool) : Type 0 where
@@ -77,7 +77,7 @@ module _ {cells : List Cell} {memo : Rows Line} {new on : ℕ → Bool} where
   Book_of b r = record { counted = b.counted r; present = b.present r }
 
   Books_from : Each Rowed cells → ((p : Place) → sum_by (λ c. one_if (inside c.edges p)) cells ≤ 1) → Rising 0 memo → UpTo max_radio memo →
-      ((r : ℕ) (l : Line) → find memo r ≡ some l → (1 ≤ l.missed) × InSquareIf l.last) → ((r : ℕ) → Book cells r (find memo r) (new r) (on r)) → Books cells memo new on
+      ((r : ℕ) (l : Line) → find memo r ≡ Some l → (1 ≤ l.missed) × InSquareIf l.last) → ((r : ℕ) → Book cells r (find memo r) (new r) (on r)) → Books cells memo new on
   unfolding stale_r live_of
   Books_from rowed apart rises radios lines book = record {
     cells_rowed = rowed;
@@ -157,11 +157,11 @@ Books_ext h k b =
 
 -- ---- clean cells
 
-Clean-find : (memo : Rows Line) (c : Cell) → Rowed c → ((r : ℕ) (f : Fix) → find c.entries r ≡ some f → stale_by (find memo r) f ≡ false) → Clean memo c
+Clean-find : (memo : Rows Line) (c : Cell) → Rowed c → ((r : ℕ) (f : Fix) → find c.entries r ≡ Some f → stale_by (find memo r) f ≡ false) → Clean memo c
 unfolding stale_in
 Clean-find memo c k h = sum_zero_find (λ e. one_if (stale memo e)) 0 c.entries k.rising (λ r p e. ap one_if (h r p e))
 
-pub find-Clean : (memo : Rows Line) (c : Cell) → Rowed c → Clean memo c → (r : ℕ) (f : Fix) → find c.entries r ≡ some f → stale_by (find memo r) f ≡ false
+pub find-Clean : (memo : Rows Line) (c : Cell) → Rowed c → Clean memo c → (r : ℕ) (f : Fix) → find c.entries r ≡ Some f → stale_by (find memo r) f ≡ false
 unfolding stale_in
 find-Clean memo c k clean r p e =
     Each-find (λ r p. stale_by (find memo r) p ≡ false) r p c.entries
@@ -173,7 +173,7 @@ Clean_count memo c k clean r =
 
 -- two memos that judge a cell's entries alike
 abbrev Judges : Rows Line → Rows Line → Cell → Type 0
-Judges memo memo' c = (r : ℕ) (f : Fix) → find c.entries r ≡ some f → stale_by (find memo' r) f ≡ stale_by (find memo r) f
+Judges memo memo' c = (r : ℕ) (f : Fix) → find c.entries r ≡ Some f → stale_by (find memo' r) f ≡ stale_by (find memo r) f
 
 judged_stale : (memo memo' : Rows Line) (c : Cell) → Rowed c → Judges memo memo' c → stale_in memo' c ≡ stale_in memo c
 unfolding stale_in
@@ -185,8 +185,8 @@ judged_stale memo memo' c k h =
 
 -- a line is lowered where an entry goes
 abbrev pub lowered_if : Option Fix → Option Line → Option Line
-lowered_if none o = o
-lowered_if (some f) o = lowered o
+lowered_if None o = o
+lowered_if (Some f) o = lowered o
 
 find-lower_each : (r b : ℕ) (es : Rows Fix) (memo : Rows Line) → Rising b es → Rising 0 memo → find (lower_each es memo) r ≡ lowered_if (find es r) (find memo r)
 unfolding lower_each find
@@ -208,22 +208,22 @@ unfolding lower_each
 UpTo-lower_each n [] memo u v = v
 UpTo-lower_each n (e ∷ es) memo u v = UpTo-lower_each n es (alter lowered e.key memo) u.1 (UpTo-alter lowered n e.key memo u.0 v)
 
-lowered_line : (o : Option Line) (l : Line) → ((m : Line) → o ≡ some m → InSquareIf m.last) → lowered o ≡ some l → (1 ≤ l.missed) × InSquareIf l.last
-lowered_line none l h = none-some
-lowered_line (some m) l h =
+lowered_line : (o : Option Line) (l : Line) → ((m : Line) → o ≡ Some m → InSquareIf m.last) → lowered o ≡ Some l → (1 ≤ l.missed) × InSquareIf l.last
+lowered_line None l h = none-some
+lowered_line (Some m) l h =
     by_cases (ltb 1 m.missed)
     (λ t. rw t (λ e. let q : ◌≡◌ {A = Line} (record { missed = m.missed - 1; last = m.last }) l = cc in
     (let a = ap (λ (x : Line). x.missed) q in omega (arith, ltb-true), subst (λ (x : Line). InSquareIf x.last) q (h m refl))))
     (λ t. rw t none-some)
 
 lowered_missed : (o : Option Line) → 1 ≤ missed_of o → missed_of (lowered o) + 1 ≡ missed_of o
-lowered_missed none = λ h. absurd (omega arith)
-lowered_missed (some l) = λ h. by_cases (ltb 1 l.missed) (λ t. rw t (omega (arith, ltb-true))) (λ t. rw t (omega (arith, ltb-false)))
+lowered_missed None = λ h. absurd (omega arith)
+lowered_missed (Some l) = λ h. by_cases (ltb 1 l.missed) (λ t. rw t (omega (arith, ltb-true))) (λ t. rw t (omega (arith, ltb-false)))
 
 -- a line that is lowered and not dropped judges as before; one that is dropped was the last
 lowered_Judges : (o : Option Line) (f : Fix) → (missed_of o ≤ 1 → stale_by o f ≡ false) → stale_by (lowered o) f ≡ stale_by o f
-lowered_Judges none p h = refl
-lowered_Judges (some l) p h = by_cases (ltb 1 l.missed) (λ t. rw t) (λ t. rw t (sym (h (omega (arith, ltb-false)))))
+lowered_Judges None p h = refl
+lowered_Judges (Some l) p h = by_cases (ltb 1 l.missed) (λ t. rw t) (λ t. rw t (sym (h (omega (arith, ltb-false)))))
 
 pub find-swept_memo : (memo : Rows Line) (es : Rows Fix) → Rising 0 memo → Rising 0 es → (r : ℕ) → find (swept_memo memo es) r ≡ lowered_if (passed (stale memo) r (find es r)) (find memo r)
 unfolding swept_memo
@@ -244,25 +244,25 @@ Rowed-swept memo d k = record {
 
 module _ {memo : Rows Line} {new on : ℕ → Bool} (d : Cell) (rest : List Cell) (b : Books (d ∷ rest) memo new on) where
   -- the three ways of a radio in the swept cell: no entry, a live one, a stale one
-  swept_lacks : (r : ℕ) → find d.entries r ≡ none → (find (swept memo d).entries r ≡ none) × (find (swept_memo memo d.entries) r ≡ find memo r)
+  swept_lacks : (r : ℕ) → find d.entries r ≡ None → (find (swept memo d).entries r ≡ None) × (find (swept_memo memo d.entries) r ≡ find memo r)
   swept_lacks r e = (rw (find-swept memo d b.cells_rowed.0.rising r, e), rw (find-swept_memo memo d.entries b.memo_rises b.cells_rowed.0.rising r, e))
 
-  swept_keeps : (r : ℕ) (f : Fix) → find d.entries r ≡ some f → stale_by (find memo r) f ≡ false
-      → (find (swept memo d).entries r ≡ some f) × (find (swept_memo memo d.entries) r ≡ find memo r)
+  swept_keeps : (r : ℕ) (f : Fix) → find d.entries r ≡ Some f → stale_by (find memo r) f ≡ false
+      → (find (swept memo d).entries r ≡ Some f) × (find (swept_memo memo d.entries) r ≡ find memo r)
   swept_keeps r f e t =
       (rw (find-swept memo d b.cells_rowed.0.rising r, e, t), rw (find-swept_memo memo d.entries b.memo_rises b.cells_rowed.0.rising r, e, t))
 
-  swept_drops : (r : ℕ) (f : Fix) → find d.entries r ≡ some f → stale_by (find memo r) f ≡ true
-      → (find (swept memo d).entries r ≡ none) × (find (swept_memo memo d.entries) r ≡ lowered (find memo r))
+  swept_drops : (r : ℕ) (f : Fix) → find d.entries r ≡ Some f → stale_by (find memo r) f ≡ true
+      → (find (swept memo d).entries r ≡ None) × (find (swept_memo memo d.entries) r ≡ lowered (find memo r))
   swept_drops r f e t =
       (rw (find-swept memo d b.cells_rowed.0.rising r, e, t), rw (find-swept_memo memo d.entries b.memo_rises b.cells_rowed.0.rising r, e, t))
 
   -- the entry that goes is one of those that the line counts
-  swept_missed : (r : ℕ) (f : Fix) → find d.entries r ≡ some f → stale_by (find memo r) f ≡ true → sum_by (stale_c (find memo r) r) rest + 1 ≡ missed_of (find memo r)
+  swept_missed : (r : ℕ) (f : Fix) → find d.entries r ≡ Some f → stale_by (find memo r) f ≡ true → sum_by (stale_c (find memo r) r) rest + 1 ≡ missed_of (find memo r)
   unfolding sum_by
   swept_missed r f e t = omega (arith, (Book_of b r).counted, ap (count_if (stale_by (find memo r))) e, ap one_if t)
 
-  swept_Judges_At : (r : ℕ) → Each (λ c. (f : Fix) → find c.entries r ≡ some f → stale_by (find (swept_memo memo d.entries) r) f ≡ stale_by (find memo r) f) rest
+  swept_Judges_At : (r : ℕ) → Each (λ c. (f : Fix) → find c.entries r ≡ Some f → stale_by (find (swept_memo memo d.entries) r) f ≡ stale_by (find memo r) f) rest
   swept_Judges_At r =
       option_cases (find d.entries r)
       (λ e. Each_every _ rest (λ c p _. judged_by p (swept_lacks r e).1))
@@ -324,7 +324,7 @@ module _ {memo : Rows Line} {new on : ℕ → Bool} (d : Cell) (rest : List Cell
         present = omega (arith, (Book_of b r).present, first.1, swept_live r);
       }
 
-  swept_lines : (r : ℕ) (l : Line) → find (swept_memo memo d.entries) r ≡ some l → (1 ≤ l.missed) × InSquareIf l.last
+  swept_lines : (r : ℕ) (l : Line) → find (swept_memo memo d.entries) r ≡ Some l → (1 ≤ l.missed) × InSquareIf l.last
   swept_lines r l g =
       option_cases (find d.entries r)
       (λ e. b.lines r l (sym (swept_lacks r e).1 ∙ g))
@@ -362,8 +362,8 @@ module _ {memo : Rows Line} {new on : ℕ → Bool} (d : Cell) (rest : List Cell
 -- ---- one memo line changes
 
 pub found_stale : (memo : Rows Line) (r : ℕ) (x : Option Fix) → count_found (λ q p. one_if (stale_by (find memo q) p)) r x ≡ count_if (stale_by (find memo r)) x
-found_stale memo r none = refl
-found_stale memo r (some p) = refl
+found_stale memo r None = refl
+found_stale memo r (Some p) = refl
 
 -- memos that differ at one radio: the stale entries of that radio make all the difference
 stale_line : (memo memo' : Rows Line) (r : ℕ) (c : Cell) → Rowed c → ((q : ℕ) → (q ≡ r → ⊥) → find memo' q ≡ find memo q)
@@ -396,8 +396,8 @@ stale_grows memo memo' r cells k h j =
     )
 
 -- lines of a memo that changes at one radio
-altered_lines : (f : Option Line → Option Line) (r : ℕ) (memo : Rows Line) → 0 < r → Rising 0 memo → ((q : ℕ) (l : Line) → find memo q ≡ some l → (1 ≤ l.missed) × InSquareIf l.last)
-    → ((l : Line) → f (find memo r) ≡ some l → (1 ≤ l.missed) × InSquareIf l.last) → (q : ℕ) (l : Line) → find (alter f r memo) q ≡ some l → (1 ≤ l.missed) × InSquareIf l.last
+altered_lines : (f : Option Line → Option Line) (r : ℕ) (memo : Rows Line) → 0 < r → Rising 0 memo → ((q : ℕ) (l : Line) → find memo q ≡ Some l → (1 ≤ l.missed) × InSquareIf l.last)
+    → ((l : Line) → f (find memo r) ≡ Some l → (1 ≤ l.missed) × InSquareIf l.last) → (q : ℕ) (l : Line) → find (alter f r memo) q ≡ Some l → (1 ≤ l.missed) × InSquareIf l.last
 altered_lines f r memo pos m lines at q l e =
     by_cases (eqb q r)
     (λ t. at l (sym (find-alter_same f 0 r memo pos m) ∙ ap (find (alter f r memo)) (sym (eqb-true q r t)) ∙ e))
@@ -405,49 +405,49 @@ altered_lines f r memo pos m lines at q l e =
 
 -- ---- a report is entered
 
-placed_line : (p : Option Place) (o : Option Line) (l : Line) → InSquareIf p → ((m : Line) → o ≡ some m → 1 ≤ m.missed) → placed p o ≡ some l → (1 ≤ l.missed) × InSquareIf l.last
-placed_line p none l s h = none-some
-placed_line p (some m) l s h = λ e. let q : ◌≡◌ {A = Line} (record { missed = m.missed; last = p }) l = cc in
+placed_line : (p : Option Place) (o : Option Line) (l : Line) → InSquareIf p → ((m : Line) → o ≡ Some m → 1 ≤ m.missed) → placed p o ≡ Some l → (1 ≤ l.missed) × InSquareIf l.last
+placed_line p None l s h = none-some
+placed_line p (Some m) l s h = λ e. let q : ◌≡◌ {A = Line} (record { missed = m.missed; last = p }) l = cc in
     subst (λ (x : Line). (1 ≤ x.missed) × InSquareIf x.last) q (h m refl, s)
 
-raised_line : (p : Option Place) (o : Option Line) (l : Line) → InSquareIf p → raised p o ≡ some l → (1 ≤ l.missed) × InSquareIf l.last
-raised_line p none l s = λ e. let q : ◌≡◌ {A = Line} (record { missed = 1; last = p }) l = cc in
+raised_line : (p : Option Place) (o : Option Line) (l : Line) → InSquareIf p → raised p o ≡ Some l → (1 ≤ l.missed) × InSquareIf l.last
+raised_line p None l s = λ e. let q : ◌≡◌ {A = Line} (record { missed = 1; last = p }) l = cc in
     subst (λ (x : Line). (1 ≤ x.missed) × InSquareIf x.last) q (omega arith, s)
-raised_line p (some m) l s = λ e. let q : ◌≡◌ {A = Line} (record { missed = m.missed + 1; last = p }) l = cc in
+raised_line p (Some m) l s = λ e. let q : ◌≡◌ {A = Line} (record { missed = m.missed + 1; last = p }) l = cc in
     subst (λ (x : Line). (1 ≤ x.missed) × InSquareIf x.last) q (omega arith, s)
 
-entered_line : (f n : Bool) (p : Place) (o : Option Line) (l : Line) → InSquare p → ((m : Line) → o ≡ some m → 1 ≤ m.missed) → entered f n p o ≡ some l → (1 ≤ l.missed) × InSquareIf l.last
-entered_line true n p o l s h = placed_line (some p) o l s h
-entered_line false true p o l s h = placed_line (some p) o l s h
-entered_line false false p o l s h = raised_line (some p) o l s
+entered_line : (f n : Bool) (p : Place) (o : Option Line) (l : Line) → InSquare p → ((m : Line) → o ≡ Some m → 1 ≤ m.missed) → entered f n p o ≡ Some l → (1 ≤ l.missed) × InSquareIf l.last
+entered_line true n p o l s h = placed_line (Some p) o l s h
+entered_line false true p o l s h = placed_line (Some p) o l s h
+entered_line false false p o l s h = raised_line (Some p) o l s
 
 placed_missed : (p : Option Place) (o : Option Line) → missed_of (placed p o) ≡ missed_of o
-placed_missed p none = refl
-placed_missed p (some l) = refl
+placed_missed p None = refl
+placed_missed p (Some l) = refl
 
 raised_missed : (p : Option Place) (o : Option Line) → missed_of (raised p o) ≡ missed_of o + 1
-raised_missed p none = refl
-raised_missed p (some l) = refl
+raised_missed p None = refl
+raised_missed p (Some l) = refl
 
 -- one more is missed exactly where no entry was found and the report isn't new
 entered_missed : (f n : Bool) (p : Place) (o : Option Line) → one_if f + one_if n ≤ 1 → missed_of (entered f n p o) + (one_if f + one_if n) ≡ missed_of o + 1
 entered_missed true true p o h = absurd (omega arith)
-entered_missed true false p o h = omega (arith, placed_missed (some p) o)
-entered_missed false true p o h = omega (arith, placed_missed (some p) o)
-entered_missed false false p o h = omega (arith, raised_missed (some p) o)
+entered_missed true false p o h = omega (arith, placed_missed (Some p) o)
+entered_missed false true p o h = omega (arith, placed_missed (Some p) o)
+entered_missed false false p o h = omega (arith, raised_missed (Some p) o)
 
 -- a line, if any, has the place
 abbrev At : Place → Option Line → Type 0
-At p none = Unit {0}
-At p (some l) = l.last ≡ some p
+At p None = Unit {0}
+At p (Some l) = l.last ≡ Some p
 
-placed-At : (p : Place) (o : Option Line) → At p (placed (some p) o)
-placed-At p none = tt
-placed-At p (some l) = refl
+placed-At : (p : Place) (o : Option Line) → At p (placed (Some p) o)
+placed-At p None = tt
+placed-At p (Some l) = refl
 
-raised-At : (p : Place) (o : Option Line) → At p (raised (some p) o)
-raised-At p none = refl
-raised-At p (some l) = refl
+raised-At : (p : Place) (o : Option Line) → At p (raised (Some p) o)
+raised-At p None = refl
+raised-At p (Some l) = refl
 
 entered-At : (f n : Bool) (p : Place) (o : Option Line) → At p (entered f n p o)
 entered-At true n p o = placed-At p o
@@ -456,11 +456,11 @@ entered-At false false p o = raised-At p o
 
 -- at that place nothing is stale
 At_live : (f : Fix) (o : Option Line) → At f.place o → stale_by o f ≡ false
-At_live f none h = refl
-At_live f (some l) h = ap (λ q. not (is_at q f.place)) h ∙ ap not (same_place_refl f.place)
+At_live f None h = refl
+At_live f (Some l) h = ap (λ q. not (is_at q f.place)) h ∙ ap not (same_place_refl f.place)
 
 -- no entry of a cell is at a place outside it
-pub away : (c : Cell) (p : Place) → Rowed c → inside c.edges p ≡ false → (r : ℕ) (f : Fix) → find c.entries r ≡ some f → same_place p f.place ≡ false
+pub away : (c : Cell) (p : Place) → Rowed c → inside c.edges p ≡ false → (r : ℕ) (f : Fix) → find c.entries r ≡ Some f → same_place p f.place ≡ false
 away c p k h r f e =
     by_cases (same_place p f.place)
     (λ t. let z = ap (inside c.edges) (same_place-true p f.place t) in let y = Each-find (λ _ (f : Fix). inside c.edges f.place ≡ true) r f c.entries k.placed e in cc)
@@ -468,9 +468,9 @@ away c p k h r f e =
 
 -- so all entries outside are stale by a line with the place
 away_stale : (o : Option Line) (p : Place) (r : ℕ) (c : Cell) → At p o → 1 ≤ missed_of o → Rowed c → inside c.edges p ≡ false → stale_c o r c ≡ held_c r c
-away_stale none p r c h m k i = absurd (omega arith)
-away_stale (some l) p r c h m k i =
-    count_same (stale_by (some l)) (λ _. true) (find c.entries r) (λ f e. ap (λ q. not (is_at q f.place)) h ∙ ap not (away c p k i r f e))
+away_stale None p r c h m k i = absurd (omega arith)
+away_stale (Some l) p r c h m k i =
+    count_same (stale_by (Some l)) (λ _. true) (find c.entries r) (λ f e. ap (λ q. not (is_at q f.place)) h ∙ ap not (away c p k i r f e))
 
 -- radio r, on, reports a place, which lies in d; d is clean, and n is the mark
 module _ {memo : Rows Line} {new on : ℕ → Bool} (d : Cell) (rest : List Cell) (b : Books (d ∷ rest) memo new on) (clean : Clean memo d) (r : ℕ) (f : Fix) (n : Bool)
@@ -485,14 +485,14 @@ module _ {memo : Rows Line} {new on : ℕ → Bool} (d : Cell) (rest : List Cell
   abbrev entries_then : Rows Fix
   entries_then = insert r f d.entries
 
-  entry_same : find entries_then r ≡ some f
-  entry_same = rw (find-alter (λ _. some f) 0 r r d.entries pos b.cells_rowed.0.rising, eq-eqb r r refl)
+  entry_same : find entries_then r ≡ Some f
+  entry_same = rw (find-alter (λ _. Some f) 0 r r d.entries pos b.cells_rowed.0.rising, eq-eqb r r refl)
 
   entry_other : (q : ℕ) → eqb q r ≡ false → find entries_then q ≡ find d.entries q
-  entry_other q t = rw (find-alter (λ _. some f) 0 r q d.entries pos b.cells_rowed.0.rising, t)
+  entry_other q t = rw (find-alter (λ _. Some f) 0 r q d.entries pos b.cells_rowed.0.rising, t)
 
   -- an entry is the new one, or was there
-  entry_cases : {P : Type 0} (q : ℕ) (v : Fix) → find entries_then q ≡ some v → (eqb q r ≡ true → f ≡ v → P) → (eqb q r ≡ false → find d.entries q ≡ some v → P) → P
+  entry_cases : {P : Type 0} (q : ℕ) (v : Fix) → find entries_then q ≡ Some v → (eqb q r ≡ true → f ≡ v → P) → (eqb q r ≡ false → find d.entries q ≡ Some v → P) → P
   entry_cases q v e new old =
       by_cases (eqb q r)
       (λ t. let z : f ≡ v = cc (entry_same, ap (find entries_then) (eqb-true q r t)) in new t z)
@@ -553,9 +553,9 @@ module _ {memo : Rows Line} {new on : ℕ → Bool} (d : Cell) (rest : List Cell
   entered_Rowed =
       let k = b.cells_rowed.0 in
       record {
-        rising = Rising-alter (λ _. some f) 0 r d.entries pos k.rising;
-        radios = UpTo-alter (λ _. some f) max_radio r d.entries top k.radios;
-        placed = find-Each (λ _ (v : Fix). inside d.edges v.place ≡ true) 0 entries_then (Rising-alter (λ _. some f) 0 r d.entries pos k.rising) (λ q v e. entry_cases q v e
+        rising = Rising-alter (λ _. Some f) 0 r d.entries pos k.rising;
+        radios = UpTo-alter (λ _. Some f) max_radio r d.entries top k.radios;
+        placed = find-Each (λ _ (v : Fix). inside d.edges v.place ≡ true) 0 entries_then (Rising-alter (λ _. Some f) 0 r d.entries pos k.rising) (λ q v e. entry_cases q v e
             (λ _ z. rw (← z) here)
             (λ _ s. Each-find (λ _ (v : Fix). inside d.edges v.place ≡ true) q v d.entries k.placed s));
       }
@@ -665,21 +665,21 @@ Books_on {cells} {memo} {new} {on} r off b =
 
 -- ---- sign-off
 
-raised_stale : (o : Option Line) (f : Fix) → stale_by (raised none o) f ≡ true
-raised_stale none p = refl
-raised_stale (some l) p = refl
+raised_stale : (o : Option Line) (f : Fix) → stale_by (raised None o) f ≡ true
+raised_stale None p = refl
+raised_stale (Some l) p = refl
 
 module _ {cells : List Cell} {memo : Rows Line} {new on : ℕ → Bool} (r : ℕ) (pos : 0 < r) (top : r ≤ max_radio) (is_on : on r ≡ true) (b : Books cells memo new on) where
   -- without a mark the live entry becomes stale, as all others are
-  off_Book : new r ≡ false → Book cells r (raised none (find memo r)) false false
+  off_Book : new r ≡ false → Book cells r (raised None (find memo r)) false false
   off_Book t =
       let o = find memo r in
       let k = Book_of b r in
-      let all_stale : sum_by (stale_c (raised none o) r) cells ≡ sum_by (held_c r) cells =
-      sum_ext (stale_c (raised none o) r) (held_c r) cells (λ c. count_same (stale_by (raised none o)) (λ _. true) (find c.entries r) (λ p _. raised_stale o p)) in
+      let all_stale : sum_by (stale_c (raised None o) r) cells ≡ sum_by (held_c r) cells =
+      sum_ext (stale_c (raised None o) r) (held_c r) cells (λ c. count_same (stale_by (raised None o)) (λ _. true) (find c.entries r) (λ p _. raised_stale o p)) in
       record {
-        counted = omega (arith, k.counted, k.present, live_stale o r cells, raised_missed none o, ap one_if t, ap one_if is_on);
-        present = omega (arith, live_stale (raised none o) r cells);
+        counted = omega (arith, k.counted, k.present, live_stale o r cells, raised_missed None o, ap one_if t, ap one_if is_on);
+        present = omega (arith, live_stale (raised None o) r cells);
       }
 
   off_marked : new r ≡ true → Books cells memo (put_at r false new) (put_at r false on)
@@ -692,22 +692,22 @@ module _ {cells : List Cell} {memo : Rows Line} {new on : ℕ → Bool} (r : ℕ
       rw t (record { counted = k.counted; present = omega (arith, k.present, ap one_if marked, ap one_if signed) }))
       (λ t. rw t k))
 
-  off_unmarked : new r ≡ false → Books cells (alter (raised none) r memo) (put_at r false new) (put_at r false on)
+  off_unmarked : new r ≡ false → Books cells (alter (raised None) r memo) (put_at r false new) (put_at r false on)
   off_unmarked u =
-      Books_from b.cells_rowed b.apart (Rising-alter (raised none) 0 r memo pos b.memo_rises) (UpTo-alter (raised none) max_radio r memo top b.memo_radios)
-      (altered_lines (raised none) r memo pos b.memo_rises b.lines (λ l e. raised_line none (find memo r) l tt e))
+      Books_from b.cells_rowed b.apart (Rising-alter (raised None) 0 r memo pos b.memo_rises) (UpTo-alter (raised None) max_radio r memo top b.memo_radios)
+      (altered_lines (raised None) r memo pos b.memo_rises b.lines (λ l e. raised_line None (find memo r) l tt e))
       (λ q. by_cases (eqb q r)
-      (λ t. rw (t, eqb-true q r t, find-alter_same (raised none) 0 r memo pos b.memo_rises) (off_Book u))
-      (λ t. rw (t, find-alter_other (raised none) 0 r memo pos b.memo_rises q (eqb-false q r t)) (Book_of b q)))
+      (λ t. rw (t, eqb-true q r t, find-alter_same (raised None) 0 r memo pos b.memo_rises) (off_Book u))
+      (λ t. rw (t, find-alter_other (raised None) 0 r memo pos b.memo_rises q (eqb-false q r t)) (Book_of b q)))
 
-  pub Books_off : Books cells (cond (new r) memo (alter (raised none) r memo)) (put_at r false new) (put_at r false on)
+  pub Books_off : Books cells (cond (new r) memo (alter (raised None) r memo)) (put_at r false new) (put_at r false on)
   Books_off = by_cases (new r) (λ u. rw u (off_marked u)) (λ u. rw u (off_unmarked u))
 
-  pub stale_off : (j : ℕ) → sum_by (stale_in (cond (new r) memo (alter (raised none) r memo))) (drop j cells) ≤ sum_by (stale_in memo) (drop j cells) + one_if (not (new r))
+  pub stale_off : (j : ℕ) → sum_by (stale_in (cond (new r) memo (alter (raised None) r memo))) (drop j cells) ≤ sum_by (stale_in memo) (drop j cells) + one_if (not (new r))
   stale_off j =
       by_cases (new r)
       (λ u. rw u (omega arith))
-      (λ u. rw u (omega (arith, stale_grows memo (alter (raised none) r memo) r cells b.cells_rowed (find-alter_other (raised none) 0 r memo pos b.memo_rises) j, (Book_of b r).present, ap one_if is_on)))
+      (λ u. rw u (omega (arith, stale_grows memo (alter (raised None) r memo) r cells b.cells_rowed (find-alter_other (raised None) 0 r memo pos b.memo_rises) j, (Book_of b r).present, ap one_if is_on)))
 
 -- ---- split
 
@@ -755,9 +755,9 @@ abbrev pub joined_cell : ℕ → List ℕ → Cell → Cell → Cell
 joined_cell k chain d n = record { number = k; edges = joined_edges d.edges n.edges; chain = chain; entries = merge n.entries d.entries }
 
 count_or_else : (t : Fix → Bool) (x y : Option Fix) → count_if (λ _. true) x + count_if (λ _. true) y ≤ 1 → count_if t (or_else x y) ≡ count_if t x + count_if t y
-count_or_else t none y h = omega arith
-count_or_else t (some p) none h = omega arith
-count_or_else t (some p) (some q) h = absurd (omega arith)
+count_or_else t None y h = omega arith
+count_or_else t (Some p) None h = omega arith
+count_or_else t (Some p) (Some q) h = absurd (omega arith)
 
 module _ {memo : Rows Line} {new on : ℕ → Bool} (d n : Cell) (rest : List Cell) (b : Books (d ∷ n ∷ rest) memo new on) (clean_d : Clean memo d) (clean_n : Clean memo n) where
   find_joined : (r : ℕ) → find (merge n.entries d.entries) r ≡ or_else (find n.entries r) (find d.entries r)
@@ -809,21 +809,21 @@ module _ {memo : Rows Line} {new on : ℕ → Bool} (d n : Cell) (rest : List Ce
 
 pub marks_signed_on : (r : ℕ) (f : Fix) (waiting : Rows Report) → 0 < r → Rising 0 waiting → (q : ℕ) → put_at r true (marks waiting) q ≡ marks (insert r (record { fix = f; new = true }) waiting) q
 marks_signed_on r f waiting pos a q =
-    rw (find-alter (λ _. some (record { fix = f; new = true })) 0 r q waiting pos a) (by_cases (eqb q r) (λ t. rw t) (λ t. rw t))
+    rw (find-alter (λ _. Some (record { fix = f; new = true })) 0 r q waiting pos a) (by_cases (eqb q r) (λ t. rw t) (λ t. rw t))
 
 pub marks_reported : (r : ℕ) (f : Fix) (waiting : Rows Report) → 0 < r → Rising 0 waiting → (q : ℕ)
-    → marks waiting q ≡ marks (alter (λ w. some (record { fix = f; new = was_new w })) r waiting) q
+    → marks waiting q ≡ marks (alter (λ w. Some (record { fix = f; new = was_new w })) r waiting) q
 marks_reported r f waiting pos a q =
-    rw (find-alter (λ w. some (record { fix = f; new = was_new w })) 0 r q waiting pos a) (by_cases (eqb q r) (λ t. rw t) (λ t. rw t))
+    rw (find-alter (λ w. Some (record { fix = f; new = was_new w })) 0 r q waiting pos a) (by_cases (eqb q r) (λ t. rw t) (λ t. rw t))
 
-pub marks_signed_off : (r : ℕ) (waiting : Rows Report) → 0 < r → Rising 0 waiting → (q : ℕ) → put_at r false (marks waiting) q ≡ marks (alter (λ _. none) r waiting) q
-marks_signed_off r waiting pos a q = rw (find-alter (λ _. none) 0 r q waiting pos a) (by_cases (eqb q r) (λ t. rw t) (λ t. rw t))
+pub marks_signed_off : (r : ℕ) (waiting : Rows Report) → 0 < r → Rising 0 waiting → (q : ℕ) → put_at r false (marks waiting) q ≡ marks (alter (λ _. None) r waiting) q
+marks_signed_off r waiting pos a q = rw (find-alter (λ _. None) 0 r q waiting pos a) (by_cases (eqb q r) (λ t. rw t) (λ t. rw t))
 
 pub on_signed_on : (r : ℕ) (rows : Rows (Unit {0})) → 0 < r → Rising 0 rows → (q : ℕ) → put_at r true (on_set rows) q ≡ on_set (insert r tt rows) q
-on_signed_on r rows pos a q = rw (find-alter (λ _. some tt) 0 r q rows pos a) (by_cases (eqb q r) (λ t. rw t) (λ t. rw t))
+on_signed_on r rows pos a q = rw (find-alter (λ _. Some tt) 0 r q rows pos a) (by_cases (eqb q r) (λ t. rw t) (λ t. rw t))
 
-pub on_signed_off : (r : ℕ) (rows : Rows (Unit {0})) → 0 < r → Rising 0 rows → (q : ℕ) → put_at r false (on_set rows) q ≡ on_set (alter (λ _. none) r rows) q
-on_signed_off r rows pos a q = rw (find-alter (λ _. none) 0 r q rows pos a) (by_cases (eqb q r) (λ t. rw t) (λ t. rw t))
+pub on_signed_off : (r : ℕ) (rows : Rows (Unit {0})) → 0 < r → Rising 0 rows → (q : ℕ) → put_at r false (on_set rows) q ≡ on_set (alter (λ _. None) r rows) q
+on_signed_off r rows pos a q = rw (find-alter (λ _. None) 0 r q rows pos a) (by_cases (eqb q r) (λ t. rw t) (λ t. rw t))
 
 -- ---- totals
 
@@ -882,8 +882,8 @@ entries_total {cells} {memo} rows s b =
 -- ---- a bound
 
 count_one : (t : Fix → Bool) (o : Option Fix) → count_if t o ≤ 1
-count_one t none = omega arith
-count_one t (some p) = one_if-le (t p)
+count_one t None = omega arith
+count_one t (Some p) = one_if-le (t p)
 
 -- a radio has one entry in each cell at most
 pub missed_few : {cells : List Cell} {memo : Rows Line} {new on : ℕ → Bool} → Books cells memo new on → (r : ℕ) → missed_of (find memo r) ≤ length cells

@@ -2,7 +2,7 @@
 use mathlib.Core.Path.{◌≡◌, refl, sym, ap, ◌∙◌, subst}
 use mathlib.Core.Bool.{Bool, true, false, not}
 use mathlib.Core.List.{List, [], ◌∷◌, ◌++◌, map}
-use mathlib.Core.Option.{Option, none, some}
+use Rattle.std.specs.Prelude.{Option, None, Some}
 use Prim.Native.Nat.{ℕ, suc, ◌+◌, ◌/◌, ◌≤◌, ◌<◌}
 use native.Mathlib.Omega.{arith}
 use native.Mathlib.Nat.{not-suc-le-zero}
@@ -38,7 +38,7 @@ through_good axis cuts edges =
     Each_over_map (GoodCut cuts edges) (λ c. record { axis = axis; at = c }) (filter (through (span_of axis edges)) l)
     (Each-filter _ _ (through (span_of axis edges)) l (λ x n t. record { crosses = t; valid = either_left (ltb (length l) max_cuts) (lt-ltb 0 (count x l) n) }) (Each_counted l))
 
-existing_good : (cuts : Cuts) (edges : Rect) (es : Rows Fix) (c : Cut) → existing_cut cuts edges es ≡ some c → GoodCut cuts edges c
+existing_good : (cuts : Cuts) (edges : Rect) (es : Rows Fix) (c : Cut) → existing_cut cuts edges es ≡ Some c → GoodCut cuts edges c
 unfolding existing_cut
 existing_good cuts edges es c =
     let east = cuts_through eastward cuts edges in
@@ -56,7 +56,7 @@ existing_good cuts edges es c =
 -- ---- the choice: a median
 
 -- the median is present, and greater than the least
-pub median-some : (l : List ℕ) (x : ℕ) → median l ≡ some x → (get_or (sort l) 0 0 < x) × (1 ≤ count x l)
+pub median-some : (l : List ℕ) (x : ℕ) → median l ≡ Some x → (get_or (sort l) 0 0 < x) × (1 ≤ count x l)
 unfolding median
 median-some l x =
     let s = sort l in
@@ -73,16 +73,16 @@ median-some l x =
     empty : l ≡ [] → get_or (sort l) (length l / 2) 0 ≡ get_or (sort l) 0 0
     empty n = rw n
 
-valid_at-some : (axis : Axis) (cuts : Cuts) (o : Option ℕ) (c : Cut) → valid_at axis cuts o ≡ some c
-    → (x : ℕ) × (o ≡ some x) × (record { axis = axis; at = x } ≡ c) × (either (ltb 0 (count x (cuts_of axis cuts))) (ltb (length (cuts_of axis cuts)) max_cuts) ≡ true)
-valid_at-some axis cuts none c = none-some
-valid_at-some axis cuts (some x) c =
+valid_at-some : (axis : Axis) (cuts : Cuts) (o : Option ℕ) (c : Cut) → valid_at axis cuts o ≡ Some c
+    → (x : ℕ) × (o ≡ Some x) × (record { axis = axis; at = x } ≡ c) × (either (ltb 0 (count x (cuts_of axis cuts))) (ltb (length (cuts_of axis cuts)) max_cuts) ≡ true)
+valid_at-some axis cuts None c = none-some
+valid_at-some axis cuts (Some x) c =
     by_cases (either (ltb 0 (count x (cuts_of axis cuts))) (ltb (length (cuts_of axis cuts)) max_cuts))
     (λ t. rw t (λ e. let z : record { axis = axis; at = x } ≡ c = cc in (x, refl, z, t)))
     (λ t. rw t none-some)
 
 -- where every coordinate lies within a span, the median cuts it
-median-through : (s : Span) (l : List ℕ) (x : ℕ) → Each (λ y. within s y ≡ true) l → median l ≡ some x → through s x ≡ true
+median-through : (s : Span) (l : List ℕ) (x : ℕ) → Each (λ y. within s y ≡ true) l → median l ≡ Some x → through s x ≡ true
 median-through s l x h e =
     let r = median-some l x e in
     let least = get_or (sort l) 0 0 in
@@ -91,7 +91,7 @@ median-through s l x h e =
     let highest = within-high s x (Each-count (λ y. within s y ≡ true) x l h r.1) in
     both_intro (lt-ltb s.low x (omega (arith, lowest, r.0))) (le-leb x s.high highest)
 
-median_good : (axis : Axis) (cuts : Cuts) (edges : Rect) (es : Rows Fix) (c : Cut) → Each (λ e. inside edges e.val.place ≡ true) es → median_cut axis cuts es ≡ some c → GoodCut cuts edges c
+median_good : (axis : Axis) (cuts : Cuts) (edges : Rect) (es : Rows Fix) (c : Cut) → Each (λ e. inside edges e.val.place ≡ true) es → median_cut axis cuts es ≡ Some c → GoodCut cuts edges c
 unfolding median_cut
 median_good axis cuts edges es c h e =
     let l = map (λ (w : Row Fix). along axis w.val.place) es in
@@ -101,7 +101,7 @@ median_good axis cuts edges es c h e =
     (Each_map (λ w. inside edges w.val.place ≡ true) (λ w. within s (along axis w.val.place) ≡ true) es (λ w t. inside-along axis edges w.val.place t) h) in
     subst (GoodCut cuts edges) r.2 (record { crosses = median-through s l r.0 held r.1; valid = r.3 })
 
-pub chosen_good : (cuts : Cuts) (edges : Rect) (es : Rows Fix) (c : Cut) → Each (λ e. inside edges e.val.place ≡ true) es → chosen_cut cuts edges es ≡ some c → GoodCut cuts edges c
+pub chosen_good : (cuts : Cuts) (edges : Rect) (es : Rows Fix) (c : Cut) → Each (λ e. inside edges e.val.place ≡ true) es → chosen_cut cuts edges es ≡ Some c → GoodCut cuts edges c
 unfolding chosen_cut
 chosen_good cuts edges es c h e =
     let one = median_cut (longer_side edges) cuts es in
@@ -188,11 +188,11 @@ unfolding waiting_in in_box
 waiting_alter cuts g r ws m h a = sum-alter (λ _ w. one_if (same_box (box_of cuts w.fix.place) m)) g 0 r ws h a
 
 -- no memory cell has more than before, but for one more in that of the new place
-pub waiting_new : (cuts : Cuts) (g : Option Report → Option Report) (r : ℕ) (ws : Rows Report) (w : Report) (m : Box) → 0 < r → Rising 0 ws → g (find ws r) ≡ some w
+pub waiting_new : (cuts : Cuts) (g : Option Report → Option Report) (r : ℕ) (ws : Rows Report) (w : Report) (m : Box) → 0 < r → Rising 0 ws → g (find ws r) ≡ Some w
     → waiting_in cuts (alter g r ws) m ≤ waiting_in cuts ws m + one_if (same_box (box_of cuts w.fix.place) m)
 waiting_new cuts g r ws w m h a e = omega (arith, waiting_alter cuts g r ws m h a, ap (count_found (λ _ v. one_if (same_box (box_of cuts v.fix.place) m)) r) e)
 
-pub waiting_less : (cuts : Cuts) (g : Option Report → Option Report) (r : ℕ) (ws : Rows Report) (m : Box) → 0 < r → Rising 0 ws → g (find ws r) ≡ none
+pub waiting_less : (cuts : Cuts) (g : Option Report → Option Report) (r : ℕ) (ws : Rows Report) (m : Box) → 0 < r → Rising 0 ws → g (find ws r) ≡ None
     → waiting_in cuts (alter g r ws) m ≤ waiting_in cuts ws m
 waiting_less cuts g r ws m h a e = omega (arith, waiting_alter cuts g r ws m h a, ap (count_found (λ _ v. one_if (same_box (box_of cuts v.fix.place) m)) r) e)
 
@@ -228,7 +228,7 @@ boxes_hold P cuts p e =
     Each-tab P (suc (length cuts.easts)) (λ k. record { east = k; north = j }) i ours (omega (arith, stripe_most cuts.easts p.east))
 
 -- no memory cell of a place has more
-pub most_best : (how_many : Box → ℕ) (cuts : Cuts) → (m : Box) × (most_of how_many (boxes cuts) ≡ some m) × ((p : Place) → how_many (box_of cuts p) ≤ how_many m)
+pub most_best : (how_many : Box → ℕ) (cuts : Cuts) → (m : Box) × (most_of how_many (boxes cuts) ≡ Some m) × ((p : Place) → how_many (box_of cuts p) ≤ how_many m)
 most_best how_many cuts =
     list_cases (boxes cuts)
     (λ n. absurd (boxes_hold (λ _. ⊥) cuts (record { east = 0; north = 0 }) (subst (Each (λ _. ⊥)) (sym n) tt)))
@@ -247,7 +247,7 @@ waiting_here cuts w ws =
     let b = box_of cuts w.val.fix.place in
     omega (arith, sum-cons (λ v. one_if (in_box cuts b v)) w ws, ap one_if (box_in_box cuts b w refl))
 
-pub most_some : (cuts : Cuts) (ws : Rows Report) → 1 ≤ length ws → (m : Box) × (most_of (waiting_in cuts ws) (boxes cuts) ≡ some m) × (1 ≤ waiting_in cuts ws m)
+pub most_some : (cuts : Cuts) (ws : Rows Report) → 1 ≤ length ws → (m : Box) × (most_of (waiting_in cuts ws) (boxes cuts) ≡ Some m) × (1 ≤ waiting_in cuts ws m)
 most_some cuts [] h = absurd (not-suc-le-zero h)
 most_some cuts (w ∷ ws) h =
     let r = most_best (waiting_in cuts (w ∷ ws)) cuts in
@@ -256,7 +256,7 @@ most_some cuts (w ∷ ws) h =
 -- ---- the memory cell to flush
 
 -- none is due: neither limit is reached
-pub due_none : (cuts : Cuts) (how_many : Box → ℕ) (in_all : ℕ) (p : Place) → box_to_flush cuts how_many in_all p ≡ none → (how_many (box_of cuts p) < full_box) × (in_all < full_memory)
+pub due_none : (cuts : Cuts) (how_many : Box → ℕ) (in_all : ℕ) (p : Place) → box_to_flush cuts how_many in_all p ≡ None → (how_many (box_of cuts p) < full_box) × (in_all < full_memory)
 unfolding box_to_flush
 due_none cuts how_many in_all p =
     by_cases (leb full_box (how_many (box_of cuts p)))
@@ -266,8 +266,8 @@ due_none cuts how_many in_all p =
     (λ u. λ e. (leb-false full_box (how_many (box_of cuts p)) t, leb-false full_memory in_all u)))
 
 -- one is due: the place's memory cell, or, where that is not full, the one with most
-pub due_some : {P : Type 0} (cuts : Cuts) (how_many : Box → ℕ) (in_all : ℕ) (p : Place) (m : Box) → box_to_flush cuts how_many in_all p ≡ some m
-    → (box_of cuts p ≡ m → full_box ≤ how_many m → P) → (how_many (box_of cuts p) < full_box → full_memory ≤ in_all → most_of how_many (boxes cuts) ≡ some m → P) → P
+pub due_some : {P : Type 0} (cuts : Cuts) (how_many : Box → ℕ) (in_all : ℕ) (p : Place) (m : Box) → box_to_flush cuts how_many in_all p ≡ Some m
+    → (box_of cuts p ≡ m → full_box ≤ how_many m → P) → (how_many (box_of cuts p) < full_box → full_memory ≤ in_all → most_of how_many (boxes cuts) ≡ Some m → P) → P
 unfolding box_to_flush
 due_some cuts how_many in_all p m =
     by_cases (leb full_box (how_many (box_of cuts p)))
@@ -279,8 +279,8 @@ due_some cuts how_many in_all p m =
 -- ---- what a flush comes to: the three ways, and no other
 
 pub reshaped_cases : (P : Store → Type 0) (f : Flushed) → P (grown f)
-    → ((c : Cut) → page_entries < length f.cell.entries → length f.store.cells < max_cells → chosen_cut f.store.cuts f.cell.edges f.cell.entries ≡ some c → P (split_at c f))
-    → ((n : Cell) → length f.cell.entries ≤ page_entries → neighbour f ≡ some n → P (joined_with f n))
+    → ((c : Cut) → page_entries < length f.cell.entries → length f.store.cells < max_cells → chosen_cut f.store.cuts f.cell.edges f.cell.entries ≡ Some c → P (split_at c f))
+    → ((n : Cell) → length f.cell.entries ≤ page_entries → neighbour f ≡ Some n → P (joined_with f n))
     → P (reshaped f)
 unfolding reshaped
 reshaped_cases P f g split join =
@@ -296,8 +296,8 @@ reshaped_cases P f g split join =
     (λ n. rw (t, n) g)
     (λ c n. rw (t, n) (join c (ltb-false page_entries e t) n)))
 
-pub flush_cases : (P : Store → Type 0) (m : Box) (s : Store) → (cell_of_box s m ≡ none → P s)
-    → ((d : Cell) → cell_of_box s m ≡ some d → P (reshaped (flushed_into m s d))) → P (flush m s)
+pub flush_cases : (P : Store → Type 0) (m : Box) (s : Store) → (cell_of_box s m ≡ None → P s)
+    → ((d : Cell) → cell_of_box s m ≡ Some d → P (reshaped (flushed_into m s d))) → P (flush m s)
 unfolding flush
 flush_cases P m s f g = option_cases (cell_of_box s m) (λ n. rw n (f n)) (λ d n. rw n (g d n))
 

@@ -1,7 +1,7 @@
 -- No entry and no waiting report is above the highest minute, through every step: entries are kept, moved, parted and put together, and one that is put in is
 -- a waiting report's.
 use mathlib.Core.List.{List, [], ◌∷◌, ◌++◌}
-use mathlib.Core.Option.{Option, none, some}
+use Rattle.std.specs.Prelude.{Option, None, Some}
 use mathlib.Core.Path.{◌≡◌, subst}
 use Prim.Native.Nat.{ℕ, ◌≤◌}
 use native.Mathlib.Omega.{arith}
@@ -80,16 +80,16 @@ module _ (highest : ℕ) where
 
 -- a report is put among the waiting, or none is
 pub Dated_put : (s : Store) → Dated s.highest s.cells s.waiting → (r : ℕ) (f : Fix) → f.minute ≤ s.highest → (g : Option Report → Option Report)
-    → ((o : Option Report) (v : Report) → g o ≡ some v → v.fix ≡ f) → Dated s.highest s.cells (alter g r s.waiting)
+    → ((o : Option Report) (v : Report) → g o ≡ Some v → v.fix ≡ f) → Dated s.highest s.cells (alter g r s.waiting)
 Dated_put s k r f early g told = record {
   entries = k.entries;
   reports = Each-alter (ReportDated s.highest) g r s.waiting (λ o v e. rw (told o v e) early) k.reports;
 }
 
-pub Dated_off : (s : Store) → Dated s.highest s.cells s.waiting → (r : ℕ) → Dated s.highest s.cells (alter (λ _. none) r s.waiting)
+pub Dated_off : (s : Store) → Dated s.highest s.cells s.waiting → (r : ℕ) → Dated s.highest s.cells (alter (λ _. None) r s.waiting)
 Dated_off s k r = record {
   entries = k.entries;
-  reports = Each-alter (ReportDated s.highest) (λ _. none) r s.waiting (λ o v e. none-some e) k.reports;
+  reports = Each-alter (ReportDated s.highest) (λ _. None) r s.waiting (λ o v e. none-some e) k.reports;
 }
 
 -- a later minute dates all that an earlier one does

@@ -1,7 +1,7 @@
 -- A flush keeps the parts of the invariant: d is swept, the reports of m go into it, and it is then grown, split or joined.
 use mathlib.Core.Bool.{true, false, not, cond}
 use mathlib.Core.List.{List, [], ◌∷◌, ◌++◌, map}
-use mathlib.Core.Option.{Option, none, some}
+use Rattle.std.specs.Prelude.{Option, None, Some}
 use mathlib.Core.Path.{◌≡◌, refl, sym, ap, ◌∙◌, subst}
 use Prim.Native.Nat.{ℕ, ◌+◌, ◌-◌, ◌≤◌, ◌<◌, min}
 use native.Mathlib.Omega.{arith}
@@ -38,7 +38,7 @@ use Rattle.rules.proofs.RoundLaws.{Bounded_total, grown-Bounded, split_at-Bounde
 
 -- ---- the reports of a memory cell, and the others
 
-find_kept : (cuts : Cuts) (m : Box) (l : Rows Report) (r : ℕ) (w : Report) → Rising 0 l → find (filter (λ x. not (in_box cuts m x)) l) r ≡ some w → find l r ≡ some w
+find_kept : (cuts : Cuts) (m : Box) (l : Rows Report) (r : ℕ) (w : Report) → Rising 0 l → find (filter (λ x. not (in_box cuts m x)) l) r ≡ Some w → find l r ≡ Some w
 find_kept cuts m l r w a e = (find-filter-some (λ x. not (in_box cuts m x)) 0 r l w a e).0
 
 pub Waits_kept : (cuts : Cuts) (m : Box) (s : Store) → Waits s.waiting s.on → Waits (filter (λ x. not (in_box cuts m x)) s.waiting) s.on
@@ -56,8 +56,8 @@ marks_kept cuts m l a r =
     rw (find-filter (in_box cuts m) 0 r l a, find-filter (λ x. not (in_box cuts m x)) 0 r l a) (here (find l r))
   where
     here : (o : Option Report) → cond (is_some (passed (in_box cuts m) r o)) false (was_new o) ≡ was_new (passed (λ x. not (in_box cuts m x)) r o)
-    here none = refl
-    here (some w) = by_cases (in_box cuts m (record { key = r; val = w })) (λ t. rw t) (λ t. rw t)
+    here None = refl
+    here (Some w) = by_cases (in_box cuts m (record { key = r; val = w })) (λ t. rw t) (λ t. rw t)
 
 -- ---- d once the reports are in
 
@@ -82,13 +82,13 @@ module _ (m : Box) (s : Store) (d : Cell) (k : Core s) (a : Among s.cells d) (ho
   Books-before = Books-Among a k.books
 
   -- each report of m is one that d takes
-  report_on : (r : ℕ) (w : Report) → find s.waiting r ≡ some w → on_set s.on r ≡ true
+  report_on : (r : ℕ) (w : Report) → find s.waiting r ≡ Some w → on_set s.on r ≡ true
   report_on r w e =
       by_cases w.new
       (λ t. by_cases (on_set s.on r) (λ u. u) (λ u. absurd (omega (arith, k.books.present r, ap one_if (ap was_new e ∙ t), ap one_if u))))
       (λ t. k.waits.unmarked r w e t)
 
-  pub report_Enters : (r : ℕ) (w : Report) → find s.waiting r ≡ some w → in_box s.cuts m (record { key = r; val = w }) ≡ true
+  pub report_Enters : (r : ℕ) (w : Report) → find s.waiting r ≡ Some w → in_box s.cuts m (record { key = r; val = w }) ≡ true
       → Enters d.edges (marks s.waiting) (on_set s.on) (record { key = r; val = w })
   report_Enters r w e t =
       let square = k.waits.waiting_placed r w e in
@@ -103,7 +103,7 @@ module _ (m : Box) (s : Store) (d : Cell) (k : Core s) (a : Among s.cells d) (ho
   reports_rise : Rising 0 reports
   reports_rise = Rising-filter (in_box s.cuts m) 0 s.waiting k.waits.waiting_rises
 
-  pub report_found : (r : ℕ) (w : Report) → find reports r ≡ some w → (find s.waiting r ≡ some w) × (in_box s.cuts m (record { key = r; val = w }) ≡ true)
+  pub report_found : (r : ℕ) (w : Report) → find reports r ≡ Some w → (find s.waiting r ≡ Some w) × (in_box s.cuts m (record { key = r; val = w }) ≡ true)
   report_found r w e = find-filter-some (in_box s.cuts m) 0 r s.waiting w k.waits.waiting_rises e
 
   enters : Each (Enters (swept s.memo d).edges (marks s.waiting) (on_set s.on)) reports
@@ -380,12 +380,12 @@ module _ (f : Flushed) (d₀ : Cell) (before after : List Cell) (memo : Rows Lin
   placed_flushed = r.books.cells_rowed.0.placed
 
   pub split_or_lem : (o : Option Cut) → chosen_cut f.store.cuts f.cell.edges f.cell.entries ≡ o → length f.store.cells < max_cells → MidCall (split_or o f) c
-  split_or_lem none e few = grown_mid
-  split_or_lem (some cut) e few = split_mid cut (chosen_good f.store.cuts f.cell.edges f.cell.entries cut placed_flushed e) few
+  split_or_lem None e few = grown_mid
+  split_or_lem (Some cut) e few = split_mid cut (chosen_good f.store.cuts f.cell.edges f.cell.entries cut placed_flushed e) few
 
   pub join_or_lem : (o : Option Cell) → neighbour f ≡ o → MidCall (join_or o f) c
-  join_or_lem none e = grown_mid
-  join_or_lem (some m) e = let q = neighbour-Near f m e in join_mid m (subst (λ (l : List Cell). Among l m) r.rest q.among) q
+  join_or_lem None e = grown_mid
+  join_or_lem (Some m) e = let q = neighbour-Near f m e in join_mid m (subst (λ (l : List Cell). Among l m) r.rest q.among) q
 
   pub reshaped_mid : MidCall (reshaped f) c
   unfolding reshaped

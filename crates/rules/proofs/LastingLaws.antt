@@ -2,7 +2,7 @@
 -- takes others out of it, so all the rest keep their place or come forward; the 16th record sweeps the front, and all others come forward by one place.
 use mathlib.Core.Bool.{Bool, true, false}
 use mathlib.Core.List.{List, [], ◌∷◌, ◌++◌}
-use mathlib.Core.Option.{Option, some}
+use Rattle.std.specs.Prelude.{Option, Some}
 use mathlib.Core.Path.{◌≡◌, refl, sym, ap, ◌∙◌, subst}
 use Prim.Native.Nat.{ℕ, ◌+◌, ◌*◌, ◌≤◌, ◌<◌}
 use native.Mathlib.Omega.{arith}
@@ -114,7 +114,7 @@ module _ (f : Flushed) (d₀ : Cell) (before after : List Cell) (memo : Rows Lin
       )
 
   -- the neighbour goes out too, and the joined cell is clean
-  Stay_joined : (m : Cell) → neighbour f ≡ some m → StayIn f.store.cells (joined_with f m)
+  Stay_joined : (m : Cell) → neighbour f ≡ Some m → StayIn f.store.cells (joined_with f m)
   unfolding joined_with
   Stay_joined m e cell now old =
       let q = neighbour-Near f m e in
@@ -130,7 +130,7 @@ module _ (f : Flushed) (d₀ : Cell) (before after : List Cell) (memo : Rows Lin
 -- after a sign-on or report at p
 module _ (p : Place) (s : Store) (k : Core s) (b : Bounded s.memo s.cells (length s.waiting) (s.tally + 1)) (early : s.tally < sweep_every)
     (few : length s.waiting ≤ full_memory) where
-  Stay_flushed : (m : Box) (d : Cell) → cell_of_box s m ≡ some d → StayIn s.cells (reshaped (flushed_into m s d))
+  Stay_flushed : (m : Box) (d : Cell) → cell_of_box s m ≡ Some d → StayIn s.cells (reshaped (flushed_into m s d))
   unfolding cell_of_box flushed_into
   Stay_flushed m d e =
       let at = cell_at_split s.cells (corner_of s.cuts m) d e in
@@ -183,7 +183,7 @@ nearer s stay k early e c now old =
 
 -- a report is put among the waiting (g, as in put-few): u is the store then
 module _ (s : Store) (w : WellFormed s) (r : ℕ) (h : 1 ≤ r) (g : Option Report → Option Report) (f : Fix) (b : Bool)
-    (put : g (find s.waiting r) ≡ some (record { fix = f; new = b })) (on : Rows (Unit {0})) where
+    (put : g (find s.waiting r) ≡ Some (record { fix = f; new = b })) (on : Rows (Unit {0})) where
   abbrev put_store : Store
   put_store = with_waiting (alter g r s.waiting) (with_on on s)
 
@@ -206,11 +206,11 @@ unfolding carried_out signed_on reported signed_off is_on on_count
 counted_nearer q s buffer w (on_passed r f h k i off room late) e =
     let s' = with_highest f.minute s in
     let w' = later_well s w f.minute late in
-    nearer_at f.minute s (put_nearer s' w' r h (λ _. some (record { fix = f; new = true })) f true refl (insert r tt s.on) (on_Core s' w' r f h k i off room (omega arith)))
+    nearer_at f.minute s (put_nearer s' w' r h (λ _. Some (record { fix = f; new = true })) f true refl (insert r tt s.on) (on_Core s' w' r f h k i off room (omega arith)))
 counted_nearer q s buffer w (report_passed r f h k i on late) e =
     let s' = with_highest f.minute s in
     let w' = later_well s w f.minute late in
-    nearer_at f.minute s (put_nearer s' w' r h (λ o. some (record { fix = f; new = was_new o })) f (was_new (find s.waiting r)) refl s.on (report_Core s' w' r f h k i on (omega arith)))
+    nearer_at f.minute s (put_nearer s' w' r h (λ o. Some (record { fix = f; new = was_new o })) f (was_new (find s.waiting r)) refl s.on (report_Core s' w' r f h k i on (omega arith)))
 counted_nearer q s buffer w (off_passed r minute h k on late) e =
     let s' = with_highest minute s in
     let w' = later_well s w minute late in

@@ -1,7 +1,7 @@
 -- The latest place of each radio through every step, from any well-formed store: a record changes its own radio's, and nothing else changes any.
 use mathlib.Core.Bool.{Bool, true, false, not, cond}
 use mathlib.Core.List.{List, [], ◌∷◌, ◌++◌, map}
-use mathlib.Core.Option.{Option, none, some}
+use Rattle.std.specs.Prelude.{Option, None, Some}
 use mathlib.Core.Path.{◌≡◌, refl, sym, ap, ◌∙◌, subst, ap₂}
 use Prim.Native.Nat.{ℕ, ◌+◌, ◌≤◌, ◌<◌}
 use native.Mathlib.Omega.{arith}
@@ -44,7 +44,7 @@ use Rattle.rules.proofs.StepLaws.{report_done, on_Core, report_Core, off_Core, p
 -- d and the other cells, once the reports are in, and the store that a step makes of them
 pub record Leaves (f : Flushed) (s : Store) : Type 0 where
   pub live : (t : Fix → Bool) (q : ℕ) → live_by t s.memo q s.cells ≡ live_by t f.store.memo q (f.cell ∷ f.rest)
-  pub lines : (q : ℕ) (l : Line) → find s.memo q ≡ some l → (k : Line) × (find f.store.memo q ≡ some k) × (k.last ≡ l.last)
+  pub lines : (q : ℕ) (l : Line) → find s.memo q ≡ Some l → (k : Line) × (find f.store.memo q ≡ Some k) × (k.last ≡ l.last)
   pub waiting : s.waiting ≡ f.store.waiting
   pub on : s.on ≡ f.store.on
   pub minute : s.highest ≡ f.store.highest
@@ -137,14 +137,14 @@ module _ (m : Box) (s : Store) (d : Cell) (c : Core s) (a : Among s.cells d) (ho
       (λ g. omega (arith, sum-cons g d (others d.number s.cells), ap (sum_by g) (others-Among s.cells d a c.tiling.round), sum-Among g a))
 
   -- a radio whose report goes in is stored by it; any other stays where it is
-  pub stored_in_lem : (t : Store) → Leaves (flushed_into m s d) t → (q : ℕ) (w : Report) → find reports_in q ≡ some w → stored_in t.memo q t.cells ≡ some w.fix
+  pub stored_in_lem : (t : Store) → Leaves (flushed_into m s d) t → (q : ℕ) (w : Report) → find reports_in q ≡ Some w → stored_in t.memo q t.cells ≡ Some w.fix
   stored_in_lem t v q w n =
       let f = report_found m s d c a home q w n in
       stored_at t.memo q t.cells w.fix
       (λ p. v.live p q
       ∙ live_flushed m s d (marks s.waiting) (on_set s.on) swept-others c.waits.waiting_rises q w n (report_Enters m s d c a home q w f.0 f.1).here (ap was_new f.0) p)
 
-  pub stored_out : (t : Store) → Leaves (flushed_into m s d) t → (q : ℕ) → find reports_in q ≡ none → stored_in t.memo q t.cells ≡ stored_in s.memo q s.cells
+  pub stored_out : (t : Store) → Leaves (flushed_into m s d) t → (q : ℕ) → find reports_in q ≡ None → stored_in t.memo q t.cells ≡ stored_in s.memo q s.cells
   stored_out t v q n =
       stored_same s.memo t.memo q s.cells t.cells
       (λ p. v.live p q ∙ live_flushed_other m s d (marks s.waiting) (on_set s.on) swept-others Books-others c.waits.waiting_rises q n p ∙ others_live p q)
@@ -178,23 +178,23 @@ flushes m s c =
     }
 
 -- a report that does not go in stays
-kept_report : (m : Box) (s : Store) → Rising 0 s.waiting → (q : ℕ) → find (filter (in_box s.cuts m) s.waiting) q ≡ none
+kept_report : (m : Box) (s : Store) → Rising 0 s.waiting → (q : ℕ) → find (filter (in_box s.cuts m) s.waiting) q ≡ None
     → find (filter (λ w. not (in_box s.cuts m w)) s.waiting) q ≡ find s.waiting q
 kept_report m s a q n =
     find-filter (λ w. not (in_box s.cuts m w)) 0 q s.waiting a ∙ kept (find s.waiting q) (sym (find-filter (in_box s.cuts m) 0 q s.waiting a) ∙ n)
   where
-    kept : (o : Option Report) → passed (in_box s.cuts m) q o ≡ none → passed (λ w. not (in_box s.cuts m w)) q o ≡ o
-    kept none = λ e. refl
-    kept (some w) = by_cases (in_box s.cuts m (record { key = q; val = w })) (λ t. rw t (λ e. none-some (sym e))) (λ t. rw t (λ e. refl))
+    kept : (o : Option Report) → passed (in_box s.cuts m) q o ≡ None → passed (λ w. not (in_box s.cuts m w)) q o ≡ o
+    kept None = λ e. refl
+    kept (Some w) = by_cases (in_box s.cuts m (record { key = q; val = w })) (λ t. rw t (λ e. none-some (sym e))) (λ t. rw t (λ e. refl))
 
-gone_report : (m : Box) (s : Store) → Rising 0 s.waiting → (q : ℕ) (w : Report) → find (filter (in_box s.cuts m) s.waiting) q ≡ some w
-    → find (filter (λ w. not (in_box s.cuts m w)) s.waiting) q ≡ none
+gone_report : (m : Box) (s : Store) → Rising 0 s.waiting → (q : ℕ) (w : Report) → find (filter (in_box s.cuts m) s.waiting) q ≡ Some w
+    → find (filter (λ w. not (in_box s.cuts m w)) s.waiting) q ≡ None
 gone_report m s a q w n =
     find-filter (λ w. not (in_box s.cuts m w)) 0 q s.waiting a ∙ gone (find s.waiting q) (sym (find-filter (in_box s.cuts m) 0 q s.waiting a) ∙ n)
   where
-    gone : (o : Option Report) → passed (in_box s.cuts m) q o ≡ some w → passed (λ w. not (in_box s.cuts m w)) q o ≡ none
-    gone none = λ e. none-some e
-    gone (some v) = by_cases (in_box s.cuts m (record { key = q; val = v })) (λ t. rw t (λ e. refl)) (λ t. rw t (λ e. none-some e))
+    gone : (o : Option Report) → passed (in_box s.cuts m) q o ≡ Some w → passed (λ w. not (in_box s.cuts m w)) q o ≡ None
+    gone None = λ e. none-some e
+    gone (Some v) = by_cases (in_box s.cuts m (record { key = q; val = v })) (λ t. rw t (λ e. refl)) (λ t. rw t (λ e. none-some e))
 
 flushed_waiting : (m : Box) (s : Store) → Flushes m s → (flush m s).waiting ≡ filter (λ w. not (in_box s.cuts m w)) s.waiting
 flushed_waiting m s f = f.leaves.waiting ∙ unfold flushed_into in refl
@@ -240,47 +240,47 @@ latest-tick s b q =
 
 -- ---- the record's own effect
 
-latest_put : (s : Store) → Rising 0 s.waiting → (r : ℕ) (f : Fix) → 1 ≤ r → (g : Option Report → Option Report) → (fix_of (g (find s.waiting r)) ≡ some f) → (q : ℕ)
-    → or_else (fix_of (find (alter g r s.waiting) q)) (stored_in s.memo q s.cells) ≡ cond (eqb q r) (some f) (latest s q)
+latest_put : (s : Store) → Rising 0 s.waiting → (r : ℕ) (f : Fix) → 1 ≤ r → (g : Option Report → Option Report) → (fix_of (g (find s.waiting r)) ≡ Some f) → (q : ℕ)
+    → or_else (fix_of (find (alter g r s.waiting) q)) (stored_in s.memo q s.cells) ≡ cond (eqb q r) (Some f) (latest s q)
 unfolding latest
 latest_put s a r f h g e q =
     rw (find-alter g 0 r q s.waiting h a) (by_cases (eqb q r)
     (λ t. rw (t, eqb-true q r t, e))
     (λ t. rw t))
 
-pub latest_on : (s : Store) → Rising 0 s.waiting → (r : ℕ) (f : Fix) → 1 ≤ r → (q : ℕ) → latest (signed_on r f s) q ≡ cond (eqb q r) (some f) (latest s q)
+pub latest_on : (s : Store) → Rising 0 s.waiting → (r : ℕ) (f : Fix) → 1 ≤ r → (q : ℕ) → latest (signed_on r f s) q ≡ cond (eqb q r) (Some f) (latest s q)
 unfolding signed_on
-latest_on s a r f h q = unfold latest in latest_put s a r f h (λ _. some (record { fix = f; new = true })) refl q
+latest_on s a r f h q = unfold latest in latest_put s a r f h (λ _. Some (record { fix = f; new = true })) refl q
 
-pub latest_report : (s : Store) → Rising 0 s.waiting → (r : ℕ) (f : Fix) → 1 ≤ r → (q : ℕ) → latest (reported r f s) q ≡ cond (eqb q r) (some f) (latest s q)
+pub latest_report : (s : Store) → Rising 0 s.waiting → (r : ℕ) (f : Fix) → 1 ≤ r → (q : ℕ) → latest (reported r f s) q ≡ cond (eqb q r) (Some f) (latest s q)
 unfolding reported
-latest_report s a r f h q = unfold latest in latest_put s a r f h (λ w. some (record { fix = f; new = was_new w })) refl q
+latest_report s a r f h q = unfold latest in latest_put s a r f h (λ w. Some (record { fix = f; new = was_new w })) refl q
 
 -- a sign-on that never left memory: none of its radio's entries counts
-new_unstored : (s : Store) → Core s → (r : ℕ) → was_new (find s.waiting r) ≡ true → stored_in s.memo r s.cells ≡ none
+new_unstored : (s : Store) → Core s → (r : ℕ) → was_new (find s.waiting r) ≡ true → stored_in s.memo r s.cells ≡ None
 new_unstored s c r u =
     stored_none s.memo r s.cells (omega (arith, c.books.present r, ap one_if u, one_if-le (on_set s.on r)))
 
 -- nothing of the radio is stored then, and every other stays
-pub stored_off : (s : Store) → Core s → (r : ℕ) → 1 ≤ r → (q : ℕ) → stored_in (signed_off r s).memo q s.cells ≡ cond (eqb q r) none (stored_in s.memo q s.cells)
+pub stored_off : (s : Store) → Core s → (r : ℕ) → 1 ≤ r → (q : ℕ) → stored_in (signed_off r s).memo q s.cells ≡ cond (eqb q r) None (stored_in s.memo q s.cells)
 unfolding signed_off
 stored_off s c r h q =
     by_cases (eqb q r)
     (λ t. rw (t, eqb-true q r t) (by_cases (was_new (find s.waiting r))
     (λ u. rw u (new_unstored s c r u))
-    (λ u. rw u (stored_none (alter (raised none) r s.memo) r s.cells (live_off s.memo r h c.books.memo_rises s.cells)))))
+    (λ u. rw u (stored_none (alter (raised None) r s.memo) r s.cells (live_off s.memo r h c.books.memo_rises s.cells)))))
     (λ t. rw t (by_cases (was_new (find s.waiting r))
     (λ u. rw u)
-    (λ u. rw u (stored_same s.memo (alter (raised none) r s.memo) q s.cells s.cells (live_off_other s.memo r h c.books.memo_rises s.cells q (eqb-false q r t))
+    (λ u. rw u (stored_same s.memo (alter (raised None) r s.memo) q s.cells s.cells (live_off_other s.memo r h c.books.memo_rises s.cells q (eqb-false q r t))
     (live_one s.cells s.memo (marks s.waiting) (on_set s.on) q c.books)))))
 
-pub latest_off : (s : Store) → Core s → (r : ℕ) → 1 ≤ r → (q : ℕ) → latest (signed_off r s) q ≡ cond (eqb q r) none (latest s q)
+pub latest_off : (s : Store) → Core s → (r : ℕ) → 1 ≤ r → (q : ℕ) → latest (signed_off r s) q ≡ cond (eqb q r) None (latest s q)
 unfolding latest
 latest_off s c r h q =
     ap₂ or_else (ap fix_of waiting_off) (stored_off' ∙ stored_off s c r h q) ∙ by_cases (eqb q r) (λ t. rw t) (λ t. rw t)
   where
-    waiting_off : find (signed_off r s).waiting q ≡ cond (eqb q r) none (find s.waiting q)
-    waiting_off = unfold signed_off in find-alter (λ _. none) 0 r q s.waiting h c.waits.waiting_rises
+    waiting_off : find (signed_off r s).waiting q ≡ cond (eqb q r) None (find s.waiting q)
+    waiting_off = unfold signed_off in find-alter (λ _. None) 0 r q s.waiting h c.waits.waiting_rises
 
     stored_off' : stored_in (signed_off r s).memo q (signed_off r s).cells ≡ stored_in (signed_off r s).memo q s.cells
     stored_off' = unfold signed_off in refl
@@ -293,9 +293,9 @@ latest_after p s c q = option_cases (flush_due s p) (λ e. rw e) (λ m e. rw e (
 
 -- what an accepted record makes of the latest places
 unfoldable pub latest_by : Request → (ℕ → Option Fix) → ℕ → Option Fix
-latest_by (sign_on r f) before q = cond (eqb q r) (some f) (before q)
-latest_by (report r f) before q = cond (eqb q r) (some f) (before q)
-latest_by (sign_off r minute) before q = cond (eqb q r) none (before q)
+latest_by (sign_on r f) before q = cond (eqb q r) (Some f) (before q)
+latest_by (report r f) before q = cond (eqb q r) (Some f) (before q)
+latest_by (sign_off r minute) before q = cond (eqb q r) None (before q)
 latest_by (range rect minute) before q = before q
 
 settled_latest : (p : Place) (s : Store) → Core s → Bounded s.memo s.cells (length s.waiting) (s.tally + 1) → s.tally < sweep_every → length s.waiting ≤ full_memory
@@ -313,22 +313,22 @@ unfolding carried_out latest_by signed_on reported is_on on_count
 done_latest k s buffer w (on_passed r f h i here off room late) q =
     let s' = with_highest f.minute s in
     let w' = later_well s w f.minute late in
-    let g : Option Report → Option Report = λ _. some (record { fix = f; new = true }) in
+    let g : Option Report → Option Report = λ _. Some (record { fix = f; new = true }) in
     settled_latest f.place (signed_on r f s') (on_Core s' w' r f h i here off room (omega arith)) (put_Bounded s' w' r h g f true refl) w.tallied
     (put_few s' w' r h g f true refl) (put_boxes s' w' r h g f true refl) q
-    ∙ latest_on s' w.waiting_rises r f h q ∙ ap (cond (eqb q r) (some f)) (latest_at f.minute s q)
+    ∙ latest_on s' w.waiting_rises r f h q ∙ ap (cond (eqb q r) (Some f)) (latest_at f.minute s q)
 done_latest k s buffer w (report_passed r f h i here on late) q =
     let s' = with_highest f.minute s in
     let w' = later_well s w f.minute late in
-    let g : Option Report → Option Report = λ o. some (record { fix = f; new = was_new o }) in
+    let g : Option Report → Option Report = λ o. Some (record { fix = f; new = was_new o }) in
     let b = was_new (find s.waiting r) in
     settled_latest f.place (reported r f s') (report_Core s' w' r f h i here on (omega arith)) (put_Bounded s' w' r h g f b refl) w.tallied
     (put_few s' w' r h g f b refl) (put_boxes s' w' r h g f b refl) q
-    ∙ latest_report s' w.waiting_rises r f h q ∙ ap (cond (eqb q r) (some f)) (latest_at f.minute s q)
+    ∙ latest_report s' w.waiting_rises r f h q ∙ ap (cond (eqb q r) (Some f)) (latest_at f.minute s q)
 done_latest k s buffer w (off_passed r minute h i on late) q =
     let s' = with_highest minute s in
     let w' = later_well s w minute late in
-    latest-tick (signed_off r s') (off_Core s' w' r h i on).books q ∙ latest_off s' (well_Core s' w') r h q ∙ ap (cond (eqb q r) none) (latest_at minute s q)
+    latest-tick (signed_off r s') (off_Core s' w' r h i on).books q ∙ latest_off s' (well_Core s' w') r h q ∙ ap (cond (eqb q r) None) (latest_at minute s q)
 done_latest k s buffer w (range_passed rect minute) q = ap (λ (t : Store). latest t q) (answered-store (found s rect minute) s buffer)
 
 -- an accepted record gives its own radio its place, or takes it, whatever is flushed, split, joined or swept on the way; one turned down changes nothing

@@ -1,7 +1,7 @@
 -- The store beside the plain rule: what each says of a radio, and that they answer alike.
 use mathlib.Core.Bool.{Bool, true, false, not, cond}
 use mathlib.Core.List.{List, [], ◌∷◌}
-use mathlib.Core.Option.{Option, none, some}
+use Rattle.std.specs.Prelude.{Option, None, Some}
 use mathlib.Core.Path.{◌≡◌, refl, sym, ap, ap₂, ◌∙◌, fun_ext}
 use Prim.Native.Nat.{ℕ, suc, ◌≤◌, ◌<◌}
 use native.Mathlib.Omega.{arith}
@@ -27,12 +27,12 @@ use Rattle.rules.specs.Parts.{Signed, Waits}
 pub record Link (s : Store) (x : Plain) : Type 0 where
   pub on : (r : ℕ) → is_on s r ≡ plain_on x r
   -- the reports waiting are the plain rule's waiting radios with their latest places
-  pub waiting : (r : ℕ) → fix_of (find s.waiting r) ≡ cond (x.waits r) (x.latest r) none
+  pub waiting : (r : ℕ) → fix_of (find s.waiting r) ≡ cond (x.waits r) (x.latest r) None
   -- "marked new" is "no last place flushed"
   pub marked : (r : ℕ) → was_new (find s.waiting r) ≡ both (x.waits r) (not (is_some (x.flushed r)))
   -- the live entry has the last place flushed, and so has any memo line
   pub stored : (r : ℕ) → place_of (stored_in s.memo r s.cells) ≡ x.flushed r
-  pub lines : (r : ℕ) (l : Line) → find s.memo r ≡ some l → l.last ≡ x.flushed r
+  pub lines : (r : ℕ) (l : Line) → find s.memo r ≡ Some l → l.last ≡ x.flushed r
   -- where nothing waits, the live entry has what the latest report told, or the radio is off
   pub quiet : (r : ℕ) → x.waits r ≡ false → stored_in s.memo r s.cells ≡ x.latest r
   pub waits_on : (r : ℕ) → x.waits r ≡ true → plain_on x r ≡ true
@@ -72,13 +72,13 @@ refusal_same s x k g bytes =
 -- ---- the same list
 
 abbrev place_in : Rect → ℕ → Option Fix → Option Place
-place_in rect minute none = none
-place_in rect minute (some f) = cond (listed rect minute f) (some f.place) none
+place_in rect minute None = None
+place_in rect minute (Some f) = cond (listed rect minute f) (Some f.place) None
 
 module _ (rect : Rect) (minute : ℕ) (f : ℕ → Option Fix) where
   Rising-list_if : (b r : ℕ) (o : Option Fix) (l : Rows Place) → b < r → Rising r l → Rising b (list_if rect minute r o l)
-  Rising-list_if b r none l h a = Rising_less b r l (omega arith) a
-  Rising-list_if b r (some g) l h a = by_cases (listed rect minute g) (λ t. rw t (h, a)) (λ t. rw t (Rising_less b r l (omega arith) a))
+  Rising-list_if b r None l h a = Rising_less b r l (omega arith) a
+  Rising-list_if b r (Some g) l h a = by_cases (listed rect minute g) (λ t. rw t (h, a)) (λ t. rw t (Rising_less b r l (omega arith) a))
 
   pub Rising-list_of : (b : ℕ) (l : Rows (Unit {0})) → Rising b l → Rising b (list_of rect minute f l)
   unfolding list_of
@@ -87,15 +87,15 @@ module _ (rect : Rect) (minute : ℕ) (f : ℕ → Option Fix) where
 
   find-list_if_same : (r : ℕ) (o : Option Fix) (l : Rows Place) → Rising r l → find (list_if rect minute r o l) r ≡ place_in rect minute o
   unfolding find
-  find-list_if_same r none l a = find_below r r l (omega arith) a
-  find-list_if_same r (some g) l a = by_cases (listed rect minute g) (λ t. rw (t, eq-eqb r r refl)) (λ t. rw t (find_below r r l (omega arith) a))
+  find-list_if_same r None l a = find_below r r l (omega arith) a
+  find-list_if_same r (Some g) l a = by_cases (listed rect minute g) (λ t. rw (t, eq-eqb r r refl)) (λ t. rw t (find_below r r l (omega arith) a))
 
   find-list_if_other : (r q : ℕ) (o : Option Fix) (l : Rows Place) → eqb q r ≡ false → find (list_if rect minute r o l) q ≡ find l q
   unfolding find
-  find-list_if_other r q none l e = refl
-  find-list_if_other r q (some g) l e = by_cases (listed rect minute g) (λ t. rw (t, e)) (λ t. rw t)
+  find-list_if_other r q None l e = refl
+  find-list_if_other r q (Some g) l e = by_cases (listed rect minute g) (λ t. rw (t, e)) (λ t. rw t)
 
-  find-list_of : (b q : ℕ) (l : Rows (Unit {0})) → Rising b l → find (list_of rect minute f l) q ≡ cond (is_some (find l q)) (place_in rect minute (f q)) none
+  find-list_of : (b q : ℕ) (l : Rows (Unit {0})) → Rising b l → find (list_of rect minute f l) q ≡ cond (is_some (find l q)) (place_in rect minute (f q)) None
   unfolding list_of find
   find-list_of b q [] a = refl
   find-list_of b q (x ∷ xs) a =
@@ -116,25 +116,25 @@ found_same s x k g rect minute =
     let w = find_within 0 max_radio r s.on g.rising_on g.radios_on o in
     rw o (sym (rw (find-list_of rect minute x.latest 0 r all rises, find-tab max_radio 0 r suc (λ _. tt {0}) (λ i. omega arith) w.0 w.1)))))
   where
-    never : (b : Bool) → ◌≡◌ {A = Option Place} (cond b none none) none
+    never : (b : Bool) → ◌≡◌ {A = Option Place} (cond b None None) None
     never true = refl
     never false = refl
 
 -- ---- the same memory cell to flush
 
 abbrev count_at : Cuts → Box → Option Fix → ℕ
-count_at cuts m none = 0
-count_at cuts m (some f) = one_if (same_box (box_of cuts f.place) m)
+count_at cuts m None = 0
+count_at cuts m (Some f) = one_if (same_box (box_of cuts f.place) m)
 
 count_report : (cuts : Cuts) (m : Box) (r : ℕ) (o : Option Report) → count_found (λ q w. one_if (in_box cuts m (record { key = q; val = w }))) r o ≡ count_at cuts m (fix_of o)
 unfolding in_box
-count_report cuts m r none = refl
-count_report cuts m r (some w) = refl
+count_report cuts m r None = refl
+count_report cuts m r (Some w) = refl
 
-count_plain : (cuts : Cuts) (m : Box) (b : Bool) (o : Option Fix) → count_at cuts m (cond b o none) ≡ one_if (both b (waits_in cuts m o))
+count_plain : (cuts : Cuts) (m : Box) (b : Bool) (o : Option Fix) → count_at cuts m (cond b o None) ≡ one_if (both b (waits_in cuts m o))
 unfolding both
-count_plain cuts m true none = refl
-count_plain cuts m true (some f) = refl
+count_plain cuts m true None = refl
+count_plain cuts m true (Some f) = refl
 count_plain cuts m false o = refl
 
 pub waiting_in_same : (s : Store) (x : Plain) → Link s x → Waits s.waiting s.on → (m : Box)
@@ -145,12 +145,12 @@ waiting_in_same s x k w m =
     ∙ sum_to_ext (suc max_radio) _ _ (λ r h. count_report s.cuts m r (find s.waiting r) ∙ ap (count_at s.cuts m) (k.waiting r) ∙ count_plain s.cuts m (x.waits r) (x.latest r))
 
 some_fix : (o : Option Report) → is_some o ≡ is_some (fix_of o)
-some_fix none = refl
-some_fix (some w) = refl
+some_fix None = refl
+some_fix (Some w) = refl
 
 some_place : (o : Option Fix) → is_some (place_of o) ≡ is_some o
-some_place none = refl
-some_place (some f) = refl
+some_place None = refl
+some_place (Some f) = refl
 
 waits_found : (s : Store) (x : Plain) → Link s x → (r : ℕ) → is_some (find s.waiting r) ≡ x.waits r
 unfolding plain_on
@@ -176,7 +176,7 @@ Link_at minute s x k =
 -- ---- a record's own effect
 
 -- a radio that is off has nothing here
-off_nothing : (s : Store) (x : Plain) → Link s x → (r : ℕ) → plain_on x r ≡ false → (x.waits r ≡ false) × (x.latest r ≡ none) × (x.flushed r ≡ none)
+off_nothing : (s : Store) (x : Plain) → Link s x → (r : ℕ) → plain_on x r ≡ false → (x.waits r ≡ false) × (x.latest r ≡ None) × (x.flushed r ≡ None)
 unfolding plain_on
 off_nothing s x k r e =
     let l = is_some-false (x.latest r) e in
@@ -186,8 +186,8 @@ off_nothing s x k r e =
 
 -- a report is put among the waiting, marked where nothing of its radio was flushed
 module _ (s : Store) (x : Plain) (k : Link s x) (r : ℕ) (f : Fix) (h : 0 < r) (rises : Rising 0 s.waiting) (g : Option Report → Option Report) (b : Bool)
-    (put : g (find s.waiting r) ≡ some (record { fix = f; new = b })) (mark : b ≡ not (is_some (x.flushed r))) where
-  waiting_place : (q : ℕ) → fix_of (find (alter g r s.waiting) q) ≡ cond (put_at r true x.waits q) (put_at r (some f) x.latest q) none
+    (put : g (find s.waiting r) ≡ Some (record { fix = f; new = b })) (mark : b ≡ not (is_some (x.flushed r))) where
+  waiting_place : (q : ℕ) → fix_of (find (alter g r s.waiting) q) ≡ cond (put_at r true x.waits q) (put_at r (Some f) x.latest q) None
   waiting_place q =
       rw (find-alter g 0 r q s.waiting h rises) (by_cases (eqb q r)
       (λ t. rw (t, eqb-true q r t, put))
@@ -200,20 +200,20 @@ module _ (s : Store) (x : Plain) (k : Link s x) (r : ℕ) (f : Fix) (h : 0 < r) 
       (λ t. rw (t, eqb-true q r t, put) mark)
       (λ t. rw t (k.marked q)))
 
-  quiet_place : (q : ℕ) → put_at r true x.waits q ≡ false → stored_in s.memo q s.cells ≡ put_at r (some f) x.latest q
+  quiet_place : (q : ℕ) → put_at r true x.waits q ≡ false → stored_in s.memo q s.cells ≡ put_at r (Some f) x.latest q
   quiet_place q =
       by_cases (eqb q r)
       (λ t. rw t (λ e. cc))
       (λ t. rw t (λ e. k.quiet q e))
 
-  waits_place : (q : ℕ) → put_at r true x.waits q ≡ true → is_some (put_at r (some f) x.latest q) ≡ true
+  waits_place : (q : ℕ) → put_at r true x.waits q ≡ true → is_some (put_at r (Some f) x.latest q) ≡ true
   unfolding plain_on
   waits_place q =
       by_cases (eqb q r)
       (λ t. rw t (λ e. refl))
       (λ t. rw t (λ e. k.waits_on q e))
 
-  Link_place : (on : Rows (Unit {0})) → ((q : ℕ) → is_some (find on q) ≡ is_some (put_at r (some f) x.latest q))
+  Link_place : (on : Rows (Unit {0})) → ((q : ℕ) → is_some (find on q) ≡ is_some (put_at r (Some f) x.latest q))
       → Link (with_waiting (alter g r s.waiting) (with_on on s)) (plain_place r f x)
   unfolding plain_place is_on plain_on
   Link_place on same = record {
@@ -232,14 +232,14 @@ pub Link-on : (s : Store) (x : Plain) → Link s x → (r : ℕ) (f : Fix) → 1
 unfolding signed_on is_on plain_on
 Link-on s x k r f h g w off =
     let o = off_nothing s x k r (sym (k.on r) ∙ off) in
-    Link_place s x k r f h w.waiting_rises (λ _. some (record { fix = f; new = true })) true refl (sym (rw o.2 refl)) (insert r tt s.on)
-    (λ q. rw (find-alter (λ _. some tt) 0 r q s.on h g.rising_on) (by_cases (eqb q r) (λ t. rw t) (λ t. rw t (k.on q))))
+    Link_place s x k r f h w.waiting_rises (λ _. Some (record { fix = f; new = true })) true refl (sym (rw o.2 refl)) (insert r tt s.on)
+    (λ q. rw (find-alter (λ _. Some tt) 0 r q s.on h g.rising_on) (by_cases (eqb q r) (λ t. rw t) (λ t. rw t (k.on q))))
 
 pub Link_report : (s : Store) (x : Plain) → Link s x → (r : ℕ) (f : Fix) → 1 ≤ r → Waits s.waiting s.on → is_on s r ≡ true
     → Link (reported r f s) (plain_place r f x)
 unfolding reported is_on plain_on
 Link_report s x k r f h w on =
-    Link_place s x k r f h w.waiting_rises (λ o. some (record { fix = f; new = was_new o })) (was_new (find s.waiting r)) refl
+    Link_place s x k r f h w.waiting_rises (λ o. Some (record { fix = f; new = was_new o })) (was_new (find s.waiting r)) refl
     (k.marked r ∙ by_cases (x.waits r) (λ t. unfold both in rw t) (λ t. unfold both in rw (t, ← k.stored r, some_place (stored_in s.memo r s.cells), k.quiet r t, sym (k.on r) ∙ on)))
     s.on
     (λ q. k.on q ∙ by_cases (eqb q r) (λ t. rw (t, eqb-true q r t) (sym (k.on r) ∙ on)) (λ t. rw t))

@@ -3,7 +3,7 @@ use mathlib.Core.Path.{◌≡◌, refl, sym, ap, ap₂, ◌∙◌}
 use mathlib.Core.Logic.{◌≢◌}
 use mathlib.Core.Bool.{Bool, true, false, not, cond}
 use mathlib.Core.List.{List, [], ◌∷◌, ◌++◌}
-use mathlib.Core.Option.{Option, none, some}
+use Rattle.std.specs.Prelude.{Option, None, Some}
 use Prim.Native.Nat.{ℕ, ◌+◌, ◌-◌, ◌≤◌, ◌<◌}
 use native.Mathlib.Omega.{arith}
 use lib.Dec.{eqb, ltb}
@@ -72,12 +72,12 @@ live_settled t memo r free c cs = live_entry t memo r c (settled free c) cs refl
 
 -- the entry of one cell: any that is not stale, and at most these
 count_true : (o : Option Line) (e : Option Fix) → count_live (λ _. true) o e ≡ count_if (λ p. not (stale_by o p)) e
-count_true o none = refl
-count_true o (some p) = ap one_if (both-true (not (stale_by o p)))
+count_true o None = refl
+count_true o (Some p) = ap one_if (both-true (not (stale_by o p)))
 
 count_le : (t : Fix → Bool) (o : Option Line) (e : Option Fix) → count_live t o e ≤ count_if (λ p. not (stale_by o p)) e
-count_le t o none = omega arith
-count_le t o (some p) = one_if-both-le (not (stale_by o p)) (t p)
+count_le t o None = omega arith
+count_le t o (Some p) = one_if-both-le (not (stale_by o p)) (t p)
 
 pub live_true : (memo : Rows Line) (r : ℕ) (cells : List Cell) → live_by (λ _. true) memo r cells ≡ live_of memo r cells
 unfolding live_by live_of
@@ -92,24 +92,24 @@ live_le t memo r cells = sum-le _ _ cells (λ c. count_le t (find memo r) (find 
 -- the one of a cell
 count_live_lem : (t : Fix → Bool) (memo : Rows Line) (r : ℕ) (e : Option Fix) → count_live t (find memo r) e ≡ count_if t (passed (λ x. not (stale memo x)) r e)
 unfolding both
-count_live_lem t memo r none = refl
-count_live_lem t memo r (some p) = by_cases (not (stale_by (find memo r) p)) (λ s. rw s) (λ s. rw s)
+count_live_lem t memo r None = refl
+count_live_lem t memo r (Some p) = by_cases (not (stale_by (find memo r) p)) (λ s. rw s) (λ s. rw s)
 
 live_step : (t : Fix → Bool) (memo : Rows Line) (r : ℕ) (c : Cell) (cs : List Cell) → live_by t memo r (c ∷ cs) ≡ count_if t (live_in memo r c) + live_by t memo r cs
 unfolding live_in
 live_step t memo r c cs = live_cons t memo r c cs ∙ ap (λ n. n + live_by t memo r cs) (count_live_lem t memo r (find c.entries r))
 
-none_live : (t : Fix → Bool) (memo : Rows Line) (r : ℕ) (c : Cell) (cs : List Cell) → live_in memo r c ≡ none → live_by t memo r (c ∷ cs) ≡ live_by t memo r cs
+none_live : (t : Fix → Bool) (memo : Rows Line) (r : ℕ) (c : Cell) (cs : List Cell) → live_in memo r c ≡ None → live_by t memo r (c ∷ cs) ≡ live_by t memo r cs
 none_live t memo r c cs e = omega (arith, live_step t memo r c cs, ap (count_if t) e)
 
-some_live : (t : Fix → Bool) (memo : Rows Line) (r : ℕ) (c : Cell) (cs : List Cell) (f : Fix) → live_in memo r c ≡ some f → live_by t memo r (c ∷ cs) ≡ one_if (t f) + live_by t memo r cs
+some_live : (t : Fix → Bool) (memo : Rows Line) (r : ℕ) (c : Cell) (cs : List Cell) (f : Fix) → live_in memo r c ≡ Some f → live_by t memo r (c ∷ cs) ≡ one_if (t f) + live_by t memo r cs
 some_live t memo r c cs f e = omega (arith, live_step t memo r c cs, ap (count_if t) e)
 
 stored_step : (memo : Rows Line) (r : ℕ) (c : Cell) (cs : List Cell) → stored_in memo r (c ∷ cs) ≡ or_else (live_in memo r c) (stored_in memo r cs)
 unfolding stored_in
 stored_step memo r c cs = refl
 
-stored_nil : (memo : Rows Line) (r : ℕ) → stored_in memo r [] ≡ none
+stored_nil : (memo : Rows Line) (r : ℕ) → stored_in memo r [] ≡ None
 unfolding stored_in
 stored_nil memo r = refl
 
@@ -118,24 +118,24 @@ unfolding live_by sum_by
 live_nil t memo r = refl
 
 -- no live entry, and no place
-none_stored : (memo : Rows Line) (r : ℕ) (cells : List Cell) → live_by (λ _. true) memo r cells ≡ 0 → stored_in memo r cells ≡ none
+none_stored : (memo : Rows Line) (r : ℕ) (cells : List Cell) → live_by (λ _. true) memo r cells ≡ 0 → stored_in memo r cells ≡ None
 none_stored memo r [] h = stored_nil memo r
 none_stored memo r (c ∷ cs) h =
     option_cases (live_in memo r c)
     (λ e. rw (stored_step memo r c cs, e) (none_stored memo r cs (omega (arith, none_live (λ _. true) memo r c cs e))))
     (λ p e. absurd (omega (arith, some_live (λ _. true) memo r c cs p e)))
 
-pub stored_none : (memo : Rows Line) (r : ℕ) (cells : List Cell) → live_of memo r cells ≡ 0 → stored_in memo r cells ≡ none
+pub stored_none : (memo : Rows Line) (r : ℕ) (cells : List Cell) → live_of memo r cells ≡ 0 → stored_in memo r cells ≡ None
 stored_none memo r cells h = none_stored memo r cells (live_true memo r cells ∙ h)
 
-none_counted : (memo : Rows Line) (r : ℕ) (cells : List Cell) → stored_in memo r cells ≡ none → live_by (λ _. true) memo r cells ≡ 0
+none_counted : (memo : Rows Line) (r : ℕ) (cells : List Cell) → stored_in memo r cells ≡ None → live_by (λ _. true) memo r cells ≡ 0
 none_counted memo r [] h = live_nil (λ _. true) memo r
 none_counted memo r (c ∷ cs) h =
     option_cases (live_in memo r c)
     (λ e. none_live (λ _. true) memo r c cs e ∙ none_counted memo r cs (rw (stored_step memo r c cs, e) at h))
-    (λ p e. let z : ◌≡◌ {A = Option Fix} (some p) none = rw (stored_step memo r c cs, e) at h in cc)
+    (λ p e. let z : ◌≡◌ {A = Option Fix} (Some p) None = rw (stored_step memo r c cs, e) at h in cc)
 
-pub stored_live : (memo : Rows Line) (r : ℕ) (cells : List Cell) → stored_in memo r cells ≡ none → live_of memo r cells ≡ 0
+pub stored_live : (memo : Rows Line) (r : ℕ) (cells : List Cell) → stored_in memo r cells ≡ None → live_of memo r cells ≡ 0
 stored_live memo r cells h = sym (live_true memo r cells) ∙ none_counted memo r cells h
 
 abbrev same_fix : Fix → Fix → Bool
@@ -151,13 +151,13 @@ same_fix-true f g s =
     λ i. record { place = p i; minute = m i }
 
 -- one live entry, f: the test "is it f?" tells that the first one is f, the test that all pass that no other follows
-pub stored_at : (memo : Rows Line) (r : ℕ) (cells : List Cell) (f : Fix) → ((t : Fix → Bool) → live_by t memo r cells ≡ one_if (t f)) → stored_in memo r cells ≡ some f
+pub stored_at : (memo : Rows Line) (r : ℕ) (cells : List Cell) (f : Fix) → ((t : Fix → Bool) → live_by t memo r cells ≡ one_if (t f)) → stored_in memo r cells ≡ Some f
 stored_at memo r [] f h = absurd (omega (arith, h (λ _. true), live_nil (λ _. true) memo r))
 stored_at memo r (c ∷ cs) f h =
     option_cases (live_in memo r c)
     (λ e. rw (stored_step memo r c cs, e) (stored_at memo r cs f (λ t. sym (none_live t memo r c cs e) ∙ h t)))
     (λ g e. rw (stored_step memo r c cs, e) (by_cases (same_fix f g)
-    (λ s. ap some (sym (same_fix-true f g s)))
+    (λ s. ap Some (sym (same_fix-true f g s)))
     (λ s. absurd (omega (
       arith,
       h (λ _. true),
@@ -170,14 +170,14 @@ stored_at memo r (c ∷ cs) f h =
       live_true memo r cs,
     )))))
 
-pub stored_some : (memo : Rows Line) (r : ℕ) (cells : List Cell) (f : Fix) → stored_in memo r cells ≡ some f → live_of memo r cells ≤ 1
+pub stored_some : (memo : Rows Line) (r : ℕ) (cells : List Cell) (f : Fix) → stored_in memo r cells ≡ Some f → live_of memo r cells ≤ 1
     → (t : Fix → Bool) → live_by t memo r cells ≡ one_if (t f)
-stored_some memo r [] f h b t = let z : ◌≡◌ {A = Option Fix} none (some f) = sym (stored_nil memo r) ∙ h in cc
+stored_some memo r [] f h b t = let z : ◌≡◌ {A = Option Fix} None (Some f) = sym (stored_nil memo r) ∙ h in cc
 stored_some memo r (c ∷ cs) f h b t =
     option_cases (live_in memo r c)
     (λ e. none_live t memo r c cs e
     ∙ stored_some memo r cs f (rw (stored_step memo r c cs, e) at h) (omega (arith, none_live (λ _. true) memo r c cs e, live_true memo r cs, live_true memo r (c ∷ cs))) t)
-    (λ g e. let z : ◌≡◌ {A = Option Fix} (some g) (some f) = rw (stored_step memo r c cs, e) at h in
+    (λ g e. let z : ◌≡◌ {A = Option Fix} (Some g) (Some f) = rw (stored_step memo r c cs, e) at h in
     let y : g ≡ f = cc in
     omega (
       arith,
@@ -214,48 +214,48 @@ unfolding live_by
 live_under_lem t memo r cells o e = ap (λ o. sum_by (λ c. count_live t o (find c.entries r)) cells) e
 
 -- where no entry is stale by a line, all count as without a line
-count_no_stale : (t : Fix → Bool) (o : Option Line) (e : Option Fix) → count_if (stale_by o) e ≡ 0 → count_live t o e ≡ count_live t none e
-count_no_stale t o none h = refl
-count_no_stale t o (some p) h = by_cases (stale_by o p) (λ s. absurd (omega (arith, ap one_if s))) (λ s. ap (λ b. one_if (both (not b) (t p))) s)
+count_no_stale : (t : Fix → Bool) (o : Option Line) (e : Option Fix) → count_if (stale_by o) e ≡ 0 → count_live t o e ≡ count_live t None e
+count_no_stale t o None h = refl
+count_no_stale t o (Some p) h = by_cases (stale_by o p) (λ s. absurd (omega (arith, ap one_if s))) (λ s. ap (λ b. one_if (both (not b) (t p))) s)
 
-no_stale : (t : Fix → Bool) (o : Option Line) (r : ℕ) (cells : List Cell) → stale_under o r cells ≡ 0 → live_under t o r cells ≡ live_under t none r cells
+no_stale : (t : Fix → Bool) (o : Option Line) (r : ℕ) (cells : List Cell) → stale_under o r cells ≡ 0 → live_under t o r cells ≡ live_under t None r cells
 unfolding sum_by
 no_stale t o r [] h = refl
 no_stale t o r (c ∷ cs) h = omega (arith, count_no_stale t o (find c.entries r) (omega arith), no_stale t o r cs (omega arith))
 
 -- ---- sweep
 
-lowered-last : (o : Option Line) (l : Line) → lowered o ≡ some l → (k : Line) × (o ≡ some k) × (k.last ≡ l.last)
-lowered-last none l = none-some
-lowered-last (some k) l =
+lowered-last : (o : Option Line) (l : Line) → lowered o ≡ Some l → (k : Line) × (o ≡ Some k) × (k.last ≡ l.last)
+lowered-last None l = none-some
+lowered-last (Some k) l =
     by_cases (ltb 1 k.missed)
     (λ t. rw t (λ e. (k, refl, let z : record { missed = k.missed - 1; last = k.last } ≡ l = cc in ap (λ (x : Line). x.last) z)))
     (λ t. rw t none-some)
 
-lowered_if-last : (e : Option Fix) (o : Option Line) (l : Line) → lowered_if e o ≡ some l → (k : Line) × (o ≡ some k) × (k.last ≡ l.last)
-lowered_if-last none o l h = (l, h, refl)
-lowered_if-last (some p) o l h = lowered-last o l h
+lowered_if-last : (e : Option Fix) (o : Option Line) (l : Line) → lowered_if e o ≡ Some l → (k : Line) × (o ≡ Some k) × (k.last ≡ l.last)
+lowered_if-last None o l h = (l, h, refl)
+lowered_if-last (Some p) o l h = lowered-last o l h
 
 -- a sweep changes no line's place
-pub swept_memo-last : (r : ℕ) (memo : Rows Line) (es : Rows Fix) → Rising 0 es → Rising 0 memo → (l : Line) → find (swept_memo memo es) r ≡ some l
-    → (k : Line) × (find memo r ≡ some k) × (k.last ≡ l.last)
+pub swept_memo-last : (r : ℕ) (memo : Rows Line) (es : Rows Fix) → Rising 0 es → Rising 0 memo → (l : Line) → find (swept_memo memo es) r ≡ Some l
+    → (k : Line) × (find memo r ≡ Some k) × (k.last ≡ l.last)
 swept_memo-last r memo es a m l e = lowered_if-last (passed (stale memo) r (find es r)) (find memo r) l (sym (find-swept_memo memo es m a r) ∙ e)
 
 -- a line that is dropped had one stale entry, and it is the one swept; else the line judges as before
 lowered_live : (t : Fix → Bool) (o : Option Line) (f : Fix) (r : ℕ) (cells : List Cell) → stale_by o f ≡ true → 1 + stale_under o r cells ≡ missed_of o
     → live_under t (lowered o) r cells ≡ live_under t o r cells
-lowered_live t none p r cells s h = cc
-lowered_live t (some l) p r cells s h =
+lowered_live t None p r cells s h = cc
+lowered_live t (Some l) p r cells s h =
     by_cases (ltb 1 l.missed)
     (λ u. rw u)
-    (λ u. rw u (sym (no_stale t (some l) r cells (omega (arith, ltb-false 1 l.missed u)))))
+    (λ u. rw u (sym (no_stale t (Some l) r cells (omega (arith, ltb-false 1 l.missed u)))))
 
 swept_live : (t : Fix → Bool) (memo : Rows Line) (e : Option Fix) (r : ℕ) (cells : List Cell) → count_if (stale_by (find memo r)) e + stale_under (find memo r) r cells ≡ missed_of (find memo r)
     → count_live t (lowered_if (passed (stale memo) r e) (find memo r)) (passed (λ x. not (stale memo x)) r e) + live_under t (lowered_if (passed (stale memo) r e) (find memo r)) r cells
     ≡ count_live t (find memo r) e + live_under t (find memo r) r cells
 unfolding both
-swept_live t memo none r cells h = refl
-swept_live t memo (some p) r cells h =
+swept_live t memo None r cells h = refl
+swept_live t memo (Some p) r cells h =
     by_cases (stale_by (find memo r) p)
     (λ s. rw s (omega (arith, lowered_live t (find memo r) p r cells s (omega (arith, ap one_if s)))))
     (λ s. rw (s, s))
@@ -278,49 +278,49 @@ live_sweep d rest memo new on k t r =
 -- ---- reports entered
 
 -- the line says p: an entry at p is live, one in a cell that p does not lie in is not
-at_live : (t : Fix → Bool) (m : ℕ) (f : Fix) → count_live t (some (record { missed = m; last = some f.place })) (some f) ≡ one_if (t f)
+at_live : (t : Fix → Bool) (m : ℕ) (f : Fix) → count_live t (Some (record { missed = m; last = Some f.place })) (Some f) ≡ one_if (t f)
 at_live t m f = ap (λ b. one_if (both (not (not b)) (t f))) (same_place_refl f.place) ∙ ap one_if (true-both (t f))
 
 away_one : (t : Fix → Bool) (m : ℕ) (p : Place) (r : ℕ) (c : Cell) → Rowed c → one_if (inside c.edges p) ≡ 0 → (e : Option Fix) → find c.entries r ≡ e
-    → count_live t (some (record { missed = m; last = some p })) e ≡ 0
-away_one t m p r c k h none e = refl
-away_one t m p r c k h (some q) e =
+    → count_live t (Some (record { missed = m; last = Some p })) e ≡ 0
+away_one t m p r c k h None e = refl
+away_one t m p r c k h (Some q) e =
     ap (λ b. one_if (both (not (not b)) (t q))) (away c p k (one_if-false (inside c.edges p) h) r q e) ∙ ap one_if (both_left_false (t q) refl)
 
 away_live : (t : Fix → Bool) (m : ℕ) (p : Place) (r : ℕ) (cells : List Cell) → Each Rowed cells → sum_by (λ c. one_if (inside c.edges p)) cells ≡ 0
-    → live_under t (some (record { missed = m; last = some p })) r cells ≡ 0
+    → live_under t (Some (record { missed = m; last = Some p })) r cells ≡ 0
 unfolding sum_by
 away_live t m p r [] k h = refl
 away_live t m p r (c ∷ cs) k h = omega (arith, away_one t m p r c k.0 (omega arith) (find c.entries r) refl, away_live t m p r cs k.1 (omega arith))
 
 -- the new entry is live
-entered_here : (t : Fix → Bool) (b n : Bool) (f : Fix) (o : Option Line) → count_live t (entered b n f.place o) (some f) ≡ one_if (t f)
-entered_here t true n f none = ap one_if (true-both (t f))
-entered_here t true n f (some l) = at_live t l.missed f
-entered_here t false true f none = ap one_if (true-both (t f))
-entered_here t false true f (some l) = at_live t l.missed f
-entered_here t false false f none = at_live t 1 f
-entered_here t false false f (some l) = at_live t (l.missed + 1) f
+entered_here : (t : Fix → Bool) (b n : Bool) (f : Fix) (o : Option Line) → count_live t (entered b n f.place o) (Some f) ≡ one_if (t f)
+entered_here t true n f None = ap one_if (true-both (t f))
+entered_here t true n f (Some l) = at_live t l.missed f
+entered_here t false true f None = ap one_if (true-both (t f))
+entered_here t false true f (Some l) = at_live t l.missed f
+entered_here t false false f None = at_live t 1 f
+entered_here t false false f (Some l) = at_live t (l.missed + 1) f
 
 -- no other is: by a line it lies elsewhere; without one all entries were live, and the radio had one in d, or none at all
 entered_away : (t : Fix → Bool) (b n : Bool) (p : Place) (o : Option Line) (r : ℕ) (cells : List Cell) → Each Rowed cells → sum_by (λ c. one_if (inside c.edges p)) cells ≡ 0
-    → (o ≡ none → either b n ≡ true → live_under t none r cells ≡ 0) → live_under t (entered b n p o) r cells ≡ 0
+    → (o ≡ None → either b n ≡ true → live_under t None r cells ≡ 0) → live_under t (entered b n p o) r cells ≡ 0
 unfolding either
-entered_away t true n p none r cells k h f = f refl refl
-entered_away t true n p (some l) r cells k h f = away_live t l.missed p r cells k h
-entered_away t false true p none r cells k h f = f refl refl
-entered_away t false true p (some l) r cells k h f = away_live t l.missed p r cells k h
-entered_away t false false p none r cells k h f = away_live t 1 p r cells k h
-entered_away t false false p (some l) r cells k h f = away_live t (l.missed + 1) p r cells k h
+entered_away t true n p None r cells k h f = f refl refl
+entered_away t true n p (Some l) r cells k h f = away_live t l.missed p r cells k h
+entered_away t false true p None r cells k h f = f refl refl
+entered_away t false true p (Some l) r cells k h f = away_live t l.missed p r cells k h
+entered_away t false false p None r cells k h f = away_live t 1 p r cells k h
+entered_away t false false p (Some l) r cells k h f = away_live t (l.missed + 1) p r cells k h
 
-count_held : (e : Option Fix) → count_live (λ _. true) none e ≡ one_if (is_some e)
-count_held none = refl
-count_held (some p) = ap one_if (true-both true)
+count_held : (e : Option Fix) → count_live (λ _. true) None e ≡ one_if (is_some e)
+count_held None = refl
+count_held (Some p) = ap one_if (true-both true)
 
 module _ (d : Cell) (rest : List Cell) (memo : Rows Line) (new on : ℕ → Bool) (k : Books (d ∷ rest) memo new on) where
-  lineless : (t : Fix → Bool) (r : ℕ) (n : Bool) → new r ≡ n → find memo r ≡ none → either (is_some (find d.entries r)) n ≡ true → live_under t none r rest ≡ 0
+  lineless : (t : Fix → Bool) (r : ℕ) (n : Bool) → new r ≡ n → find memo r ≡ None → either (is_some (find d.entries r)) n ≡ true → live_under t None r rest ≡ 0
   lineless t r n e f h =
-      let a : count_live (λ _. true) (find memo r) (find d.entries r) ≡ count_live (λ _. true) none (find d.entries r) = ap (λ o. count_live (λ _. true) o (find d.entries r)) f in
+      let a : count_live (λ _. true) (find memo r) (find d.entries r) ≡ count_live (λ _. true) None (find d.entries r) = ap (λ o. count_live (λ _. true) o (find d.entries r)) f in
       omega (
         arith,
         k.present r,
@@ -333,12 +333,12 @@ module _ (d : Cell) (rest : List Cell) (memo : Rows Line) (new on : ℕ → Bool
         ap one_if e,
         live_le t memo r rest,
         live_true memo r rest,
-        live_under_lem t memo r rest none f,
+        live_under_lem t memo r rest None f,
       )
 
   -- a report of r, marked n, with the line that it makes
   entered_live : (t : Fix → Bool) (r : ℕ) (n : Bool) (f : Fix) → new r ≡ n → inside d.edges f.place ≡ true → (memo' : Rows Line) (d' : Cell)
-      → find memo' r ≡ entered (is_some (find d.entries r)) n f.place (find memo r) → find d'.entries r ≡ some f → live_by t memo' r (d' ∷ rest) ≡ one_if (t f)
+      → find memo' r ≡ entered (is_some (find d.entries r)) n f.place (find memo r) → find d'.entries r ≡ Some f → live_by t memo' r (d' ∷ rest) ≡ one_if (t f)
   entered_live t r n f e h memo' d' line entry =
       let o = entered (is_some (find d.entries r)) n f.place (find memo r) in
       let away = entered_away t (is_some (find d.entries r)) n f.place (find memo r) r rest k.cells_rowed.1
@@ -355,9 +355,9 @@ module _ (d : Cell) (rest : List Cell) (memo : Rows Line) (new on : ℕ → Bool
 
 -- ---- one report, and all of a memory cell: what is found then
 
-pub find-enter-entries : (w : Row Report) (k : Work) (q : ℕ) → 0 < w.key → Rising 0 k.entries → find (enter w k).entries q ≡ cond (eqb q w.key) (some w.val.fix) (find k.entries q)
+pub find-enter-entries : (w : Row Report) (k : Work) (q : ℕ) → 0 < w.key → Rising 0 k.entries → find (enter w k).entries q ≡ cond (eqb q w.key) (Some w.val.fix) (find k.entries q)
 unfolding enter
-find-enter-entries w k q h a = find-alter (λ _. some w.val.fix) 0 w.key q k.entries h a
+find-enter-entries w k q h a = find-alter (λ _. Some w.val.fix) 0 w.key q k.entries h a
 
 pub find-enter-memo : (w : Row Report) (k : Work) (q : ℕ) → 0 < w.key → Rising 0 k.memo
     → find (enter w k).memo q ≡ cond (eqb q w.key) (entered (is_some (find k.entries q)) w.val.new w.val.fix.place (find k.memo q)) (find k.memo q)
@@ -368,7 +368,7 @@ find-enter-memo w k q h a =
 
 pub Rising-enter-entries : (w : Row Report) (k : Work) → 0 < w.key → Rising 0 k.entries → Rising 0 (enter w k).entries
 unfolding enter
-Rising-enter-entries w k h a = Rising-alter (λ _. some w.val.fix) 0 w.key k.entries h a
+Rising-enter-entries w k h a = Rising-alter (λ _. Some w.val.fix) 0 w.key k.entries h a
 
 pub Rising-enter-memo : (w : Row Report) (k : Work) → 0 < w.key → Rising 0 k.memo → Rising 0 (enter w k).memo
 unfolding enter
@@ -376,8 +376,8 @@ Rising-enter-memo w k h a = Rising-alter (entered (is_some (find k.entries w.key
 
 -- the line of a radio, by its report and its entry in d
 abbrev pub entered_if : Option Report → Option Fix → Option Line → Option Line
-entered_if none e o = o
-entered_if (some w) e o = entered (is_some e) w.new w.fix.place o
+entered_if None e o = o
+entered_if (Some w) e o = entered (is_some e) w.new w.fix.place o
 
 pub find-enter_each-entries : (q b : ℕ) (ws : Rows Report) (k : Work) → Rising b ws → Rising 0 k.entries
     → find (enter_each ws k).entries q ≡ or_else (fix_of (find ws q)) (find k.entries q)
@@ -403,7 +403,7 @@ find-enter_each-memo q b (w ∷ ws) k a c m =
 
 module _ (d : Cell) (rest : List Cell) (memo : Rows Line) (new on : ℕ → Bool) (k : Books (d ∷ rest) memo new on) where
   -- each radio's report is entered once, and the others touch neither its line nor its entry: what Books says before is all that is needed
-  pub live_enter_each : (ws : Rows Report) → Rising 0 ws → (q : ℕ) (w : Report) → find ws q ≡ some w → inside d.edges w.fix.place ≡ true → new q ≡ w.new → (t : Fix → Bool)
+  pub live_enter_each : (ws : Rows Report) → Rising 0 ws → (q : ℕ) (w : Report) → find ws q ≡ Some w → inside d.edges w.fix.place ≡ true → new q ≡ w.new → (t : Fix → Bool)
       → live_by t (enter_each ws (record { entries = d.entries; memo = memo })).memo q (with_entries (enter_each ws (record { entries = d.entries; memo = memo })).entries d ∷ rest)
       ≡ one_if (t w.fix)
   live_enter_each ws a q w f i e t =
@@ -413,7 +413,7 @@ module _ (d : Cell) (rest : List Cell) (memo : Rows Line) (new on : ℕ → Bool
       (rw f at (find-enter_each-memo q 0 ws j a c k.memo_rises))
       (rw f at (find-enter_each-entries q 0 ws j a c))
 
-  pub live_enter_each_other : (ws : Rows Report) → Rising 0 ws → (q : ℕ) → find ws q ≡ none → (t : Fix → Bool)
+  pub live_enter_each_other : (ws : Rows Report) → Rising 0 ws → (q : ℕ) → find ws q ≡ None → (t : Fix → Bool)
       → live_by t (enter_each ws (record { entries = d.entries; memo = memo })).memo q (with_entries (enter_each ws (record { entries = d.entries; memo = memo })).entries d ∷ rest)
       ≡ live_by t memo q (d ∷ rest)
   live_enter_each_other ws a q f t =
@@ -426,14 +426,14 @@ module _ (d : Cell) (rest : List Cell) (memo : Rows Line) (new on : ℕ → Bool
 
 module _ (m : Box) (s : Store) (d : Cell) (new on : ℕ → Bool)
     (k : Books (swept s.memo d ∷ others d.number s.cells) (swept_memo s.memo d.entries) new on) where
-  pub live_flushed : Rising 0 s.waiting → (q : ℕ) (w : Report) → find (filter (in_box s.cuts m) s.waiting) q ≡ some w → inside d.edges w.fix.place ≡ true → new q ≡ w.new
+  pub live_flushed : Rising 0 s.waiting → (q : ℕ) (w : Report) → find (filter (in_box s.cuts m) s.waiting) q ≡ Some w → inside d.edges w.fix.place ≡ true → new q ≡ w.new
       → (t : Fix → Bool) → live_by t (flushed_into m s d).store.memo q ((flushed_into m s d).cell ∷ (flushed_into m s d).rest) ≡ one_if (t w.fix)
   unfolding flushed_into swept
   live_flushed a q w f i e t =
       live_enter_each (swept s.memo d) (others d.number s.cells) (swept_memo s.memo d.entries) new on k
       (filter (in_box s.cuts m) s.waiting) (Rising-filter (in_box s.cuts m) 0 s.waiting a) q w f i e t
 
-  pub live_flushed_other : Books (d ∷ others d.number s.cells) s.memo new on → Rising 0 s.waiting → (q : ℕ) → find (filter (in_box s.cuts m) s.waiting) q ≡ none
+  pub live_flushed_other : Books (d ∷ others d.number s.cells) s.memo new on → Rising 0 s.waiting → (q : ℕ) → find (filter (in_box s.cuts m) s.waiting) q ≡ None
       → (t : Fix → Bool) → live_by t (flushed_into m s d).store.memo q ((flushed_into m s d).cell ∷ (flushed_into m s d).rest) ≡ live_by t s.memo q (d ∷ others d.number s.cells)
   unfolding flushed_into swept
   live_flushed_other b a q f t =
@@ -444,19 +444,19 @@ module _ (m : Box) (s : Store) (d : Cell) (new on : ℕ → Bool)
 -- ---- sign-off
 
 pub live_off_other : (memo : Rows Line) (r : ℕ) → 0 < r → Rising 0 memo → (cells : List Cell) (q : ℕ) → q ≢ r → (t : Fix → Bool)
-    → live_by t (alter (raised none) r memo) q cells ≡ live_by t memo q cells
-live_off_other memo r h a cells q n t = live_line t memo (alter (raised none) r memo) q cells (rw (ne_eqb q r n) at (find-alter (raised none) 0 r q memo h a))
+    → live_by t (alter (raised None) r memo) q cells ≡ live_by t memo q cells
+live_off_other memo r h a cells q n t = live_line t memo (alter (raised None) r memo) q cells (rw (ne_eqb q r n) at (find-alter (raised None) 0 r q memo h a))
 
 -- a line that says "none" makes all stale
-raised-none : (t : Fix → Bool) (o : Option Line) (e : Option Fix) → count_live t (raised none o) e ≡ 0
-raised-none t o none = refl
-raised-none t none (some p) = ap one_if (both_left_false (t p) refl)
-raised-none t (some l) (some p) = ap one_if (both_left_false (t p) refl)
+raised-none : (t : Fix → Bool) (o : Option Line) (e : Option Fix) → count_live t (raised None o) e ≡ 0
+raised-none t o None = refl
+raised-none t None (Some p) = ap one_if (both_left_false (t p) refl)
+raised-none t (Some l) (Some p) = ap one_if (both_left_false (t p) refl)
 
-pub live_off : (memo : Rows Line) (r : ℕ) → 0 < r → Rising 0 memo → (cells : List Cell) → live_of (alter (raised none) r memo) r cells ≡ 0
+pub live_off : (memo : Rows Line) (r : ℕ) → 0 < r → Rising 0 memo → (cells : List Cell) → live_of (alter (raised None) r memo) r cells ≡ 0
 live_off memo r h a cells =
-    sym (live_true (alter (raised none) r memo) r cells)
-    ∙ live_under_lem (λ _. true) (alter (raised none) r memo) r cells (raised none (find memo r)) (rw (eq-eqb r r refl) at (find-alter (raised none) 0 r r memo h a))
+    sym (live_true (alter (raised None) r memo) r cells)
+    ∙ live_under_lem (λ _. true) (alter (raised None) r memo) r cells (raised None (find memo r)) (rw (eq-eqb r r refl) at (find-alter (raised None) 0 r r memo h a))
     ∙ sum_zero _ cells (λ c. raised-none (λ _. true) (find memo r) (find c.entries r))
 
 -- ---- split

@@ -2,7 +2,7 @@
 use mathlib.Core.Path.{◌≡◌, refl, sym, ap, ◌∙◌}
 use mathlib.Core.Bool.{true}
 use mathlib.Core.List.{List, [], ◌∷◌, ◌++◌}
-use mathlib.Core.Option.{some}
+use Rattle.std.specs.Prelude.{Some}
 use Prim.Native.Nat.{ℕ, ◌+◌, ◌≤◌}
 use native.Mathlib.Omega.{arith}
 use lib.Dec.{leb}
@@ -37,7 +37,7 @@ pub record Near (f : Flushed) (n : Cell) : Type 0 where
   pub small : length f.cell.entries + length n.entries ≤ join_entries
   pub among : Among f.rest n
 
-pub neighbour-Near : (f : Flushed) (n : Cell) → neighbour f ≡ some n → Near f n
+pub neighbour-Near : (f : Flushed) (n : Cell) → neighbour f ≡ Some n → Near f n
 unfolding neighbour joinable
 neighbour-Near f n e =
     first_some_cases (λ side. first_that (joinable side f.cell) f.rest) sides n e (λ side e.
@@ -49,7 +49,7 @@ neighbour-Near f n e =
 -- ---- one on a side
 
 cell_at_here : (us : List Cell) (c : Cell) (vs : List Cell) (p : Place) → inside c.edges p ≡ true → sum_by (λ x. one_if (inside x.edges p)) (us ++ (c ∷ vs)) ≤ 1
-    → cell_at (us ++ (c ∷ vs)) p ≡ some c
+    → cell_at (us ++ (c ∷ vs)) p ≡ Some c
 unfolding cell_at sum_by
 cell_at_here [] c vs p t h = rw t
 cell_at_here (u ∷ us) c vs p t h =
@@ -67,7 +67,7 @@ inside_on eastward r x y h k = both_intro h k
 inside_on northward r x y h k = both_intro k h
 
 module _ {cuts : Cuts} {cells : List Cell} (t : Tiling cuts cells) {m n : Cell} (a : Among cells m) (b : Among cells n) where
-  held_by : {c : Cell} → Among cells c → (p : Place) → inside c.edges p ≡ true → cell_at cells p ≡ some c
+  held_by : {c : Cell} → Among cells c → (p : Place) → inside c.edges p ≡ true → cell_at cells p ≡ Some c
   held_by {c} g p h = rw g.split (cell_at_here g.before c g.after p h (rw g.split at (apart cuts cells t p)))
 
   ordered : {c : Cell} → Among cells c → (axis : Axis) → (span_of axis c.edges).low ≤ (span_of axis c.edges).high

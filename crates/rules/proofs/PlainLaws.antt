@@ -1,7 +1,7 @@
 -- The link between the store and the plain rule is kept by every call.
 use mathlib.Core.Bool.{Bool, true, false, not, cond}
 use mathlib.Core.List.{List, ◌∷◌}
-use mathlib.Core.Option.{Option, none, some}
+use Rattle.std.specs.Prelude.{Option, None, Some}
 use mathlib.Core.Path.{◌≡◌, refl, sym, ap, ◌∙◌, subst}
 use Prim.Native.Nat.{ℕ, ◌+◌, ◌≤◌, ◌<◌}
 use native.Mathlib.Omega.{arith}
@@ -38,23 +38,23 @@ use Rattle.rules.proofs.LinkLaws.{Link, due_same, Link_at, Link-on, Link_report,
 -- ---- sign-off
 
 -- a report marked new: nothing of its radio was flushed
-unflushed : (s : Store) (x : Plain) → Link s x → (r : ℕ) → was_new (find s.waiting r) ≡ true → x.flushed r ≡ none
+unflushed : (s : Store) (x : Plain) → Link s x → (r : ℕ) → was_new (find s.waiting r) ≡ true → x.flushed r ≡ None
 unflushed s x k r u = is_some-false (x.flushed r) (not-true (is_some (x.flushed r)) (both_right (x.waits r) (not (is_some (x.flushed r))) (sym (k.marked r) ∙ u)))
 
-raised-last : (o : Option Line) (l : Line) → raised none o ≡ some l → l.last ≡ none
-raised-last none l e = let z : record { missed = 1; last = none } ≡ l = cc in sym (ap (λ (y : Line). y.last) z)
-raised-last (some k) l e = let z : record { missed = k.missed + 1; last = none } ≡ l = cc in sym (ap (λ (y : Line). y.last) z)
+raised-last : (o : Option Line) (l : Line) → raised None o ≡ Some l → l.last ≡ None
+raised-last None l e = let z : record { missed = 1; last = None } ≡ l = cc in sym (ap (λ (y : Line). y.last) z)
+raised-last (Some k) l e = let z : record { missed = k.missed + 1; last = None } ≡ l = cc in sym (ap (λ (y : Line). y.last) z)
 
 pub Link_off : (s : Store) (x : Plain) → Link s x → (r : ℕ) → 1 ≤ r → WellFormed s → Link (signed_off r s) (plain_off r x)
 unfolding signed_off plain_off is_on plain_on
 Link_off s x k r h w = record {
-  on = λ q. rw (find-alter (λ _. none) 0 r q s.on h w.rising_on) (by_cases (eqb q r) (λ t. rw t) (λ t. rw t (k.on q)));
-  waiting = λ q. rw (find-alter (λ _. none) 0 r q s.waiting h w.waiting_rises) (by_cases (eqb q r) (λ t. rw t) (λ t. rw t (k.waiting q)));
-  marked = λ q. unfold both in rw (find-alter (λ _. none) 0 r q s.waiting h w.waiting_rises) (by_cases (eqb q r) (λ t. rw t) (λ t. rw t (k.marked q)));
+  on = λ q. rw (find-alter (λ _. None) 0 r q s.on h w.rising_on) (by_cases (eqb q r) (λ t. rw t) (λ t. rw t (k.on q)));
+  waiting = λ q. rw (find-alter (λ _. None) 0 r q s.waiting h w.waiting_rises) (by_cases (eqb q r) (λ t. rw t) (λ t. rw t (k.waiting q)));
+  marked = λ q. unfold both in rw (find-alter (λ _. None) 0 r q s.waiting h w.waiting_rises) (by_cases (eqb q r) (λ t. rw t) (λ t. rw t (k.marked q)));
   stored = λ q. ap place_of (stored_off s (well_Core s w) r h q) ∙ by_cases (eqb q r) (λ t. rw t) (λ t. rw t (k.stored q));
   lines = λ q l. by_cases (was_new (find s.waiting r))
       (λ u. rw u (λ e. k.lines q l e ∙ by_cases (eqb q r) (λ t. rw (t, eqb-true q r t) (unflushed s x k r u)) (λ t. rw t)))
-      (λ u. rw (u, find-alter (raised none) 0 r q s.memo h w.memo_rises) (by_cases (eqb q r)
+      (λ u. rw (u, find-alter (raised None) 0 r q s.memo h w.memo_rises) (by_cases (eqb q r)
       (λ t. rw t (raised-last (find s.memo q) l))
       (λ t. rw t (λ e. k.lines q l e))));
   quiet = λ q e. stored_off s (well_Core s w) r h q ∙ by_cases (eqb q r) (λ t. rw t) (λ t. rw t (k.quiet q (rw t at e)));
@@ -94,29 +94,29 @@ Link-tick s x k b =
 -- what a plain flush does to one radio, from its waiting report
 module _ (s : Store) (x : Plain) (k : Link s x) (m : Box) where
   -- its report waits in m
-  report_in : (r : ℕ) (w : Report) → find s.waiting r ≡ some w → (x.waits r ≡ true) × (x.latest r ≡ some w.fix) × (plain_in s.cuts x m r ≡ in_box s.cuts m (record { key = r; val = w }))
+  report_in : (r : ℕ) (w : Report) → find s.waiting r ≡ Some w → (x.waits r ≡ true) × (x.latest r ≡ Some w.fix) × (plain_in s.cuts x m r ≡ in_box s.cuts m (record { key = r; val = w }))
   unfolding plain_in in_box plain_on both
   report_in r w e =
-      let p : some w.fix ≡ cond (x.waits r) (x.latest r) none = sym (ap fix_of e) ∙ k.waiting r in
+      let p : Some w.fix ≡ cond (x.waits r) (x.latest r) None = sym (ap fix_of e) ∙ k.waiting r in
       by_cases (x.waits r)
-      (λ t. let l : x.latest r ≡ some w.fix = sym (p ∙ rw t refl) in (t, l, rw (t, l)))
+      (λ t. let l : x.latest r ≡ Some w.fix = sym (p ∙ rw t refl) in (t, l, rw (t, l)))
       (λ t. none-some (sym (p ∙ rw t refl)))
 
   -- none of its waits in m
-  report_out : (r : ℕ) → find s.waiting r ≡ none → x.waits r ≡ false
+  report_out : (r : ℕ) → find s.waiting r ≡ None → x.waits r ≡ false
   unfolding plain_on
   report_out r e =
       by_cases (x.waits r)
-      (λ t. let l : x.latest r ≡ none = sym (sym (ap fix_of e) ∙ k.waiting r ∙ rw t refl) in let o = k.waits_on r t in absurd (let z : ◌≡◌ {A = ℕ} 0 1 = cc in omega arith))
+      (λ t. let l : x.latest r ≡ None = sym (sym (ap fix_of e) ∙ k.waiting r ∙ rw t refl) in let o = k.waits_on r t in absurd (let z : ◌≡◌ {A = ℕ} 0 1 = cc in omega arith))
       (λ t. t)
 
-entered-last : (b n : Bool) (p : Place) (o : Option Line) (l : Line) → entered b n p o ≡ some l → l.last ≡ some p
-entered-last true n p none l e = none-some e
-entered-last true n p (some k) l e = let z : record { missed = k.missed; last = some p } ≡ l = cc in sym (ap (λ (y : Line). y.last) z)
-entered-last false true p none l e = none-some e
-entered-last false true p (some k) l e = let z : record { missed = k.missed; last = some p } ≡ l = cc in sym (ap (λ (y : Line). y.last) z)
-entered-last false false p none l e = let z : record { missed = 1; last = some p } ≡ l = cc in sym (ap (λ (y : Line). y.last) z)
-entered-last false false p (some k) l e = let z : record { missed = k.missed + 1; last = some p } ≡ l = cc in sym (ap (λ (y : Line). y.last) z)
+entered-last : (b n : Bool) (p : Place) (o : Option Line) (l : Line) → entered b n p o ≡ Some l → l.last ≡ Some p
+entered-last true n p None l e = none-some e
+entered-last true n p (Some k) l e = let z : record { missed = k.missed; last = Some p } ≡ l = cc in sym (ap (λ (y : Line). y.last) z)
+entered-last false true p None l e = none-some e
+entered-last false true p (Some k) l e = let z : record { missed = k.missed; last = Some p } ≡ l = cc in sym (ap (λ (y : Line). y.last) z)
+entered-last false false p None l e = let z : record { missed = 1; last = Some p } ≡ l = cc in sym (ap (λ (y : Line). y.last) z)
+entered-last false false p (Some k) l e = let z : record { missed = k.missed + 1; last = Some p } ≡ l = cc in sym (ap (λ (y : Line). y.last) z)
 
 module _ (s : Store) (x : Plain) (k : Link s x) (m : Box) (d : Cell) (c : Core s) (a : Among s.cells d) (home : inside d.edges (corner_of s.cuts m) ≡ true) where
   abbrev flushed_here : Flushed
@@ -126,7 +126,7 @@ module _ (s : Store) (x : Plain) (k : Link s x) (m : Box) (d : Cell) (c : Core s
   rises = c.waits.waiting_rises
 
   -- no report of the radio goes in
-  stays_out : (r : ℕ) → find (filter (in_box s.cuts m) s.waiting) r ≡ none → plain_in s.cuts x m r ≡ false
+  stays_out : (r : ℕ) → find (filter (in_box s.cuts m) s.waiting) r ≡ None → plain_in s.cuts x m r ≡ false
   stays_out r e =
       option_cases (find s.waiting r)
       (λ n. unfold plain_in both in rw (report_out s x k m r n))
@@ -134,7 +134,7 @@ module _ (s : Store) (x : Plain) (k : Link s x) (m : Box) (d : Cell) (c : Core s
       (λ t. none-some {a = w} (sym e ∙ find-filter (in_box s.cuts m) 0 r s.waiting rises ∙ rw (n, t) refl))
       (λ t. t))
 
-  goes_in : (r : ℕ) (w : Report) → find (filter (in_box s.cuts m) s.waiting) r ≡ some w → (plain_in s.cuts x m r ≡ true) × (x.latest r ≡ some w.fix)
+  goes_in : (r : ℕ) (w : Report) → find (filter (in_box s.cuts m) s.waiting) r ≡ Some w → (plain_in s.cuts x m r ≡ true) × (x.latest r ≡ Some w.fix)
   goes_in r w e =
       let q = report_found m s d c a home r w e in
       let i = report_in s x k m r w q.0 in
@@ -142,13 +142,13 @@ module _ (s : Store) (x : Plain) (k : Link s x) (m : Box) (d : Cell) (c : Core s
 
   -- ---- the waiting
 
-  kept_place : (r : ℕ) → fix_of (find (filter (λ w. not (in_box s.cuts m w)) s.waiting) r) ≡ cond (cond (plain_in s.cuts x m r) false (x.waits r)) (x.latest r) none
+  kept_place : (r : ℕ) → fix_of (find (filter (λ w. not (in_box s.cuts m w)) s.waiting) r) ≡ cond (cond (plain_in s.cuts x m r) false (x.waits r)) (x.latest r) None
   kept_place r =
       rw (find-filter (λ w. not (in_box s.cuts m w)) 0 r s.waiting rises) (option_cases (find s.waiting r)
       (λ n. rw (n, report_out s x k m r n) (never (plain_in s.cuts x m r) (x.latest r)))
       (λ w n. let i = report_in s x k m r w n in rw (n, i.2, i.0, i.1) (by_cases (in_box s.cuts m (record { key = r; val = w })) (λ t. rw t) (λ t. rw t))))
     where
-      never : (b : Bool) (o : Option Fix) → none ≡ cond (cond b false false) o none
+      never : (b : Bool) (o : Option Fix) → None ≡ cond (cond b false false) o None
       never true o = refl
       never false o = refl
 
@@ -177,7 +177,7 @@ module _ (s : Store) (x : Plain) (k : Link s x) (m : Box) (d : Cell) (c : Core s
       (λ n. rw (stays_out q n) (stored_out m s d c a home t v q n))
       (λ w n. let g = goes_in q w n in rw (g.0, g.1) (stored_in_lem m s d c a home t v q w n))
 
-  flushed_line : (q : ℕ) (l : Line) → find flushed_here.store.memo q ≡ some l → l.last ≡ cond (plain_in s.cuts x m q) (place_of (x.latest q)) (x.flushed q)
+  flushed_line : (q : ℕ) (l : Line) → find flushed_here.store.memo q ≡ Some l → l.last ≡ cond (plain_in s.cuts x m q) (place_of (x.latest q)) (x.flushed q)
   unfolding flushed_into
   flushed_line q l e =
       let ws = filter (in_box s.cuts m) s.waiting in
@@ -190,7 +190,7 @@ module _ (s : Store) (x : Plain) (k : Link s x) (m : Box) (d : Cell) (c : Core s
       sym o.2 ∙ k.lines q o.0 o.1))
       (λ w n. let g = goes_in q w n in rw (g.0, g.1) (entered-last (is_some (find (swept_entries s.memo d.entries) q)) w.new w.fix.place (find (swept_memo s.memo d.entries) q) l (rw n at z)))
 
-  pub Link-Leaves : (t : Store) → Leaves flushed_here t → Link t (plain_flush s.cuts (some m) x)
+  pub Link-Leaves : (t : Store) → Leaves flushed_here t → Link t (plain_flush s.cuts (Some m) x)
   unfolding is_on plain_on
   Link-Leaves t v = record {
     on = λ q. ap (λ (l : Rows (Unit {0})). is_some (find l q)) (v.on ∙ flushed_on) ∙ k.on q;
@@ -212,7 +212,7 @@ module _ (s : Store) (x : Plain) (k : Link s x) (m : Box) (d : Cell) (c : Core s
       flushed_waiting : flushed_here.store.waiting ≡ filter (λ w. not (in_box s.cuts m w)) s.waiting
       flushed_waiting = unfold flushed_into in refl
 
-pub Link-flush : (m : Box) (s : Store) (x : Plain) → Link s x → Core s → Link (flush m s) (plain_flush s.cuts (some m) x)
+pub Link-flush : (m : Box) (s : Store) (x : Plain) → Link s x → Core s → Link (flush m s) (plain_flush s.cuts (Some m) x)
 Link-flush m s x k c =
     let f = flushes m s c in
     Link-Leaves s x k m f.cell c f.among f.home (flush m s) f.leaves
@@ -239,14 +239,14 @@ done_Link q s x buffer w l (on_passed r f h k i off room late) =
     let s' = with_highest f.minute s in
     let w' = later_well s w f.minute late in
     let x' = plain_at f.minute x in
-    let g : Option Report → Option Report = λ _. some (record { fix = f; new = true }) in
+    let g : Option Report → Option Report = λ _. Some (record { fix = f; new = true }) in
     report_Link f.place (signed_on r f s') (plain_place r f x') (Link-on s' x' (Link_at f.minute s x l) r f h (well_Core s w).signed (well_Core s w).waits off)
     (on_Core s' w' r f h k i off room (omega arith)) (put_Bounded s' w' r h g f true refl) w.tallied (put_few s' w' r h g f true refl) (put_boxes s' w' r h g f true refl)
 done_Link q s x buffer w l (report_passed r f h k i on late) =
     let s' = with_highest f.minute s in
     let w' = later_well s w f.minute late in
     let x' = plain_at f.minute x in
-    let g : Option Report → Option Report = λ o. some (record { fix = f; new = was_new o }) in
+    let g : Option Report → Option Report = λ o. Some (record { fix = f; new = was_new o }) in
     let b = was_new (find s.waiting r) in
     report_Link f.place (reported r f s') (plain_place r f x') (Link_report s' x' (Link_at f.minute s x l) r f h (well_Core s w).waits on)
     (report_Core s' w' r f h k i on (omega arith)) (put_Bounded s' w' r h g f b refl) w.tallied (put_few s' w' r h g f b refl) (put_boxes s' w' r h g f b refl)

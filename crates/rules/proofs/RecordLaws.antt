@@ -1,7 +1,7 @@
 -- What a record that passes the checks asks, and what its own effect does to who is on and to what waits.
 use mathlib.Core.Bool.{Bool, true, false, cond}
 use mathlib.Core.List.{List}
-use mathlib.Core.Option.{Option, none, some}
+use Rattle.std.specs.Prelude.{Option, None, Some}
 use mathlib.Core.Path.{◌≡◌, refl, ◌∙◌}
 use Prim.Native.Nat.{ℕ, ◌≤◌, ◌<◌}
 use native.Mathlib.Omega.{arith}
@@ -109,24 +109,24 @@ module _ (highest : ℕ) (on : ℕ → Bool) (how_many : ℕ) (b : List ℕ) (sm
 
 pub signed_on_lem : (r : ℕ) (on : Rows (Unit {0})) → 1 ≤ r → r ≤ max_radio → length on < max_on → Signed on → Signed (insert r tt on)
 signed_on_lem r on h k few s = record {
-  few_on = let t = length-alter-le (λ _. some tt) 0 r on h s.rising_on in omega arith;
-  radios_on = UpTo-alter (λ _. some tt) max_radio r on k s.radios_on;
-  rising_on = Rising-alter (λ _. some tt) 0 r on h s.rising_on;
+  few_on = let t = length-alter-le (λ _. Some tt) 0 r on h s.rising_on in omega arith;
+  radios_on = UpTo-alter (λ _. Some tt) max_radio r on k s.radios_on;
+  rising_on = Rising-alter (λ _. Some tt) 0 r on h s.rising_on;
 }
 
-pub signed_off_lem : (r : ℕ) (on : Rows (Unit {0})) → 1 ≤ r → r ≤ max_radio → Signed on → Signed (alter (λ _. none) r on)
+pub signed_off_lem : (r : ℕ) (on : Rows (Unit {0})) → 1 ≤ r → r ≤ max_radio → Signed on → Signed (alter (λ _. None) r on)
 signed_off_lem r on h k s = record {
-  few_on = let t = length-alter (λ _. none) 0 r on h s.rising_on in let f = s.few_on in omega arith;
-  radios_on = UpTo-alter (λ _. none) max_radio r on k s.radios_on;
-  rising_on = Rising-alter (λ _. none) 0 r on h s.rising_on;
+  few_on = let t = length-alter (λ _. None) 0 r on h s.rising_on in let f = s.few_on in omega arith;
+  radios_on = UpTo-alter (λ _. None) max_radio r on k s.radios_on;
+  rising_on = Rising-alter (λ _. None) 0 r on h s.rising_on;
 }
 
 -- ---- what waits: one report put, or taken
 
 module _ (waiting : Rows Report) (on : Rows (Unit {0})) (s : Waits waiting on) (r : ℕ) (h : 1 ≤ r) (k : r ≤ max_radio) (f : Option Report → Option Report) where
   -- the new report's place is in the square, and it is marked or its radio on; every other radio is on as before
-  pub Waits-alter : (on' : Rows (Unit {0})) → ((w : Report) → f (find waiting r) ≡ some w → InSquare w.fix.place)
-      → ((w : Report) → f (find waiting r) ≡ some w → w.new ≡ false → is_some (find on' r) ≡ true)
+  pub Waits-alter : (on' : Rows (Unit {0})) → ((w : Report) → f (find waiting r) ≡ Some w → InSquare w.fix.place)
+      → ((w : Report) → f (find waiting r) ≡ Some w → w.new ≡ false → is_some (find on' r) ≡ true)
       → ((q : ℕ) → (q ≡ r → ⊥) → is_some (find on' q) ≡ is_some (find on q))
       → Waits (alter f r waiting) on'
   Waits-alter on' placed marked kept = record {

@@ -2,7 +2,7 @@
 use mathlib.Core.Path.{◌≡◌, refl}
 use mathlib.Core.Bool.{Bool, true, false, not}
 use mathlib.Core.List.{List, [], ◌∷◌}
-use mathlib.Core.Option.{Option, none, some}
+use Rattle.std.specs.Prelude.{Option, None, Some}
 use Prim.Native.Nat.{ℕ, ◌+◌, ◌≤◌, ◌<◌}
 use native.Mathlib.Omega.{arith}
 use lib.Dec.{eqb, ltb}
@@ -78,8 +78,8 @@ both_parted false a a₁ a₂ e = rw (both-false a, both-false a₁, both-false 
 module _ (minute : ℕ) (axis : Axis) (r : Rect) (c : ℕ) (k : CutAt axis r c) (f : Row Place → ℕ) where
   row_parted : (radio : ℕ) (o : Option Fix) (l l₁ l₂ : Rows Place) → sum_by f l ≡ sum_by f l₁ + sum_by f l₂
       → sum_by f (list_if r minute radio o l) ≡ sum_by f (list_if (low_part axis c r) minute radio o l₁) + sum_by f (list_if (high_part axis c r) minute radio o l₂)
-  row_parted radio none l l₁ l₂ h = h
-  row_parted radio (some g) l l₁ l₂ h =
+  row_parted radio None l l₁ l₂ h = h
+  row_parted radio (Some g) l l₁ l₂ h =
       keep_parted f (record { key = radio; val = g.place }) l l₁ l₂ (listed r minute g) (listed (low_part axis c r) minute g) (listed (high_part axis c r) minute g)
       (both_parted (not (too_old minute g)) _ _ _ (covers_parted axis r c k g.place)) h
 

@@ -1,7 +1,7 @@
 -- Every call, with any bytes and any name of a neighbour, leaves a well-formed store where it found one.
 use mathlib.Core.Bool.{Bool, true, false, not}
 use mathlib.Core.List.{List, [], ◌∷◌, ◌++◌}
-use mathlib.Core.Option.{Option, none, some}
+use Rattle.std.specs.Prelude.{Option, None, Some}
 use mathlib.Core.Path.{◌≡◌, refl, sym, ap, ◌∙◌, subst}
 use Prim.Native.Nat.{ℕ, ◌+◌, ◌*◌, ◌≤◌, ◌<◌}
 use native.Mathlib.Omega.{arith}
@@ -49,7 +49,7 @@ module _ (m : Box) (s : Store) (c : ℕ) (k : Core s) (b : Bounded s.memo s.cell
   unfolding flushed_into
   flushed_boxes d n = waiting_cleared s.cuts s.waiting m full_box (omega arith) others_few n
 
-  flushed_done : (d : Cell) → cell_of_box s m ≡ some d → MidCallRoomy (reshaped (flushed_into m s d)) c
+  flushed_done : (d : Cell) → cell_of_box s m ≡ Some d → MidCallRoomy (reshaped (flushed_into m s d)) c
   unfolding cell_of_box
   flushed_done d e =
       let at = cell_at_split s.cells (corner_of s.cuts m) d e in
@@ -71,7 +71,7 @@ module _ (m : Box) (s : Store) (c : ℕ) (k : Core s) (b : Bounded s.memo s.cell
 
 module _ (p : Place) (s : Store) (c : ℕ) (k : Core s) (b : Bounded s.memo s.cells (length s.waiting) c) (late : c ≤ sweep_every)
     (few : length s.waiting ≤ full_memory) (others_few : (n : Box) → same_box n (box_of s.cuts p) ≡ false → waiting_in s.cuts s.waiting n < full_box) where
-  none_due : flush_due s p ≡ none → Roomy s
+  none_due : flush_due s p ≡ None → Roomy s
   unfolding flush_due
   none_due e =
       let q = due_none s.cuts (waiting_in s.cuts s.waiting) (length s.waiting) p e in
@@ -83,7 +83,7 @@ module _ (p : Place) (s : Store) (c : ℕ) (k : Core s) (b : Bounded s.memo s.ce
   all_few : waiting_in s.cuts s.waiting (box_of s.cuts p) < full_box → (n : Box) → waiting_in s.cuts s.waiting n < full_box
   all_few h n = by_cases (same_box n (box_of s.cuts p)) (λ t. rw (box_same n (box_of s.cuts p) t) h) (others_few n)
 
-  some_due : (m : Box) → flush_due s p ≡ some m → MidCallRoomy (flush m s) c
+  some_due : (m : Box) → flush_due s p ≡ Some m → MidCallRoomy (flush m s) c
   unfolding flush_due
   some_due m e =
       due_some s.cuts (waiting_in s.cuts s.waiting) (length s.waiting) p m e
@@ -168,7 +168,7 @@ box_other n m t =
 
 -- a report is put among the waiting: one more waits, in the memory cell of its place
 module _ (s : Store) (w : WellFormed s) (r : ℕ) (h : 1 ≤ r) (g : Option Report → Option Report) (f : Fix) (b : Bool)
-    (put : g (find s.waiting r) ≡ some (record { fix = f; new = b })) where
+    (put : g (find s.waiting r) ≡ Some (record { fix = f; new = b })) where
   pub put_few : length (alter g r s.waiting) ≤ full_memory
   put_few = omega (arith, length-alter-le g 0 r s.waiting h w.waiting_rises, w.few_wait)
 
@@ -195,14 +195,14 @@ on_Core s w r f h k q off room early =
       books = Books_ext (marks_signed_on r f s.waiting h w.waiting_rises) (on_signed_on r s.on h w.rising_on) (Books_on r off c.books);
       paged = c.paged;
       signed = signed_on_lem r s.on h k room c.signed;
-      waits = Waits-alter s.waiting s.on c.waits r h k (λ _. some (record { fix = f; new = true })) (insert r tt s.on)
+      waits = Waits-alter s.waiting s.on c.waits r h k (λ _. Some (record { fix = f; new = true })) (insert r tt s.on)
           (λ v e. subst (λ (z : Report). InSquare z.fix.place) (some_injective e) q)
           (λ v e u. absurd (not_marked v e u))
-          (λ n z. rw (find-alter (λ _. some tt) 0 r n s.on h w.rising_on, ne_eqb n r z));
-      dated = Dated_put s c.dated r f early (λ _. some (record { fix = f; new = true })) (λ o v e. ap (λ (z : Report). z.fix) (sym (some_injective e)));
+          (λ n z. rw (find-alter (λ _. Some tt) 0 r n s.on h w.rising_on, ne_eqb n r z));
+      dated = Dated_put s c.dated r f early (λ _. Some (record { fix = f; new = true })) (λ o v e. ap (λ (z : Report). z.fix) (sym (some_injective e)));
     }
   where
-    not_marked : (v : Report) → some (record { fix = f; new = true }) ≡ some v → v.new ≡ false → ⊥
+    not_marked : (v : Report) → Some (record { fix = f; new = true }) ≡ Some v → v.new ≡ false → ⊥
     not_marked v e u = false-true (sym u ∙ sym (ap (λ (x : Report). x.new) (some_injective e)))
 
 pub report_Core : (s : Store) (w : WellFormed s) (r : ℕ) (f : Fix) → 1 ≤ r → r ≤ max_radio → InSquare f.place → is_on s r ≡ true → f.minute ≤ s.highest → Core (reported r f s)
@@ -214,11 +214,11 @@ report_Core s w r f h k q on early =
       books = Books_ext (marks_reported r f s.waiting h w.waiting_rises) (λ n. refl) c.books;
       paged = c.paged;
       signed = c.signed;
-      waits = Waits-alter s.waiting s.on c.waits r h k (λ o. some (record { fix = f; new = was_new o })) s.on
+      waits = Waits-alter s.waiting s.on c.waits r h k (λ o. Some (record { fix = f; new = was_new o })) s.on
           (λ v e. subst (λ (z : Report). InSquare z.fix.place) (some_injective e) q)
           (λ v e u. on)
           (λ n z. refl);
-      dated = Dated_put s c.dated r f early (λ o. some (record { fix = f; new = was_new o })) (λ o v e. ap (λ (z : Report). z.fix) (sym (some_injective e)));
+      dated = Dated_put s c.dated r f early (λ o. Some (record { fix = f; new = was_new o })) (λ o v e. ap (λ (z : Report). z.fix) (sym (some_injective e)));
     }
 
 pub off_Core : (s : Store) (w : WellFormed s) (r : ℕ) → 1 ≤ r → r ≤ max_radio → is_on s r ≡ true → Core (signed_off r s)
@@ -230,10 +230,10 @@ off_Core s w r h k on =
       books = Books_ext (marks_signed_off r s.waiting h w.waiting_rises) (on_signed_off r s.on h w.rising_on) (Books_off r h k on c.books);
       paged = c.paged;
       signed = signed_off_lem r s.on h k c.signed;
-      waits = Waits-alter s.waiting s.on c.waits r h k (λ _. none) (alter (λ _. none) r s.on)
+      waits = Waits-alter s.waiting s.on c.waits r h k (λ _. None) (alter (λ _. None) r s.on)
           (λ v e. none-some e)
           (λ v e u. none-some e)
-          (λ n z. rw (find-alter (λ _. none) 0 r n s.on h w.rising_on, ne_eqb n r z));
+          (λ n z. rw (find-alter (λ _. None) 0 r n s.on h w.rising_on, ne_eqb n r z));
       dated = Dated_off s c.dated r;
     }
 
@@ -260,14 +260,14 @@ on_well : (s : Store) (w : WellFormed s) (r : ℕ) (f : Fix) → 1 ≤ r → r �
     → WellFormed (tick (after_report f.place (signed_on r f s)))
 unfolding signed_on
 on_well s w r f h k q off room early =
-    let g : Option Report → Option Report = λ _. some (record { fix = f; new = true }) in
+    let g : Option Report → Option Report = λ _. Some (record { fix = f; new = true }) in
     report_well f.place (signed_on r f s) (on_Core s w r f h k q off room early) (put_Bounded s w r h g f true refl) w.tallied (put_few s w r h g f true refl) (put_boxes s w r h g f true refl)
 
 report_on_well : (s : Store) (w : WellFormed s) (r : ℕ) (f : Fix) → 1 ≤ r → r ≤ max_radio → InSquare f.place → is_on s r ≡ true → f.minute ≤ s.highest
     → WellFormed (tick (after_report f.place (reported r f s)))
 unfolding reported
 report_on_well s w r f h k q on early =
-    let g : Option Report → Option Report = λ o. some (record { fix = f; new = was_new o }) in
+    let g : Option Report → Option Report = λ o. Some (record { fix = f; new = was_new o }) in
     let b = was_new (find s.waiting r) in
     report_well f.place (reported r f s) (report_Core s w r f h k q on early) (put_Bounded s w r h g f b refl) w.tallied (put_few s w r h g f b refl) (put_boxes s w r h g f b refl)
 
@@ -275,17 +275,17 @@ report_on_well s w r f h k q on early =
 pub off_done : (s : Store) (w : WellFormed s) (r : ℕ) → 1 ≤ r → r ≤ max_radio → is_on s r ≡ true → MidCallRoomy (signed_off r s) ((signed_off r s).tally + 1)
 unfolding signed_off is_on
 off_done s w r h k on =
-    let less = length-alter (λ _. none) 0 r s.waiting h w.waiting_rises in
+    let less = length-alter (λ _. None) 0 r s.waiting h w.waiting_rises in
     record {
       mid = record {
         core = off_Core s w r h k on;
         bounded =
-            Bounded_record s.memo _ s.cells (length s.waiting) (length (alter (λ _. none) r s.waiting)) s.tally (well_Bounded s w)
+            Bounded_record s.memo _ s.cells (length s.waiting) (length (alter (λ _. None) r s.waiting)) s.tally (well_Bounded s w)
             (λ j. omega (arith, stale_off r h k on (well_Core s w).books j, less, one_if-le (not (was_new (find s.waiting r)))));
       };
       roomy = record {
         few = omega (arith, less, w.few_wait);
-        boxes = λ n. omega (arith, waiting_less s.cuts (λ _. none) r s.waiting n h w.waiting_rises refl, w.few_in_box n);
+        boxes = λ n. omega (arith, waiting_less s.cuts (λ _. None) r s.waiting n h w.waiting_rises refl, w.few_in_box n);
       };
     }
 

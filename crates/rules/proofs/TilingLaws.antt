@@ -2,7 +2,7 @@
 use mathlib.Core.Path.{◌≡◌, refl, sym, ap, ap₂, ◌∙◌, subst}
 use mathlib.Core.Bool.{true, false}
 use mathlib.Core.List.{List, [], ◌∷◌, ◌++◌, map}
-use mathlib.Core.Option.{none, some}
+use Rattle.std.specs.Prelude.{None, Some}
 use Prim.Native.Nat.{ℕ, zero, suc, ◌+◌, ◌≤◌, ◌<◌, min}
 use native.Mathlib.Omega.{arith}
 use native.Mathlib.Nat.{le_of_suc-le-suc, not-suc-le-zero}
@@ -20,8 +20,7 @@ use Rattle.lists.proofs.SortLaws.{sum-sort_in, Each-sort_in}
 use Rattle.lists.proofs.SumsLaws.{sum_const, sum-Each, count_head, sum_middle, sum_one, sum_last, sum_last_two, length-sum, sum-map, sum-add-le, Each-count, count-cons, sum-nil, first_at_unused}
 use Rattle.lists.proofs.TestsLaws.{both_intro, either_cases, Each_map, Each-append, Each_middle, Each-get_or_or, bool_ext, one_if-le}
 use Rattle.rules.specs.Limits.{last_metre, max_cells, max_cuts}
-use Rattle.rules.specs.Grid.{Axis, eastward, northward, along, across, Span, within, Rect, span_of, with_span, inside, square}
-use Rattle.rules.specs.Grid.{Cuts, cuts_of, with_cuts_of, stripe, stripe_low, Box, box_of, corner_of}
+use Rattle.rules.specs.Grid.{Axis, eastward, northward, along, across, Span, within, Rect, span_of, with_span, inside, square, Cuts, cuts_of, with_cuts_of, stripe, stripe_low, Box, box_of, corner_of}
 use Rattle.rules.specs.Store.{Cell, fresh, cell_at, others}
 use Rattle.rules.specs.Cut.{Cut, through}
 use Rattle.rules.specs.Flush.{add_cut, unused_number, below, Side, lower, upper, beside, hull, joined_edges, smaller, low_edges, high_edges}
@@ -182,7 +181,7 @@ inside_home cuts cells c m p t g h s e = sym (inside_corner cuts cells c p t g s
 
 -- ---- finding a cell
 
-pub cell_at_split : (cells : List Cell) (p : Place) (d : Cell) → cell_at cells p ≡ some d → Among cells d × (inside d.edges p ≡ true)
+pub cell_at_split : (cells : List Cell) (p : Place) (d : Cell) → cell_at cells p ≡ Some d → Among cells d × (inside d.edges p ≡ true)
 unfolding cell_at
 cell_at_split [] p d = none-some
 cell_at_split (c ∷ cs) p d =
@@ -190,7 +189,7 @@ cell_at_split (c ∷ cs) p d =
     (λ t. rw t (λ e. let z : c ≡ d = cc in rw (← z) (Among_head c cs, t)))
     (λ t. rw t (λ e. let r = cell_at_split cs p d e in (Among_tail c r.0, r.1)))
 
-cell_at-none : (cells : List Cell) (p : Place) → cell_at cells p ≡ none → sum_by (λ c. one_if (inside c.edges p)) cells ≡ 0
+cell_at-none : (cells : List Cell) (p : Place) → cell_at cells p ≡ None → sum_by (λ c. one_if (inside c.edges p)) cells ≡ 0
 unfolding cell_at sum_by
 cell_at-none [] p = λ e. refl
 cell_at-none (c ∷ cs) p =
@@ -198,14 +197,14 @@ cell_at-none (c ∷ cs) p =
     (λ t. rw t (λ e. none-some (sym e)))
     (λ t. rw t (λ e. omega (arith, cell_at-none cs p e)))
 
-pub cell_at-some : (cuts : Cuts) (cells : List Cell) (p : Place) → Tiling cuts cells → InSquare p → (d : Cell) × (cell_at cells p ≡ some d)
+pub cell_at-some : (cuts : Cuts) (cells : List Cell) (p : Place) → Tiling cuts cells → InSquare p → (d : Cell) × (cell_at cells p ≡ Some d)
 cell_at-some cuts cells p t h =
     option_cases (cell_at cells p)
     (λ e. absurd (omega (arith, cell_at-none cells p e, t.tiled p h)))
     (λ d e. (d, e))
 
 -- the cell in which a memory cell lies
-pub home_some : (cuts : Cuts) (cells : List Cell) (m : Box) → Tiling cuts cells → (d : Cell) × (cell_at cells (corner_of cuts m) ≡ some d)
+pub home_some : (cuts : Cuts) (cells : List Cell) (m : Box) → Tiling cuts cells → (d : Cell) × (cell_at cells (corner_of cuts m) ≡ Some d)
 home_some cuts cells m t = cell_at-some cuts cells (corner_of cuts m) t (corner_square cuts m t.cuts_end)
 
 -- so there is a cell

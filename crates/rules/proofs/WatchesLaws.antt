@@ -1,7 +1,7 @@
 -- What a call makes of the members of the watches (02, Job 5): they follow from the latest places, so all is in what becomes of these.
 use mathlib.Core.Bool.{Bool, true, false, not, cond}
 use mathlib.Core.List.{List, [], ◌∷◌}
-use mathlib.Core.Option.{Option, none, some}
+use Rattle.std.specs.Prelude.{Option, None, Some}
 use mathlib.Core.Path.{◌≡◌, refl, sym, ap, ◌∙◌, fun_ext}
 use Prim.Native.Nat.{ℕ, zero, suc}
 use native.Mathlib.Omega.{arith}
@@ -29,14 +29,14 @@ pub latest_on : (s : Store) → WellFormed s → (r : ℕ) → is_some (latest s
 unfolding latest
 latest_on s w r = option_cases (find s.waiting r) unwaited waited
   where
-    unwaited : find s.waiting r ≡ none → is_some (or_else (fix_of (find s.waiting r)) (stored_in s.memo r s.cells)) ≡ is_on s r
+    unwaited : find s.waiting r ≡ None → is_some (or_else (fix_of (find s.waiting r)) (stored_in s.memo r s.cells)) ≡ is_on s r
     unwaited e =
         let unmarked = ap one_if (ap was_new e) in
         rw e (option_cases (stored_in s.memo r s.cells)
         (λ u. rw u (by_cases (is_on s r) (λ t. absurd (omega (arith, w.present r, ap one_if t, unmarked, stored_live s.memo r s.cells u))) sym))
         (λ f u. rw u (by_cases (is_on s r) sym (λ t. none-some (sym (stored_none s.memo r s.cells (omega (arith, w.present r, ap one_if t, unmarked))) ∙ u)))))
 
-    waited : (x : Report) → find s.waiting r ≡ some x → is_some (or_else (fix_of (find s.waiting r)) (stored_in s.memo r s.cells)) ≡ is_on s r
+    waited : (x : Report) → find s.waiting r ≡ Some x → is_some (or_else (fix_of (find s.waiting r)) (stored_in s.memo r s.cells)) ≡ is_on s r
     waited x e =
         rw e (by_cases x.new
         (λ n. by_cases (is_on s r) sym (λ t. absurd (omega (arith, w.present r, ap one_if t, ap one_if (ap was_new e ∙ n)))))
@@ -46,12 +46,12 @@ latest_on s w r = option_cases (find s.waiting r) unwaited waited
 
 -- the radio that a request names
 abbrev pub named : Request → Option ℕ
-named (sign_on r f) = some r
-named (report r f) = some r
-named (sign_off r minute) = some r
-named (range rect minute) = none
+named (sign_on r f) = Some r
+named (report r f) = Some r
+named (sign_off r minute) = Some r
+named (range rect minute) = None
 
-pub names_radio : (b : List ℕ) (r : ℕ) → named (request_of b) ≡ some r → radio_field b ≡ r
+pub names_radio : (b : List ℕ) (r : ℕ) → named (request_of b) ≡ Some r → radio_field b ≡ r
 unfolding request_of
 names_radio b r e =
     by_cases (eqb (kind_field b) kind_sign_on) (λ t. some_injective (rw t at e)) (λ t. let e₁ = rw t at e in
@@ -60,25 +60,25 @@ names_radio b r e =
 
 -- the place that it gives the radio
 abbrev pub given : Request → Option Place
-given (sign_on r f) = some f.place
-given (report r f) = some f.place
-given (sign_off r minute) = none
-given (range rect minute) = none
+given (sign_on r f) = Some f.place
+given (report r f) = Some f.place
+given (sign_off r minute) = None
+given (range rect minute) = None
 
 placed_cond : (b : Bool) (x y : Option Fix) → place_of (cond b x y) ≡ cond b (place_of x) (place_of y)
 placed_cond true x y = refl
 placed_cond false x y = refl
 
-latest_given : (q : Request) (r : ℕ) → named q ≡ some r → (before : ℕ → Option Fix) (p : ℕ) → place_of (latest_by q before p) ≡ put_at r (given q) (λ x. place_of (before x)) p
+latest_given : (q : Request) (r : ℕ) → named q ≡ Some r → (before : ℕ → Option Fix) (p : ℕ) → place_of (latest_by q before p) ≡ put_at r (given q) (λ x. place_of (before x)) p
 unfolding latest_by
-latest_given (sign_on k f) r e before p = placed_cond (eqb p k) (some f) (before p) ∙ ap (λ (x : ℕ). cond (eqb p x) (some f.place) (place_of (before p))) (some_injective e)
-latest_given (report k f) r e before p = placed_cond (eqb p k) (some f) (before p) ∙ ap (λ (x : ℕ). cond (eqb p x) (some f.place) (place_of (before p))) (some_injective e)
-latest_given (sign_off k minute) r e before p = placed_cond (eqb p k) none (before p) ∙ ap (λ (x : ℕ). cond (eqb p x) none (place_of (before p))) (some_injective e)
+latest_given (sign_on k f) r e before p = placed_cond (eqb p k) (Some f) (before p) ∙ ap (λ (x : ℕ). cond (eqb p x) (Some f.place) (place_of (before p))) (some_injective e)
+latest_given (report k f) r e before p = placed_cond (eqb p k) (Some f) (before p) ∙ ap (λ (x : ℕ). cond (eqb p x) (Some f.place) (place_of (before p))) (some_injective e)
+latest_given (sign_off k minute) r e before p = placed_cond (eqb p k) None (before p) ∙ ap (λ (x : ℕ). cond (eqb p x) None (place_of (before p))) (some_injective e)
 latest_given (range rect minute) r e before p = none-some e
 
 module _ (s : Store) (bytes buffer : List ℕ) (small : Bytes bytes) (w : WellFormed s) where
   -- an accepted sign-on, report or sign-off gives its own radio its place, or takes it
-  pub record_moves : refusal s.highest (is_on s) (on_count s) bytes ≡ 0 → (r : ℕ) → named (request_of bytes) ≡ some r
+  pub record_moves : refusal s.highest (is_on s) (on_count s) bytes ≡ 0 → (r : ℕ) → named (request_of bytes) ≡ Some r
       → latest_place (carry s bytes buffer).store ≡ put_at r (given (request_of bytes)) (latest_place s)
   record_moves e r n = fun_ext (λ p.
       ap place_of (step_latest s bytes buffer small w p ∙ ap (λ (t : Bool). cond t (latest_by (request_of bytes) (latest s) p) (latest s p)) (eq-eqb (refusal s.highest (is_on s) (on_count s) bytes) 0 e))

@@ -1,7 +1,7 @@
 -- A well-formed store and its parts: one is the other with the limits that hold between two calls.
 use mathlib.Core.Bool.{false}
 use mathlib.Core.List.{List, [], ◌∷◌}
-use mathlib.Core.Option.{Option, none, some}
+use Rattle.std.specs.Prelude.{Option, None, Some}
 use mathlib.Core.Path.{◌≡◌, refl, sym, ap, ◌∙◌}
 use Prim.Native.Nat.{ℕ, ◌<◌, ◌≤◌}
 use lib.ListN.{length}
@@ -21,17 +21,17 @@ use Rattle.rules.proofs.TilingLaws.{apart}
 use Rattle.rules.proofs.DatedLaws.{Dated_later}
 
 -- a radio with a line: its stale entries by the line's place; one without: none
-stale_line : (memo : Rows Line) (r : ℕ) (l : Line) (cells : List Cell) → find memo r ≡ some l → stale_r memo r cells ≡ stale_of l.last r cells
+stale_line : (memo : Rows Line) (r : ℕ) (l : Line) (cells : List Cell) → find memo r ≡ Some l → stale_r memo r cells ≡ stale_of l.last r cells
 unfolding stale_r stale_of
 stale_line memo r l cells e = rw e
 
-stale_none : (memo : Rows Line) (r : ℕ) (cells : List Cell) → find memo r ≡ none → stale_r memo r cells ≡ 0
+stale_none : (memo : Rows Line) (r : ℕ) (cells : List Cell) → find memo r ≡ None → stale_r memo r cells ≡ 0
 unfolding stale_r
 stale_none memo r cells e = rw e (sum_zero (λ c. count_if (λ p. false) (find c.entries r)) cells (λ c. never (find c.entries r)))
   where
     never : (o : Option Fix) → count_if (λ p. false) o ≡ 0
-    never none = refl
-    never (some f) = refl
+    never None = refl
+    never (Some f) = refl
 
 edged : (cuts : Cuts) (cells : List Cell) → Each (GoodCell cuts) cells → Each (Edged cuts) cells
 edged cuts cells g = Each_map (GoodCell cuts) (Edged cuts) cells (λ c x. record { numbered = x.numbered; edged = x.edged }) g

@@ -1,6 +1,5 @@
 -- The calls on a sound store: a record, and those that 02 adds, which set and clear a watch (Job 5) and write a file (Job 6). What each answers and leaves.
-use Rattle.std.specs.Prelude.{not, cond, List, ℕ, eqb, leb, set}
-use Rattle.std.proofs.Math.Option.{none, some}
+use Rattle.std.specs.Prelude.{not, cond, List, ℕ, eqb, leb, set, None, Some}
 use Rattle.lists.specs.Tests.{either, is_some}
 use Rattle.csv_grammar.specs.Csv.{file_of}
 use Rattle.rules.specs.Grid.{Rect, Cuts, is_reversed}
@@ -74,8 +73,8 @@ filed t x = record { number = t.number; count = t.count; gained = 0; lost = 0; b
 
 unfoldable pub carry_call : Call → Watched → List ℕ → Result
 carry_call (hands bytes) x buffer = carry_record bytes x buffer
-carry_call (sets w rect) x buffer = watch_call (set_refusal w rect) w (some rect) x buffer
-carry_call (clears w) x buffer = watch_call (clear_refusal w x.watches) w none x buffer
+carry_call (sets w rect) x buffer = watch_call (set_refusal w rect) w (Some rect) x buffer
+carry_call (clears w) x buffer = watch_call (clear_refusal w x.watches) w None x buffer
 carry_call writes x buffer = filed (told_file (file_of (everyone x.store)) buffer) x
 
 -- the plain rule knows no watch and no file, and stays where it is

@@ -1,6 +1,5 @@
 -- How a record is carried out (01, the heading of that name), and what is answered (01, "Turned down, in checking order").
-use Rattle.std.specs.Prelude.{Bool, true, false, not, cond, List, [], ◌∷◌, ◌++◌, ℕ, ◌+◌, ◌*◌, eqb, leb, ltb, length}
-use Rattle.std.proofs.Math.Option.{Option, none, some}
+use Rattle.std.specs.Prelude.{Bool, true, false, not, cond, List, [], ◌∷◌, ◌++◌, ℕ, ◌+◌, ◌*◌, eqb, leb, ltb, length, Option, None, Some}
 use Rattle.terms.specs.Terms.{Place, Fix, field_bytes}
 use Rattle.lists.specs.Parts.{put}
 use Rattle.lists.specs.Rows.{Rows, find, alter, insert, passed}
@@ -25,8 +24,8 @@ on_count s = length s.on
 -- ---- the record's own effect
 
 abbrev pub was_new : Option Report → Bool
-was_new none = false
-was_new (some w) = w.new
+was_new None = false
+was_new (Some w) = w.new
 
 -- "Sign-on puts a report marked new among the waiting."
 unfoldable pub signed_on : ℕ → Fix → Store → Store
@@ -34,33 +33,33 @@ signed_on r f s = with_waiting (insert r (record { fix = f; new = true }) s.wait
 
 -- "Report replaces a waiting report of that radio, keeping its mark new; otherwise it waits unmarked."
 unfoldable pub reported : ℕ → Fix → Store → Store
-reported r f s = with_waiting (alter (λ w. some (record { fix = f; new = was_new w })) r s.waiting) s
+reported r f s = with_waiting (alter (λ w. Some (record { fix = f; new = was_new w })) r s.waiting) s
 
 -- "Sign-off discards a waiting report. If the discarded one was not marked new, or none waited, the memo's missed count for the radio grows by 1 (made as
 -- 1 if absent) and its place becomes none."
 unfoldable pub signed_off : ℕ → Store → Store
 signed_off r s =
-    with_waiting (alter (λ _. none) r s.waiting)
-    (with_memo (cond (was_new (find s.waiting r)) s.memo (alter (raised none) r s.memo))
-    (with_on (alter (λ _. none) r s.on) s))
+    with_waiting (alter (λ _. None) r s.waiting)
+    (with_memo (cond (was_new (find s.waiting r)) s.memo (alter (raised None) r s.memo))
+    (with_on (alter (λ _. None) r s.on) s))
 
 -- ---- "After sign-on or report"
 
 -- "the memory cell with most waiting; ties go to the southern, then the western"
 abbrev pub most_of : (Box → ℕ) → List Box → Option Box
-most_of how_many [] = none
-most_of how_many (m ∷ ms) = some (best (λ y x. ltb (how_many x) (how_many y)) m ms)
+most_of how_many [] = None
+most_of how_many (m ∷ ms) = Some (best (λ y x. ltb (how_many x) (how_many y)) m ms)
 
 abbrev box_if : Bool → Box → Option Box
-box_if true m = some m
-box_if false m = none
+box_if true m = Some m
+box_if false m = None
 
 -- "if the memory cell of that place has 8 waiting, flush it. If 128 still wait in all, flush the memory cell with most waiting": the memory cell to flush,
 -- from how many wait in each and in all. It serves the desk and the plain rule.
 unfoldable pub box_to_flush : Cuts → (Box → ℕ) → ℕ → Place → Option Box
 box_to_flush cuts how_many in_all p =
     or_else (box_if (leb full_box (how_many (box_of cuts p))) (box_of cuts p))
-    (cond (leb full_memory in_all) (most_of how_many (boxes cuts)) none)
+    (cond (leb full_memory in_all) (most_of how_many (boxes cuts)) None)
 
 -- how many wait in a memory cell
 unfoldable pub waiting_in : Cuts → Rows Report → Box → ℕ
@@ -70,8 +69,8 @@ unfoldable pub flush_due : Store → Place → Option Box
 flush_due s p = box_to_flush s.cuts (waiting_in s.cuts s.waiting) (length s.waiting) p
 
 abbrev flush_if : Option Box → Store → Store
-flush_if none s = s
-flush_if (some m) s = flush m s
+flush_if None s = s
+flush_if (Some m) s = flush m s
 
 unfoldable pub after_report : Place → Store → Store
 after_report p s = flush_if (flush_due s p) s
@@ -83,12 +82,12 @@ unfoldable pub live_in : Rows Line → ℕ → Cell → Option Fix
 live_in memo r c = passed (λ e. not (stale memo e)) r (find c.entries r)
 
 unfoldable pub stored_in : Rows Line → ℕ → List Cell → Option Fix
-stored_in memo r [] = none
+stored_in memo r [] = None
 stored_in memo r (c ∷ cs) = or_else (live_in memo r c) (stored_in memo r cs)
 
 abbrev pub fix_of : Option Report → Option Fix
-fix_of none = none
-fix_of (some w) = some w.fix
+fix_of None = None
+fix_of (Some w) = Some w.fix
 
 -- "latest place, a waiting report's before a stored one's"
 unfoldable pub latest : Store → ℕ → Option Fix
@@ -103,8 +102,8 @@ abbrev pub listed : Rect → ℕ → Fix → Bool
 listed rect minute f = both (covers rect f.place) (not (too_old minute f))
 
 abbrev pub list_if : Rect → ℕ → ℕ → Option Fix → Rows Place → Rows Place
-list_if rect minute r none l = l
-list_if rect minute r (some f) l = keep (listed rect minute f) (record { key = r; val = f.place }) l
+list_if rect minute r None l = l
+list_if rect minute r (Some f) l = keep (listed rect minute f) (record { key = r; val = f.place }) l
 
 -- "the radios on whose latest place .. lies in the rectangle, by rising number"
 unfoldable pub list_of : Rect → ℕ → (ℕ → Option Fix) → Rows (Unit {0}) → Rows Place

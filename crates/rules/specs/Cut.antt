@@ -1,6 +1,5 @@
 -- The choice of the cut (01, "Split").
-use Rattle.std.specs.Prelude.{Bool, cond, List, [], ◌∷◌, ◌++◌, map, ℕ, ◌+◌, ◌-◌, ◌/◌, eqb, leb, ltb, length, get_or}
-use Rattle.std.proofs.Math.Option.{Option, none, some}
+use Rattle.std.specs.Prelude.{Bool, cond, List, [], ◌∷◌, ◌++◌, map, ℕ, ◌+◌, ◌-◌, ◌/◌, eqb, leb, ltb, length, get_or, Option, None, Some}
 use Rattle.terms.specs.Terms.{Fix, page_entries}
 use Rattle.lists.specs.Rows.{Row, Rows}
 use Rattle.lists.specs.Sort.{sort, first_above}
@@ -38,8 +37,8 @@ unfoldable pub difference : Rows Fix → Cut → ℕ
 difference es c = (low_count es c - (length es - low_count es c)) + ((length es - low_count es c) - low_count es c)
 
 abbrev best_of : (Cut → Cut → Bool) → List Cut → Option Cut
-best_of better [] = none
-best_of better (c ∷ cs) = some (best better c cs)
+best_of better [] = None
+best_of better (c ∷ cs) = Some (best better c cs)
 
 -- "ties go to east cuts, then the lower": they come first
 unfoldable pub existing_cut : Cuts → Rect → Rows Fix → Option Cut
@@ -54,13 +53,13 @@ unfoldable pub median : List ℕ → Option ℕ
 median l =
     cond (eqb (get_or (sort l) (length l / 2) 0) (get_or (sort l) 0 0))
     (first_above (get_or (sort l) 0 0) (sort l))
-    (some (get_or (sort l) (length l / 2) 0))
+    (Some (get_or (sort l) (length l / 2) 0))
 
 -- "That cut is valid if it exists already or its direction has fewer than 15 cuts."
 abbrev pub valid_at : Axis → Cuts → Option ℕ → Option Cut
-valid_at axis cuts none = none
-valid_at axis cuts (some c) =
-    cond (either (ltb 0 (count c (cuts_of axis cuts))) (ltb (length (cuts_of axis cuts)) max_cuts)) (some (record { axis = axis; at = c })) none
+valid_at axis cuts None = None
+valid_at axis cuts (Some c) =
+    cond (either (ltb 0 (count c (cuts_of axis cuts))) (ltb (length (cuts_of axis cuts)) max_cuts)) (Some (record { axis = axis; at = c })) None
 
 unfoldable pub median_cut : Axis → Cuts → Rows Fix → Option Cut
 median_cut axis cuts es = valid_at axis cuts (median (map (λ e. along axis e.val.place) es))

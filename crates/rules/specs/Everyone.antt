@@ -1,6 +1,5 @@
 -- All radios on (02, Job 6): what each one's latest report told, as rows by rising number.
-use Rattle.std.specs.Prelude.{[], ◌∷◌, ℕ, suc}
-use Rattle.std.proofs.Math.Option.{Option}
+use Rattle.std.specs.Prelude.{[], ◌∷◌, ℕ, suc, Option}
 use Rattle.terms.specs.Terms.{Fix, max_radio}
 use Rattle.lists.specs.Parts.{tab}
 use Rattle.lists.specs.Rows.{Rows, put_row}

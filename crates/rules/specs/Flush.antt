@@ -1,6 +1,5 @@
 -- Flush, with the split or the join that follows it (01, "How a record is carried out"; 02, Job 7).
-use Rattle.std.specs.Prelude.{Bool, true, false, not, cond, List, [], ◌∷◌, ◌++◌, map, ℕ, ◌+◌, ◌-◌, min, max, eqb, leb, ltb, length}
-use Rattle.std.proofs.Math.Option.{Option, none, some}
+use Rattle.std.specs.Prelude.{Bool, true, false, not, cond, List, [], ◌∷◌, ◌++◌, map, ℕ, ◌+◌, ◌-◌, min, max, eqb, leb, ltb, length, Option, None, Some}
 use Rattle.terms.specs.Terms.{Place, Fix, page_entries}
 use Rattle.lists.specs.Chains.{settled_free}
 use Rattle.lists.specs.Parts.{tab}
@@ -9,10 +8,8 @@ use Rattle.lists.specs.Sort.{sort_in}
 use Rattle.lists.specs.Sums.{filter, count}
 use Rattle.lists.specs.Tests.{both, is_some, first_at, first_that, first_some}
 use Rattle.rules.specs.Limits.{max_cells, join_entries}
-use Rattle.rules.specs.Grid.{Axis, eastward, northward, across, Span, same_span, Rect, span_of, with_span}
-use Rattle.rules.specs.Grid.{Cuts, cuts_of, with_cuts_of, Box, same_box, box_of, corner_of}
-use Rattle.rules.specs.Store.{Report, Line, Cell, Store, with_edges, with_entries, with_cuts, with_cells, with_free, with_waiting, with_memo}
-use Rattle.rules.specs.Store.{cell_at, others, settled, free_after}
+use Rattle.rules.specs.Grid.{Axis, eastward, northward, across, Span, same_span, Rect, span_of, with_span, Cuts, cuts_of, with_cuts_of, Box, same_box, box_of, corner_of}
+use Rattle.rules.specs.Store.{Report, Line, Cell, Store, with_edges, with_entries, with_cuts, with_cells, with_free, with_waiting, with_memo, cell_at, others, settled, free_after}
 use Rattle.rules.specs.Sweep.{swept_entries, swept_memo}
 use Rattle.rules.specs.Cut.{Cut, low_side, chosen_cut}
 
@@ -20,19 +17,19 @@ use Rattle.rules.specs.Cut.{Cut, low_side, chosen_cut}
 
 -- "any memo line takes the new place"
 abbrev pub placed : Option Place → Option Line → Option Line
-placed p none = none
-placed p (some l) = some (record { missed = l.missed; last = p })
+placed p None = None
+placed p (Some l) = Some (record { missed = l.missed; last = p })
 
 -- "add 1 to the missed count (made as 1 if absent)"
 abbrev pub raised : Option Place → Option Line → Option Line
-raised p none = some (record { missed = 1; last = p })
-raised p (some l) = some (record { missed = l.missed + 1; last = p })
+raised p None = Some (record { missed = 1; last = p })
+raised p (Some l) = Some (record { missed = l.missed + 1; last = p })
 
 -- the memo line of a radio whose report is entered: an entry was found, or the report is new, or neither
 abbrev pub entered : Bool → Bool → Place → Option Line → Option Line
-entered true new p = placed (some p)
-entered false true p = placed (some p)
-entered false false p = raised (some p)
+entered true new p = placed (Some p)
+entered false true p = placed (Some p)
+entered false false p = raised (Some p)
 
 -- d's entries and the memo, as the reports come in
 pub record Work : Type 0 where
@@ -86,8 +83,8 @@ unfoldable pub add_cut : ℕ → List ℕ → List ℕ
 add_cut c cuts = cond (ltb 0 (count c cuts)) cuts (sort_in c cuts)
 
 abbrev or_zero : Option ℕ → ℕ
-or_zero none = 0
-or_zero (some n) = n
+or_zero None = 0
+or_zero (Some n) = n
 
 -- "the smallest unused number"
 unfoldable pub unused_number : List Cell → ℕ
@@ -123,8 +120,8 @@ split_at c f =
 
 -- "If neither side gives one, d grows its chain."
 abbrev pub split_or : Option Cut → Flushed → Store
-split_or none f = grown f
-split_or (some c) f = split_at c f
+split_or None f = grown f
+split_or (Some c) f = split_at c f
 
 -- ---- join
 
@@ -198,8 +195,8 @@ joined_with f n =
 
 -- without such a neighbour d keeps to itself
 abbrev pub join_or : Option Cell → Flushed → Store
-join_or none f = grown f
-join_or (some n) f = joined_with f n
+join_or None f = grown f
+join_or (Some n) f = joined_with f n
 
 -- ---- the whole
 
@@ -215,8 +212,8 @@ unfoldable pub cell_of_box : Store → Box → Option Cell
 cell_of_box s m = cell_at s.cells (corner_of s.cuts m)
 
 abbrev flush_or : Box → Store → Option Cell → Store
-flush_or m s none = s
-flush_or m s (some d) = reshaped (flushed_into m s d)
+flush_or m s None = s
+flush_or m s (Some d) = reshaped (flushed_into m s d)
 
 -- "Flush memory cell m with cell d"
 unfoldable pub flush : Box → Store → Store

@@ -1,6 +1,5 @@
 -- The neighbour that is joined (02, Job 7): that there is one at most on a side, and worked points of the order of the sides.
-use Rattle.std.specs.Prelude.{true, List, [], ◌∷◌, map, ◌≡◌, ℕ, suc, ◌+◌, ◌*◌}
-use Rattle.std.proofs.Math.Option.{Option, none, some}
+use Rattle.std.specs.Prelude.{true, List, [], ◌∷◌, map, ◌≡◌, ℕ, suc, ◌+◌, ◌*◌, Option, None, Some}
 use Rattle.terms.specs.Terms.{fix_at}
 use Rattle.lists.specs.Among.{Among}
 use Rattle.lists.specs.Parts.{tab}
@@ -37,8 +36,8 @@ cell_on number i j n = record {
 }
 
 abbrev number_of : Option Cell → Option ℕ
-number_of none = none
-number_of (some c) = some c.number
+number_of None = None
+number_of (Some c) = Some c.number
 
 -- with d in the middle, of two entries, and these others in the order of the round, the number of the cell that is joined
 abbrev taken : List Cell → Option ℕ
@@ -51,14 +50,14 @@ pub record Choice : Type 0 where
 -- the numbers fall from west to north, and the round begins in the north
 unfoldable pub choices : List Choice
 choices =
-    record { rest = cell_on 1 1 2 9 ∷ cell_on 2 1 0 9 ∷ cell_on 3 2 1 9 ∷ cell_on 4 0 1 22 ∷ []; takes = some 4 }
+    record { rest = cell_on 1 1 2 9 ∷ cell_on 2 1 0 9 ∷ cell_on 3 2 1 9 ∷ cell_on 4 0 1 22 ∷ []; takes = Some 4 }
     -- more than 24 entries together
-    ∷ record { rest = cell_on 1 1 2 9 ∷ cell_on 2 1 0 9 ∷ cell_on 3 2 1 9 ∷ cell_on 4 0 1 23 ∷ []; takes = some 3 }
-    ∷ record { rest = cell_on 1 1 2 9 ∷ cell_on 2 1 0 9 ∷ cell_on 3 2 1 9 ∷ []; takes = some 3 }
-    ∷ record { rest = cell_on 1 1 2 9 ∷ cell_on 2 1 0 9 ∷ []; takes = some 2 }
-    ∷ record { rest = cell_on 1 1 2 9 ∷ []; takes = some 1 }
+    ∷ record { rest = cell_on 1 1 2 9 ∷ cell_on 2 1 0 9 ∷ cell_on 3 2 1 9 ∷ cell_on 4 0 1 23 ∷ []; takes = Some 3 }
+    ∷ record { rest = cell_on 1 1 2 9 ∷ cell_on 2 1 0 9 ∷ cell_on 3 2 1 9 ∷ []; takes = Some 3 }
+    ∷ record { rest = cell_on 1 1 2 9 ∷ cell_on 2 1 0 9 ∷ []; takes = Some 2 }
+    ∷ record { rest = cell_on 1 1 2 9 ∷ []; takes = Some 1 }
     -- at a corner, and behind a gap
-    ∷ record { rest = cell_on 5 0 0 9 ∷ cell_on 6 3 1 9 ∷ []; takes = none }
+    ∷ record { rest = cell_on 5 0 0 9 ∷ cell_on 6 3 1 9 ∷ []; takes = None }
     ∷ []
 
 abbrev pub Chosen : Type 0

@@ -1,6 +1,5 @@
 -- A well-formed store by its parts, so that each step is shown part by part: the tiling, the radios' books, the pages, the round, and what waits.
-use Rattle.std.specs.Prelude.{Bool, true, false, List, ◌++◌, map, ◌≡◌, ℕ, ◌+◌, ◌-◌, ◌*◌, ◌≤◌, ◌<◌, ltb, length, drop}
-use Rattle.std.proofs.Math.Option.{some}
+use Rattle.std.specs.Prelude.{Bool, true, false, List, ◌++◌, map, ◌≡◌, ℕ, ◌+◌, ◌-◌, ◌*◌, ◌≤◌, ◌<◌, ltb, length, drop, Some}
 use Rattle.terms.specs.Terms.{Place, max_radio, max_on, pages}
 use Rattle.lists.specs.Rows.{Rows, Rising, UpTo, find}
 use Rattle.lists.specs.Sums.{sum_by, concat, count}
@@ -44,7 +43,7 @@ pub record Books (cells : List Cell) (memo : Rows Line) (new on : ℕ → Bool) 
   pub apart : (p : Place) → sum_by (λ c. one_if (inside c.edges p)) cells ≤ 1
   pub memo_rises : Rising 0 memo
   pub memo_radios : UpTo max_radio memo
-  pub lines : (r : ℕ) (l : Line) → find memo r ≡ some l → (1 ≤ l.missed) × InSquareIf l.last
+  pub lines : (r : ℕ) (l : Line) → find memo r ≡ Some l → (1 ≤ l.missed) × InSquareIf l.last
   pub counted : (r : ℕ) → stale_r memo r cells ≡ missed_of (find memo r)
   pub present : (r : ℕ) → live_of memo r cells + one_if (new r) ≡ one_if (on r)
 
@@ -73,8 +72,8 @@ pub record Signed (on : Rows (Unit {0})) : Type 0 where
 pub record Waits (waiting : Rows Report) (on : Rows (Unit {0})) : Type 0 where
   pub waiting_rises : Rising 0 waiting
   pub waiting_radios : UpTo max_radio waiting
-  pub waiting_placed : (r : ℕ) (w : Report) → find waiting r ≡ some w → InSquare w.fix.place
-  pub unmarked : (r : ℕ) (w : Report) → find waiting r ≡ some w → w.new ≡ false → is_some (find on r) ≡ true
+  pub waiting_placed : (r : ℕ) (w : Report) → find waiting r ≡ Some w → InSquare w.fix.place
+  pub unmarked : (r : ℕ) (w : Report) → find waiting r ≡ Some w → w.new ≡ false → is_some (find on r) ≡ true
 
 -- ---- the minutes
 

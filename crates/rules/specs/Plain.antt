@@ -1,6 +1,5 @@
 -- The plain rule (01, the heading of that name). It is fed the bytes of each call and the cuts that the call finds, and nothing else of desk or pages.
-use Rattle.std.specs.Prelude.{Bool, true, false, cond, List, ℕ, suc, eqb}
-use Rattle.std.proofs.Math.Option.{Option, none, some}
+use Rattle.std.specs.Prelude.{Bool, true, false, cond, List, ℕ, suc, eqb, Option, None, Some}
 use Rattle.terms.specs.Terms.{Place, Fix, max_radio}
 use Rattle.lists.specs.Parts.{tab}
 use Rattle.lists.specs.Rows.{Rows}
@@ -21,7 +20,7 @@ pub record Plain : Type 0 where
 
 -- "At a fresh store all are off, none waits and nothing is flushed."
 unfoldable pub plain_fresh : Plain
-plain_fresh = record { latest = λ r. none; waits = λ r. false; flushed = λ r. none; highest = 0 }
+plain_fresh = record { latest = λ r. None; waits = λ r. false; flushed = λ r. None; highest = 0 }
 
 unfoldable pub plain_on : Plain → ℕ → Bool
 plain_on x r = is_some (x.latest r)
@@ -35,8 +34,8 @@ abbrev pub put_at : {A : Type 0} → ℕ → A → (ℕ → A) → ℕ → A
 put_at r v f q = cond (eqb q r) v (f q)
 
 abbrev pub waits_in : Cuts → Box → Option Fix → Bool
-waits_in cuts m none = false
-waits_in cuts m (some f) = same_box (box_of cuts f.place) m
+waits_in cuts m None = false
+waits_in cuts m (Some f) = same_box (box_of cuts f.place) m
 
 -- it "waits with its latest place in" the memory cell
 unfoldable pub plain_in : Cuts → Plain → Box → ℕ → Bool
@@ -48,13 +47,13 @@ plain_due cuts x p =
     box_to_flush cuts (λ m. sum_to (suc max_radio) (λ r. one_if (plain_in cuts x m r))) (sum_to (suc max_radio) (λ r. one_if (x.waits r))) p
 
 abbrev pub place_of : Option Fix → Option Place
-place_of none = none
-place_of (some f) = some f.place
+place_of None = None
+place_of (Some f) = Some f.place
 
 -- "Each that waits with its latest place in a flushed memory cell waits no longer, and that place becomes its last place flushed."
 abbrev pub plain_flush : Cuts → Option Box → Plain → Plain
-plain_flush cuts none x = x
-plain_flush cuts (some m) x = record {
+plain_flush cuts None x = x
+plain_flush cuts (Some m) x = record {
   latest = x.latest;
   waits = λ r. cond (plain_in cuts x m r) false (x.waits r);
   flushed = λ r. cond (plain_in cuts x m r) (place_of (x.latest r)) (x.flushed r);
@@ -63,14 +62,14 @@ plain_flush cuts (some m) x = record {
 
 -- "the radio is on with that place, and waits"; "the radio takes that place and waits"
 unfoldable pub plain_place : ℕ → Fix → Plain → Plain
-plain_place r f x = record { latest = put_at r (some f) x.latest; waits = put_at r true x.waits; flushed = x.flushed; highest = x.highest }
+plain_place r f x = record { latest = put_at r (Some f) x.latest; waits = put_at r true x.waits; flushed = x.flushed; highest = x.highest }
 
 unfoldable pub plain_after : Cuts → Place → Plain → Plain
 plain_after cuts p x = plain_flush cuts (plain_due cuts x p) x
 
 -- "the radio is off, waits no longer, and its last place flushed becomes none"
 unfoldable pub plain_off : ℕ → Plain → Plain
-plain_off r x = record { latest = put_at r none x.latest; waits = put_at r false x.waits; flushed = put_at r none x.flushed; highest = x.highest }
+plain_off r x = record { latest = put_at r None x.latest; waits = put_at r false x.waits; flushed = put_at r None x.flushed; highest = x.highest }
 
 abbrev pub plain_at : ℕ → Plain → Plain
 plain_at minute x = record { latest = x.latest; waits = x.waits; flushed = x.flushed; highest = minute }

@@ -1,6 +1,5 @@
 -- Records, and what they are turned down for (01, "Records and pages", "Turned down, in checking order"; 02, Jobs 2 to 4).
-use Rattle.std.specs.Prelude.{Bool, false, not, cond, List, ℕ, ◌-◌, eqb, leb, ltb, length}
-use Rattle.std.proofs.Math.Option.{Option, none, some}
+use Rattle.std.specs.Prelude.{Bool, false, not, cond, List, ℕ, ◌-◌, eqb, leb, ltb, length, Option, None, Some}
 use Rattle.terms.specs.Terms.{Place, Fix, field_bytes, minute_bytes, max_radio, max_on}
 use Rattle.lists.specs.Tests.{is_some, both, either}
 use Rattle.lists.specs.Words.{word}
@@ -32,16 +31,16 @@ kind_range = 4
 -- "the four kinds as four cases with the length stated in each", "and none for any other kind"
 unfoldable pub length_of : ℕ → Option ℕ
 length_of kind =
-    cond (eqb kind kind_sign_on) (some 14)
-    (cond (eqb kind kind_report) (some 14)
-    (cond (eqb kind kind_sign_off) (some 10)
-    (cond (eqb kind kind_range) (some 16)
-    none)))
+    cond (eqb kind kind_sign_on) (Some 14)
+    (cond (eqb kind kind_report) (Some 14)
+    (cond (eqb kind kind_sign_off) (Some 10)
+    (cond (eqb kind kind_range) (Some 16)
+    None)))
 
 -- n is the length, where there is one
 abbrev pub is_length : Option ℕ → ℕ → Bool
-is_length none n = false
-is_length (some m) n = eqb n m
+is_length None n = false
+is_length (Some m) n = eqb n m
 
 -- "radio, east, north"
 unfoldable pub radio_field : List ℕ → ℕ

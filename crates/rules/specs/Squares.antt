@@ -1,6 +1,5 @@
 -- Squares that share a line (02, Job 1): "Controllers cut the map into squares and add up the counts."
-use Rattle.std.proofs.Math.Option.{Option}
-use Rattle.std.specs.Prelude.{◌≡◌, ℕ, ◌+◌, ◌≤◌, ◌<◌, eqb}
+use Rattle.std.specs.Prelude.{Option, ◌≡◌, ℕ, ◌+◌, ◌≤◌, ◌<◌, eqb}
 use Rattle.terms.specs.Terms.{Place, Fix}
 use Rattle.lists.specs.Rows.{Row, Rows, Rising}
 use Rattle.lists.specs.Sums.{sum_by}

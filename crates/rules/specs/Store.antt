@@ -1,6 +1,5 @@
 -- The store, and a fresh one (01, "What the desk holds", "Records and pages").
-use Rattle.std.specs.Prelude.{Bool, not, cond, List, [], ◌∷◌, ℕ, suc, ◌+◌, ◌-◌, ◌/◌, max, eqb, length}
-use Rattle.std.proofs.Math.Option.{Option, none, some}
+use Rattle.std.specs.Prelude.{Bool, not, cond, List, [], ◌∷◌, ℕ, suc, ◌+◌, ◌-◌, ◌/◌, max, eqb, length, Option, None, Some}
 use Rattle.terms.specs.Terms.{Place, Fix, pages, page_entries}
 use Rattle.lists.specs.Chains.{settled_chain, settled_free}
 use Rattle.lists.specs.Parts.{tab}
@@ -20,8 +19,8 @@ pub record Line : Type 0 where
 
 -- the missed count of a radio: 0 without a line
 abbrev pub missed_of : Option Line → ℕ
-missed_of none = 0
-missed_of (some l) = l.missed
+missed_of None = 0
+missed_of (Some l) = l.missed
 
 -- a cell of the directory with its pages, from the first on, and the entries on them, radio -> fix
 pub record Cell : Type 0 where
@@ -101,8 +100,8 @@ fresh = record {
 
 -- the cell of a place: its number and its edges together
 unfoldable pub cell_at : List Cell → Place → Option Cell
-cell_at [] p = none
-cell_at (c ∷ cs) p = cond (inside c.edges p) (some c) (cell_at cs p)
+cell_at [] p = None
+cell_at (c ∷ cs) p = cond (inside c.edges p) (Some c) (cell_at cs p)
 
 -- every cell but the one with the number n
 unfoldable pub others : ℕ → List Cell → List Cell

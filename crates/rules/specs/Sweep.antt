@@ -1,6 +1,5 @@
 -- Sweep (01, "How a record is carried out").
-use Rattle.std.specs.Prelude.{Bool, false, not, cond, List, [], ◌∷◌, ◌++◌, ◌-◌, ◌+◌, ltb}
-use Rattle.std.proofs.Math.Option.{Option, none, some}
+use Rattle.std.specs.Prelude.{Bool, false, not, cond, List, [], ◌∷◌, ◌++◌, ◌-◌, ◌+◌, ltb, Option, None, Some}
 use Rattle.terms.specs.Terms.{Place, Fix}
 use Rattle.lists.specs.Rows.{Row, Rows, find, alter}
 use Rattle.lists.specs.Sums.{filter}
@@ -9,13 +8,13 @@ use Rattle.rules.specs.Grid.{same_place}
 use Rattle.rules.specs.Store.{Line, Cell, Store, with_entries, with_cells, with_free, with_memo, with_tally, settled, free_after}
 
 abbrev pub is_at : Option Place → Place → Bool
-is_at none p = false
-is_at (some q) p = same_place q p
+is_at None p = false
+is_at (Some q) p = same_place q p
 
 -- another place or "none"
 abbrev pub stale_by : Option Line → Fix → Bool
-stale_by none f = false
-stale_by (some l) f = not (is_at l.last f.place)
+stale_by None f = false
+stale_by (Some l) f = not (is_at l.last f.place)
 
 -- an "entry whose radio has a memo line with another place or none"
 abbrev pub stale : Rows Line → Row Fix → Bool
@@ -23,8 +22,8 @@ stale memo e = stale_by (find memo e.key) e.val
 
 -- "lower the missed count by 1; drop the line at 0"
 abbrev pub lowered : Option Line → Option Line
-lowered none = none
-lowered (some l) = cond (ltb 1 l.missed) (some (record { missed = l.missed - 1; last = l.last })) none
+lowered None = None
+lowered (Some l) = cond (ltb 1 l.missed) (Some (record { missed = l.missed - 1; last = l.last })) None
 
 unfoldable pub lower_each : Rows Fix → Rows Line → Rows Line
 lower_each [] memo = memo

@@ -1,6 +1,5 @@
 -- Watched rectangles (02, Job 5): "Let up to 16 be watched under numbers 0 to 15".
-use Rattle.std.specs.Prelude.{Bool, false, not, List, ◌≡◌, ℕ, length, get_or, replicate}
-use Rattle.std.proofs.Math.Option.{Option, none, some}
+use Rattle.std.specs.Prelude.{Bool, false, not, List, ◌≡◌, ℕ, length, get_or, replicate, Option, None, Some}
 use Rattle.terms.specs.Terms.{Place}
 use Rattle.lists.specs.Bits.{bits}
 use Rattle.lists.specs.Tests.{both, Each}
@@ -19,7 +18,7 @@ Watch = Option Rect
 
 -- the watch under a number
 abbrev pub watch_at : List Watch → ℕ → Watch
-watch_at watches w = get_or watches w none
+watch_at watches w = get_or watches w None
 
 -- a store, and the rectangles that are watched
 pub record Watched : Type 0 where
@@ -30,12 +29,12 @@ pub record Watched : Type 0 where
 
 -- "Each keeps its members, by place and whatever their age": a radio's latest place lies in the rectangle, by the edges of Job 1
 abbrev pub is_in : Rect → Option Place → Bool
-is_in rect none = false
-is_in rect (some p) = covers rect p
+is_in rect None = false
+is_in rect (Some p) = covers rect p
 
 abbrev pub is_member : Watch → Option Place → Bool
-is_member none p = false
-is_member (some rect) p = is_in rect p
+is_member None p = false
+is_member (Some rect) p = is_in rect p
 
 -- the latest place of each radio
 abbrev pub latest_place : Store → ℕ → Option Place
@@ -51,8 +50,8 @@ lost watches before after = gained watches after before
 -- ---- "a store where .. a set watch is reversed, is unsound"
 
 abbrev pub NotReversed : Watch → Type 0
-NotReversed none = Unit {0}
-NotReversed (some rect) = is_reversed rect ≡ false
+NotReversed None = Unit {0}
+NotReversed (Some rect) = is_reversed rect ≡ false
 
 pub record RightWatches (watches : List Watch) : Type 0 where
   pub sixteen : length watches ≡ max_watches
@@ -60,4 +59,4 @@ pub record RightWatches (watches : List Watch) : Type 0 where
 
 -- "none in a fresh store"
 unfoldable pub fresh_watched : Watched
-fresh_watched = record { store = fresh; watches = replicate max_watches none }
+fresh_watched = record { store = fresh; watches = replicate max_watches None }

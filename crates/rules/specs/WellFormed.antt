@@ -1,6 +1,5 @@
 -- A sound store (01, the heading of that name): one field for each clause, in 01's order. How its pages are laid out in bytes is said above this crate.
-use Rattle.std.specs.Prelude.{Bool, true, false, not, List, [], ◌∷◌, ◌++◌, map, ◌≡◌, ℕ, ◌+◌, ◌-◌, ◌*◌, ◌≤◌, ◌<◌, ltb, length, drop}
-use Rattle.std.proofs.Math.Option.{Option, none, some}
+use Rattle.std.specs.Prelude.{Bool, true, false, not, List, [], ◌∷◌, ◌++◌, map, ◌≡◌, ℕ, ◌+◌, ◌-◌, ◌*◌, ◌≤◌, ◌<◌, ltb, length, drop, Option, None, Some}
 use Rattle.terms.specs.Terms.{Place, Fix, max_radio, max_on, pages}
 use Rattle.lists.specs.Rows.{Rows, Rising, UpTo, find}
 use Rattle.lists.specs.Sums.{sum_by, concat, count}
@@ -26,8 +25,8 @@ pub record OnCuts (cuts : List ℕ) (s : Span) : Type 0 where
 
 -- how many entries of a radio isn't stale, and how many are
 abbrev pub count_if : (Fix → Bool) → Option Fix → ℕ
-count_if t none = 0
-count_if t (some f) = one_if (t f)
+count_if t None = 0
+count_if t (Some f) = one_if (t f)
 
 unfoldable pub live_of : Rows Line → ℕ → List Cell → ℕ
 live_of memo r cells = sum_by (λ c. count_if (λ f. not (stale_by (find memo r) f)) (find c.entries r)) cells
@@ -52,8 +51,8 @@ abbrev pub InSquare : Place → Type 0
 InSquare p = (p.east ≤ last_metre) × (p.north ≤ last_metre)
 
 abbrev pub InSquareIf : Option Place → Type 0
-InSquareIf none = Unit {0}
-InSquareIf (some p) = InSquare p
+InSquareIf None = Unit {0}
+InSquareIf (Some p) = InSquare p
 
 -- no entry, and no waiting report, is above this minute
 abbrev pub EntriesDated : ℕ → List Cell → Type 0
@@ -102,15 +101,15 @@ pub record WellFormed (s : Store) : Type 0 where
   -- "Each radio on has one entry that isn't stale or a waiting report marked new, and not both. A radio off has neither."
   pub present : (r : ℕ) → live_of s.memo r s.cells + one_if (was_new (find s.waiting r)) ≡ one_if (is_on s r)
   -- "An unmarked waiting report belongs to a radio on."
-  pub unmarked : (r : ℕ) (w : Report) → find s.waiting r ≡ some w → w.new ≡ false → is_on s r ≡ true
+  pub unmarked : (r : ℕ) (w : Report) → find s.waiting r ≡ Some w → w.new ≡ false → is_on s r ≡ true
   -- "Memo lines by rising radio have missed counts of 1 or more equal to that radio's stale entries"
   pub memo_rises : Rising 0 s.memo
   pub memo_radios : UpTo max_radio s.memo
-  pub lines : (r : ℕ) (l : Line) → find s.memo r ≡ some l → GoodLine s.cells r l
+  pub lines : (r : ℕ) (l : Line) → find s.memo r ≡ Some l → GoodLine s.cells r l
   -- "One waiting report a radio, by rising radio, at most 127, fewer than 8 a memory cell."
   pub waiting_rises : Rising 0 s.waiting
   pub waiting_radios : UpTo max_radio s.waiting
-  pub waiting_placed : (r : ℕ) (w : Report) → find s.waiting r ≡ some w → InSquare w.fix.place
+  pub waiting_placed : (r : ℕ) (w : Report) → find s.waiting r ≡ Some w → InSquare w.fix.place
   pub few_wait : length s.waiting < full_memory
   pub few_in_box : (m : Box) → waiting_in s.cuts s.waiting m < full_box
   -- "The round names each cell once."

@@ -1,6 +1,6 @@
 -- The loops of settling: pages taken by next page, pages given up, and a cell's pages written, each from the last to the first.
 use mathlib.Core.Bool.{true}
-use mathlib.Core.List.{List, [], ◌∷◌, ◌++◌, map, append_assoc}
+use mathlib.Core.List.{List, [], ◌∷◌, ◌++◌, append_assoc}
 use mathlib.Core.Logic.{◌≢◌}
 use mathlib.Core.Path.{◌≡◌, sym, ap, ap₂, ◌∙◌}
 use Prim.Native.Nat.{ℕ, zero, suc, ◌+◌, ◌-◌, ◌*◌, ◌≤◌, ◌<◌, min, max}
@@ -8,20 +8,18 @@ use native.Mathlib.Nat.{not-suc-le-zero, le_of_suc-le-suc}
 use native.Mathlib.Numerals.{add-one}
 use native.Mathlib.Omega.{arith}
 use lib.Dec.{leb}
-use lib.ListN.{length, get_or, take, drop, set, length-set, length-take, length-drop, drop_of_length-le}
+use lib.ListN.{length-map, length, get_or, take, drop, set, length-set, length-take, length-drop, drop_of_length-le}
 use lib.Seq.{drop-cons, get_or-take, take-take, take-suc-set, take-append-le, length-take-le, take_all, drop-drop}
 use borrow.Author.Tests.{leb-true, leb-false, eq-eqb, ne_eqb}
 use Rattle.terms.specs.Terms.{Fix, max_on, pages, page_entries, no_page}
 use Rattle.lists.specs.Chains.{chain_head, Linked, settled_chain}
-use Rattle.lists.specs.Parts.{part}
 use Rattle.lists.specs.Rows.{Rows}
 use Rattle.lists.specs.Tests.{Each}
 use Rattle.lists.proofs.Cases.{by_cases}
-use Rattle.lists.proofs.MapLaws.{map-take}
-use Rattle.lists.proofs.PartsLaws.{drop-take}
+use Rattle.std.proofs.lemmas.List.{take-map, drop-map}
 use Rattle.lists.proofs.TestsLaws.{Each-get_or}
-use Rattle.entries.specs.Entries.{row_of, table_with, table_words, every_entry, rows_of}
-use Rattle.entries.proofs.TableLaws.{length_rows}
+use Rattle.entries.specs.declared.Entry.{Entry}
+use Rattle.entries.specs.Entries.{row_of, rows_of}
 use Rattle.page.specs.Page.{kind_first, kind_further, page_of, free_page_of, next}
 use Rattle.page.specs.Buffer.{page_at, put_page, there, chain_from, at_none, end_from}
 use Rattle.page.proofs.ChainLaws.{following, ended_Chained}
@@ -101,12 +99,11 @@ kind_first_lem k e = rw (eq-eqb k 0 e)
 pub kind_further_lem : (k : ℕ) → k ≢ 0 → kind_further ≡ kind_at k
 kind_further_lem k n = rw (ne_eqb k 0 n)
 
--- the first n pages, which a table's e entries need, hold their rows from number k on
-pub record Writing (b ps : List ℕ) (n cell e : ℕ) (rows : Rows Fix) (c : List ℕ) (next k : ℕ) : Type 0 where
+-- the first n pages, which these rows need, hold them from number k on
+pub record Writing (b ps : List ℕ) (n cell : ℕ) (rows : Rows Fix) (c : List ℕ) (next k : ℕ) : Type 0 where
   pub size : length (take n ps) ≡ n
   pub below : Below (take n ps)
-  pub many : length rows ≡ e
-  pub need : n ≡ pages_for e
+  pub need : n ≡ pages_for (length rows)
   pub high : k ≤ n
   pub bytes : c ≡ written b (leaves (kind_at k) cell (drop k (take n ps)) (drop (page_entries * k) rows))
   pub first : next ≡ chain_head no_page (drop k (take n ps))
@@ -115,53 +112,53 @@ pub Writing_few : (e : ℕ) {n : ℕ} → e ≤ max_on → n ≡ pages_for e →
 unfolding pages_for
 Writing_few e h m = omega arith
 
-pub Writing_start : (b ps : List ℕ) (n cell e : ℕ) (ws : List ℕ) → length ps ≡ pages → e ≤ max_on → length ws ≡ table_words → n ≡ pages_for e → Below (take n ps)
-    → Writing b ps n cell e (rows_of (table_with e ws)) b no_page n
+pub Writing_start : (b ps : List ℕ) (n cell : ℕ) (rows : Rows Fix) → length ps ≡ pages → length rows ≤ max_on → n ≡ pages_for (length rows) → Below (take n ps)
+    → Writing b ps n cell rows b no_page n
 unfolding written leaves
-Writing_start b ps n cell e ws s h t m w =
-    let l = length-take-le n ps (omega (arith, Writing_few e h m)) in
+Writing_start b ps n cell rows s h m w =
+    let l = length-take-le n ps (omega (arith, Writing_few (length rows) h m)) in
     let z : drop n (take n ps) ≡ [] = drop_of_length-le (take n ps) {i = n} (omega arith) in
-    record { size = l; below = w; many = length_rows e ws h t; need = m; high = omega arith; bytes = rw z; first = rw z }
+    record { size = l; below = w; need = m; high = omega arith; bytes = rw z; first = rw z }
 
--- the rows of one page
-part_page : (rows : Rows Fix) (e from : ℕ) → length rows ≡ e → part rows from (min page_entries (e - from)) ≡ take page_entries (drop from rows)
-unfolding part
-part_page rows e from l =
-    by_cases (leb page_entries (e - from))
-    (λ t. let m : min page_entries (e - from) ≡ page_entries = omega (arith, leb-true page_entries (e - from) t) in rw m)
-    (λ t. let k = leb-false page_entries (e - from) t in
-    take_all (min page_entries (e - from)) (drop from rows) (rw length-drop (omega arith)) ∙ sym (take_all page_entries (drop from rows) (rw length-drop (omega arith))))
+-- the rows of one page: those of the entries from there on, as many as there are and the page holds
+part_page : (rows : Rows Fix) (from : ℕ) → take (min (length rows) (from + page_entries) - from) (drop from rows) ≡ take page_entries (drop from rows)
+part_page rows from =
+    by_cases (leb (from + page_entries) (length rows))
+    (λ t. let m : min (length rows) (from + page_entries) - from ≡ page_entries = omega (arith, leb-true (from + page_entries) (length rows) t) in rw m)
+    (λ t. let k = leb-false (from + page_entries) (length rows) t in
+    take_all (min (length rows) (from + page_entries) - from) (drop from rows) (rw length-drop (omega arith)) ∙ sym (take_all page_entries (drop from rows) (rw length-drop (omega arith))))
 
--- a part of a table's rows is read without those behind it
-part-take : {A : Type 0} (l : List A) (a m : ℕ) → a ≤ length l → part (take (a + m) l) a m ≡ part l a m
-unfolding part
-part-take l a m h = ap (take m) (drop-take l a m h) ∙ take-take m m (drop a l) (omega arith)
+page_rows : (es : List Entry) (from end : ℕ) → end ≡ min (length es) (from + page_entries)
+    → rows_of (take (end - from) (drop from es)) ≡ take page_entries (drop from (rows_of es))
+page_rows es from end e =
+    sym (take-map row_of (end - from) (drop from es)) ∙ ap (take (end - from)) (sym (drop-map row_of from es))
+    ∙ rw (e, ← length-map es row_of) (part_page (rows_of es) from)
 
-part_rows : (e : ℕ) (ws : List ℕ) (from m : ℕ) → e ≤ max_on → length ws ≡ table_words → from + m ≤ e
-    → part (rows_of (table_with (from + m) ws)) from m ≡ part (rows_of (table_with e ws)) from m
-unfolding rows_of
-part_rows e ws from m h l f =
-    let n : length (rows_of (table_with e ws)) ≡ e = length_rows e ws h l in
-    let t : map row_of (take (from + m) (every_entry ws)) ≡ take (from + m) (map row_of (take e (every_entry ws))) =
-    ap (map row_of) (sym (take-take (from + m) e (every_entry ws) f)) ∙ map-take row_of (from + m) (take e (every_entry ws)) in
-    ap (λ (r : Rows Fix). part r from m) t ∙ part-take (map row_of (take e (every_entry ws))) from m (omega arith)
+module _ {b ps : List ℕ} {n cell : ℕ} (es : List Entry) {c : List ℕ} {next k : ℕ} (g : Writing b ps n cell (rows_of es) c next k) where
+  abbrev rows : Rows Fix
+  rows = rows_of es
 
-module _ {b ps : List ℕ} {n cell e : ℕ} {rows : Rows Fix} {c : List ℕ} {next k : ℕ} (g : Writing b ps n cell e rows c next k) where
   Writing_page : 0 < k → get_or (take n ps) (k - 1) 0 ≡ get_or ps (k - 1) 0
   Writing_page more = get_or-take n ps (k - 1) 0 (omega (arith, g.high))
 
   pub Writing_below : 0 < k → get_or ps (k - 1) 0 < pages
   Writing_below more = rw (← Writing_page more) (Each-get_or _ (take n ps) (k - 1) 0 g.below (omega (arith, g.high, g.size)))
 
-  -- its page begins with one of the rows, if there is any
-  pub Writing_from : 0 < k → page_entries * (k - 1) ≤ e
+  -- its page begins with one of the entries, if there is any
+  pub Writing_from : 0 < k → page_entries * (k - 1) ≤ length es
   unfolding pages_for
-  Writing_from more = omega (arith, g.high, g.need)
+  Writing_from more = omega (arith, g.high, g.need, length-map es row_of)
 
-  Writing-next : {c' : List ℕ} {kind m : ℕ} → 0 < k → kind ≡ kind_at (k - 1) → m ≡ min page_entries (e - page_entries * (k - 1))
-      → c' ≡ put_page c (get_or ps (k - 1) 0) (page_of kind next cell (part rows (page_entries * (k - 1)) m)) → Writing b ps n cell e rows c' (get_or ps (k - 1) 0) (k - 1)
+  -- and has no more than a page holds
+  pub Writing_held : {end : ℕ} → 0 < k → end ≡ min (length es) (page_entries * (k - 1) + page_entries)
+      → length (take (end - page_entries * (k - 1)) (drop (page_entries * (k - 1)) es)) ≤ page_entries
+  Writing_held more e = rw length-take (omega arith)
+
+  pub Writing_turn : {c' : List ℕ} {kind end : ℕ} → 0 < k → kind ≡ kind_at (k - 1) → end ≡ min (length es) (page_entries * (k - 1) + page_entries)
+      → c' ≡ put_page c (get_or ps (k - 1) 0) (page_of kind next cell (rows_of (take (end - page_entries * (k - 1)) (drop (page_entries * (k - 1)) es))))
+      → Writing b ps n cell (rows_of es) c' (get_or ps (k - 1) 0) (k - 1)
   unfolding written leaves
-  Writing-next more t q w =
+  Writing_turn {end = end} more t q w =
       let d : drop (k - 1) (take n ps) ≡ get_or ps (k - 1) 0 ∷ drop k (take n ps) =
       drop_before (take n ps) k 0 (omega arith) (omega (arith, g.high, g.size)) ∙ ap (λ p. p ∷ drop k (take n ps)) (Writing_page more) in
       let s : page_entries * (k - 1) + page_entries ≡ page_entries * k = omega arith in
@@ -171,23 +168,14 @@ module _ {b ps : List ℕ} {n cell e : ℕ} {rows : Rows Fix} {c : List ℕ} {ne
       record {
         size = g.size;
         below = g.below;
-        many = g.many;
         need = g.need;
         high = omega (arith, g.high);
-        bytes = rw (d, f) (w ∙ rw (t, q, part_page rows e (page_entries * (k - 1)) g.many, g.bytes, g.first, o));
+        bytes = rw (d, f) (w ∙ rw (t, page_rows es (page_entries * (k - 1)) end q, g.bytes, g.first, o));
         first = rw d;
       }
 
   pub Writing_end : k ≤ 0 → c ≡ written b (leaves kind_first cell (take n ps) rows)
   Writing_end h = let z : k ≡ 0 = omega arith in rw z at g.bytes
-
-pub Writing_turn : {b ps : List ℕ} {n cell e : ℕ} (ws : List ℕ) {c : List ℕ} {next k : ℕ} → Writing b ps n cell e (rows_of (table_with e ws)) c next k
-    → {c' : List ℕ} {kind m : ℕ} → e ≤ max_on → length ws ≡ table_words → 0 < k → kind ≡ kind_at (k - 1) → m ≡ min page_entries (e - page_entries * (k - 1))
-    → c' ≡ put_page c (get_or ps (k - 1) 0) (page_of kind next cell (part (rows_of (table_with (page_entries * (k - 1) + m) ws)) (page_entries * (k - 1)) m))
-    → Writing b ps n cell e (rows_of (table_with e ws)) c' (get_or ps (k - 1) 0) (k - 1)
-Writing_turn {e = e} ws {k = k} g {m = m} h l more t q w =
-    let f = Writing_from g more in
-    Writing-next g more t q (w ∙ rw (part_rows e ws (page_entries * (k - 1)) m h l (omega arith)))
 
 -- ---- pages taken
 

@@ -13,8 +13,6 @@ use Rattle.lists.specs.Rows.{Rows}
 use Rattle.lists.specs.Tests.{Each}
 use Rattle.lists.proofs.Cases.{by_cases}
 use Rattle.lists.proofs.TestsLaws.{Each_map, Each-append, Each_split}
-use Rattle.entries.specs.Entries.{table_with, table_words, rows_of}
-use Rattle.entries.proofs.TableLaws.{length_rows}
 use Rattle.page.specs.Page.{kind_first}
 use Rattle.page.specs.Buffer.{put_page, chain_from, at_none, end_from}
 use Rattle.page.proofs.ChainLaws.{ended_Chained, there_bounds}
@@ -56,10 +54,10 @@ given_front need ch f =
     (λ t. let z : need - length ch ≡ 0 = omega (arith, leb-true need (length ch) t) in rw z)
     (λ t. rw (drop_of_length-le ch {i = need} (omega (arith, leb-false need (length ch) t))))
 
-pub settle_few : (n : ℕ) (ws : List ℕ) {need : ℕ} (k : ℕ) → n ≤ max_on → length ws ≡ table_words → need ≡ pages_for n → pages_for (length (rows_of (table_with n ws))) ≤ k
+pub settle_few : (rows : Rows Fix) {need : ℕ} (k : ℕ) → length rows ≤ max_on → need ≡ pages_for (length rows) → pages_for (length rows) ≤ k
     → (need ≤ pages) × (need ≤ k)
 unfolding pages_for
-settle_few n ws k h l e m = (omega arith, omega (arith, length_rows n ws h l))
+settle_few rows k h e m = (omega arith, omega arith)
 
 pub settled_Below : (b ch : List ℕ) (free need : ℕ) {ps : List ℕ} → Below ch → end_from pages b free ≡ at_none → ps ≡ settled_chain need ch (chain_from pages b free) → Below ps
 unfolding settled_chain
@@ -72,20 +70,14 @@ chain_head_lem : (l : List ℕ) → 0 < length l → get_or l 0 0 ≡ chain_head
 chain_head_lem [] k = absurd (omega arith)
 chain_head_lem (x ∷ l) k = refl
 
-module _ (b ch f ps : List ℕ) (n : ℕ) (ws : List ℕ) {need front : ℕ} (h : n ≤ max_on) (l : length ws ≡ table_words) (asked : need ≡ pages_for n)
+module _ (b ch f ps : List ℕ) (rows : Rows Fix) {need front : ℕ} (asked : need ≡ pages_for (length rows))
     (taken : take need ps ≡ settled_chain need ch f) (left : front ≡ chain_head no_page (drop (need - length ch) f)) where
-  abbrev rows : Rows Fix
-  rows = rows_of (table_with n ws)
-
-  need-rows : need ≡ pages_for (length rows)
-  need-rows = asked ∙ ap pages_for (sym (length_rows n ws h l))
-
   pub settle_bytes : (cell : ℕ) {b₁ b₂ : List ℕ} → b₁ ≡ written b (given_leaves front (drop need ch)) → b₂ ≡ written b₁ (leaves kind_first cell (take need ps) rows)
       → b₂ ≡ written b (settled_leaves cell ch f rows)
   unfolding settled_leaves
   settle_bytes cell e g =
       let given : given_leaves front (drop need ch) ≡ given_leaves (chain_head no_page f) (drop need ch) = rw left (given_front need ch f) in
-      rw (← need-rows) (g ∙ rw (e, given, taken) (sym (written-append b (leaves kind_first cell (settled_chain need ch f) rows) (given_leaves (chain_head no_page f) (drop need ch)))))
+      rw (← asked) (g ∙ rw (e, given, taken) (sym (written-append b (leaves kind_first cell (settled_chain need ch f) rows) (given_leaves (chain_head no_page f) (drop need ch)))))
 
   pub settle_ends : {first : ℕ} → length ps ≡ pages → first ≡ chain_head front (drop need ch) → record { first = get_or ps 0 0; free = first } ≡ settled_ends ch f rows
   unfolding settled_ends settled_free pages_for
@@ -94,4 +86,4 @@ module _ (b ch f ps : List ℕ) (n : ℕ) (ws : List ℕ) {need front : ℕ} (h 
       let z : get_or ps 0 0 ≡ chain_head no_page (settled_chain need ch f) =
       sym (get_or-take need ps 0 0 some) ∙ chain_head_lem (take need ps) (rw length-take (omega arith)) ∙ ap (chain_head no_page) taken in
       let y : chain_head front (drop need ch) ≡ chain_head no_page (drop need (ch ++ f)) = rw (left, drop-append need ch f) (sym (chain_head-append no_page (drop need ch) (drop (need - length ch) f))) in
-      rw (← need-rows) (ap₂ (λ x y. record { first = x; free = y }) z (g ∙ y))
+      rw (← asked) (ap₂ (λ x y. record { first = x; free = y }) z (g ∙ y))

@@ -2,19 +2,19 @@
 // it has too few come from there.
 #![tactic(auto)]
 
-ghost use Rattle.std.specs.Prelude.{◌≡◌, ◌+◌, ◌-◌, ◌<◌, ◌≤◌, min, length, drop, take};
+ghost use Rattle.std.specs.Prelude.{◌≡◌, ◌+◌, ◌-◌, ◌<◌, ◌≤◌, length, drop, take};
 ghost use Rattle.terms.specs.Terms.{max_on, pages, page_entries, no_page};
 ghost use Rattle.lists.specs.Chains.{chain_head, settled_chain};
 ghost use Rattle.lists.specs.Tests.{Each};
-ghost use Rattle.entries.specs.Entries.{table_with, table_words, rows_of};
-ghost use Rattle.page.specs.Page.{kind_first};
+ghost use Rattle.entries.specs.Entries.{rows_of};
+ghost use Rattle.page.specs.Page.{kind_first, number_of};
 ghost use Rattle.page.specs.Buffer.{buffer_bytes, pages_of, chain_from, at_none, end_from};
 ghost use Rattle.rules.specs.Store.{pages_for};
 ghost use Rattle.desk.specs.Layout.{leaves};
 ghost use Rattle.settle.specs.Settle.{written, given_leaves, settled_leaves, settled_ends, kind_at};
 
-use entries::TABLE_WORDS;
-use page::{Chain, KIND_FIRST, KIND_FURTHER, next_page};
+use entries::Entry;
+use page::{Chain, PageKind, next_page};
 use page_write::{free_page, write_page};
 use terms::{NO_PAGE, PAGE_ENTRIES, PAGES};
 
@@ -37,10 +37,7 @@ fn pages_for(n: usize) -> usize
     requires { n ≤ max_on }
     ensures { result ≡ pages_for n }
 {
-    if n <= PAGE_ENTRIES {
-        return 1;
-    }
-    (n + (PAGE_ENTRIES - 1)) / PAGE_ENTRIES
+    n.div_ceil(PAGE_ENTRIES).max(1)
 }
 
 // The chain with as many pages from the front of the free chain as it needs more.
@@ -52,11 +49,9 @@ fn grow(buffer: &[u8], chain: Chain, free: u16, need: usize) -> Grown
 {
     let mut pages = chain.pages;
     let mut front = free;
-    let mut n = chain.n;
-    while n < need {
+    for n in chain.n..need {
         pages[n] = front;
         front = next_page(buffer, front);
-        n += 1;
     }
     Grown { pages, free: front }
 }
@@ -67,100 +62,66 @@ pub fn give_up(buffer: &mut [u8], chain: Chain, free: u16, need: usize) -> u16
     ensures { (buffer.new ≡ written buffer.old (given_leaves free (drop need (pages_of chain))))
         × (result ≡ chain_head free (drop need (pages_of chain))) }
 {
-    let pages = chain.pages;
     let mut front = free;
-    let mut i = chain.n;
-    while need < i {
-        let j = i - 1;
-        let p = pages[j];
+    for i in (need..chain.n).rev() {
+        let p = chain.pages[i];
         free_page(buffer, p as usize, front);
         front = p;
-        i = j;
     }
     front
 }
 
-fn kind_at(k: usize) -> u16
-    ensures { result ≡ kind_at k }
+fn kind_at(k: usize) -> PageKind
+    ensures { number_of result ≡ kind_at k }
 {
-    if k == 0 { KIND_FIRST } else { KIND_FURTHER }
-}
-
-// How many of the n entries stand on a page that begins with number `from`.
-fn entries_from(n: usize, from: usize) -> usize
-    requires { from ≤ n }
-    ensures { result ≡ min page_entries (n - from) }
-{
-    let left = n - from;
-    if left < PAGE_ENTRIES {
-        left
+    if k == 0 {
+        PageKind::First
     } else {
-        PAGE_ENTRIES
+        PageKind::Further
     }
 }
 
 // The entries on the first `need` pages of `onto`, from the last to the first, so that each is led on to.
-fn write_chain(
-    buffer: &mut [u8],
-    onto: [u16; PAGES],
-    need: usize,
-    cell: u16,
-    table: &[u16; TABLE_WORDS],
-    n: usize,
-)
-    requires { (length buffer.old ≡ buffer_bytes) × Each (λ p. p < pages) (take need onto) × (n ≤ max_on) × (length table.now ≡ table_words)
-        × (need ≡ pages_for n) }
-    ensures { buffer.new
-        ≡ written buffer.old (leaves kind_first cell (take need onto) (rows_of (table_with n table.now))) }
+fn write_chain(buffer: &mut [u8], onto: &[u16; PAGES], need: usize, cell: u16, entries: &[Entry])
+    requires { (length buffer.old ≡ buffer_bytes) × Each (λ p. p < pages) (take need onto.now)
+        × (length (rows_of entries.now) ≤ max_on) × (need ≡ pages_for (length (rows_of entries.now))) }
+    ensures { buffer.new ≡ written buffer.old (leaves kind_first cell (take need onto.now) (rows_of entries.now)) }
 {
     let mut next = NO_PAGE;
-    let mut k = need;
-    while 0 < k {
-        let j = k - 1;
-        let p = onto[j];
-        let from = PAGE_ENTRIES * j;
+    for k in (0..need).rev() {
+        let p = onto[k];
+        let from = PAGE_ENTRIES * k;
+        let end = entries.len().min(from + PAGE_ENTRIES);
         write_page(
             buffer,
             p as usize,
-            kind_at(j),
+            kind_at(k).number(),
             next,
             cell,
-            table,
-            from,
-            entries_from(n, from),
+            &entries[from..end],
         );
         next = p;
-        k = j;
     }
 }
 
 // The cell's entries on the pages that they need: the chain gives up its last pages, or takes from the front of the free chain.
-pub fn settle(
-    buffer: &mut [u8],
-    chain: Chain,
-    free: u16,
-    cell: u16,
-    table: &[u16; TABLE_WORDS],
-    n: usize,
-) -> Settled
+pub fn settle(buffer: &mut [u8], chain: Chain, free: u16, cell: u16, entries: &[Entry]) -> Settled
     requires { (length buffer.old ≡ buffer_bytes)
-        × (n ≤ max_on)
-        × (length table.now ≡ table_words)
+        × (length (rows_of entries.now) ≤ max_on)
         × (chain.n ≤ pages)
         × Each (λ p. p < pages) (pages_of chain)
         × (end_from pages buffer.old free ≡ at_none)
-        × (pages_for (length (rows_of (table_with n table.now))) ≤ length (pages_of chain) + length (chain_from pages buffer.old free)) }
+        × (pages_for (length (rows_of entries.now)) ≤ length (pages_of chain) + length (chain_from pages buffer.old free)) }
     ensures { (buffer.new ≡ written buffer.old
-        (settled_leaves cell (pages_of chain) (chain_from pages buffer.old free) (rows_of (table_with n table.now))))
-        × (result ≡ settled_ends (pages_of chain) (chain_from pages buffer.old free) (rows_of (table_with n table.now))) }
+        (settled_leaves cell (pages_of chain) (chain_from pages buffer.old free) (rows_of entries.now)))
+        × (result ≡ settled_ends (pages_of chain) (chain_from pages buffer.old free) (rows_of entries.now)) }
 {
-    let need = pages_for(n);
+    let need = pages_for(entries.len());
     let grown = grow(buffer, chain, free, need);
     let front = give_up(buffer, chain, grown.free, need);
-    let pages = grown.pages;
-    write_chain(buffer, pages, need, cell, table, n);
+    write_chain(buffer, &grown.pages, need, cell, entries);
     Settled {
-        first: pages[0],
+        first: grown.pages[0],
         free: front,
     }
 }

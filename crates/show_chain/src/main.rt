@@ -2,14 +2,13 @@
 #![tactic(auto)]
 
 ghost use Rattle.std.specs.Prelude.{◌≡◌, ◌<◌, ◌≤◌, length};
-ghost use Rattle.terms.specs.Terms.{pages, page_entries, max_on};
-ghost use Rattle.entries.specs.Entries.{table_words};
+ghost use Rattle.terms.specs.Terms.{page_entries, max_on};
 ghost use Rattle.page.specs.Page.{page_bytes};
 ghost use Rattle.page.specs.Buffer.{buffer_bytes};
 
-use entries::{Entry, TABLE_WORDS};
-use page::{BUFFER_BYTES, Chain, ChainEnd, Header};
-use std::io;
+use entries::Entry;
+use page::{BUFFER_BYTES, Chain, ChainEnd, Header, PageKind};
+use std::{array, fmt, io};
 use terms::{NO_PAGE, PAGE_ENTRIES, PAGES};
 
 const CELL: u16 = 4;
@@ -18,9 +17,7 @@ const ENTRIES: usize = 70;
 
 fn main(rt: HostRuntime) -> io::Result<()> {
     let mut buffer = [0u8; BUFFER_BYTES];
-    let mut table = [0u16; TABLE_WORDS];
-    fill_table(&mut table);
-    write_chain(&mut buffer, &table);
+    write_chain(&mut buffer);
     page_write::free_page(&mut buffer, 7, 11);
     print_chain(&rt, &buffer, page_chain::read_chain(&buffer, 5))?;
     print_page(&rt, &buffer, 7)
@@ -39,76 +36,45 @@ fn entry(i: usize) -> Entry
     }
 }
 
-fn fill_table(table: &mut [u16; TABLE_WORDS])
-    requires { length table.old ≡ table_words }
-    ensures { length table.new ≡ table_words }
+// The entries as a chain of pages 5, 2 and 9.
+fn write_chain(buffer: &mut [u8])
+    requires { length buffer.old ≡ buffer_bytes }
 {
-    let mut i: usize = 0;
-    while i < ENTRIES {
-        entries::pushed(table, i, entry(i));
-        i += 1;
-    }
-}
-
-// The table as a chain of pages 5, 2 and 9.
-fn write_chain(buffer: &mut [u8], table: &[u16; TABLE_WORDS])
-    requires { (length buffer.old ≡ buffer_bytes) × (length table.now ≡ table_words) }
-{
-    page_write::write_page(buffer, 5, page::KIND_FIRST, 2, CELL, table, 0, PAGE_ENTRIES);
-    page_write::write_page(
-        buffer,
-        2,
-        page::KIND_FURTHER,
-        9,
-        CELL,
-        table,
-        PAGE_ENTRIES,
-        PAGE_ENTRIES,
-    );
-    page_write::write_page(
-        buffer,
-        9,
-        page::KIND_FURTHER,
-        NO_PAGE,
-        CELL,
-        table,
-        2 * PAGE_ENTRIES,
-        6,
-    );
+    let entries: [Entry; ENTRIES] = array::from_fn(entry);
+    let (first, others) = entries.split_at(PAGE_ENTRIES);
+    let (second, third) = others.split_at(PAGE_ENTRIES);
+    page_write::write_page(buffer, 5, PageKind::First.number(), 2, CELL, first);
+    page_write::write_page(buffer, 2, PageKind::Further.number(), 9, CELL, second);
+    page_write::write_page(buffer, 9, PageKind::Further.number(), NO_PAGE, CELL, third);
 }
 
 // ---- printing
 
+// A chain's end and its pages.
+#[derive(Clone, Copy)]
+struct Found(Chain);
+
+impl fmt::Display for Found {
+    fn fmt<W: fmt::Write>(&self, f: &mut fmt::Formatter<W>) -> fmt::Result {
+        let chain = self.0;
+        match chain.end {
+            ChainEnd::Ended => write!(f, "chain ended pages")?,
+            ChainEnd::PastBound => write!(f, "chain past its bound pages")?,
+            ChainEnd::NotThere(p) => write!(f, "chain at page {p} which is not there pages")?,
+        }
+        for page in chain.pages.iter().take(chain.n) {
+            write!(f, " {page}")?;
+        }
+        Ok(())
+    }
+}
+
 fn print_chain(rt: &impl Print, buffer: &[u8], chain: Chain) -> io::Result<()>
-    requires { (length buffer.now ≡ buffer_bytes) × (chain.n ≤ pages) }
+    requires { length buffer.now ≡ buffer_bytes }
 {
-    print_end(rt, chain.end)?;
-    print_numbers(rt, chain, chain.n)?;
-    print_pages(rt, buffer, chain, chain.n)
-}
-
-fn print_end(rt: &impl Print, end: ChainEnd) -> io::Result<()> {
-    match end {
-        ChainEnd::Ended => print!(rt; "chain ended pages"),
-        ChainEnd::PastBound => print!(rt; "chain past its bound pages"),
-        ChainEnd::NotThere(p) => print!(rt; "chain at page {p} which is not there pages"),
-    }
-}
-
-fn print_numbers(rt: &impl Print, chain: Chain, n: usize) -> io::Result<()>
-    requires { n ≤ pages }
-{
-    for page in &chain.pages[..n] {
-        print!(rt; " {page}")?;
-    }
-    println!(rt; "")
-}
-
-fn print_pages(rt: &impl Print, buffer: &[u8], chain: Chain, n: usize) -> io::Result<()>
-    requires { (length buffer.now ≡ buffer_bytes) × (n ≤ pages) }
-{
-    for page in &chain.pages[..n] {
-        print_page(rt, buffer, *page)?;
+    println!(rt; "{}", Found(chain))?;
+    for &page in chain.pages.iter().take(chain.n) {
+        print_page(rt, buffer, page)?;
     }
     Ok(())
 }

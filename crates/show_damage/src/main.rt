@@ -3,13 +3,12 @@
 
 ghost use Rattle.std.specs.Prelude.{◌≡◌, ◌+◌, ◌<◌, ◌≤◌, length};
 ghost use Rattle.terms.specs.Terms.{pages, max_on, field_bytes};
-ghost use Rattle.entries.specs.Entries.{table_words};
 ghost use Rattle.page.specs.Page.{page_bytes};
 ghost use Rattle.page.specs.Buffer.{buffer_bytes};
 
-use entries::{Entry, TABLE_WORDS};
-use page::{BUFFER_BYTES, Chain, ChainEnd, PAGE_BYTES};
-use std::io;
+use entries::Entry;
+use page::{BUFFER_BYTES, Chain, ChainEnd, PAGE_BYTES, PageKind};
+use std::{array, fmt, io};
 use terms::{NO_PAGE, PAGE_ENTRIES, PAGES};
 
 // The good buffer: a cell's 34 entries on pages 3 and 127, and page 7 free.
@@ -38,11 +37,20 @@ const UNUSED_AT: usize = 28;
 
 const LAST_AT: usize = 326;
 
+// Another value for a field of a page, and what is said of it.
+#[derive(Clone, Copy)]
+struct Damage<'a> {
+    name: &'a str,
+    page: usize,
+    at: usize,
+    value: u16,
+    ghost there: { page < pages },
+    ghost within: { at + field_bytes ≤ page_bytes },
+}
+
 fn main(rt: HostRuntime) -> io::Result<()> {
     let mut buffer = [0u8; BUFFER_BYTES];
-    let mut table = [0u16; TABLE_WORDS];
-    fill_table(&mut table);
-    write_pages(&mut buffer, &table);
+    write_pages(&mut buffer);
     show_chains(&rt, &mut buffer)?;
     show_pages(&rt, &mut buffer)
 }
@@ -60,39 +68,26 @@ fn entry(i: usize) -> Entry
     }
 }
 
-fn fill_table(table: &mut [u16; TABLE_WORDS])
-    requires { length table.old ≡ table_words }
-    ensures { length table.new ≡ table_words }
+fn write_pages(buffer: &mut [u8])
+    requires { length buffer.old ≡ buffer_bytes }
 {
-    let mut i: usize = 0;
-    while i < ENTRIES {
-        entries::pushed(table, i, entry(i));
-        i += 1;
-    }
-}
-
-fn write_pages(buffer: &mut [u8], table: &[u16; TABLE_WORDS])
-    requires { (length buffer.old ≡ buffer_bytes) × (length table.now ≡ table_words) }
-{
+    let entries: [Entry; ENTRIES] = array::from_fn(entry);
+    let (first, further) = entries.split_at(PAGE_ENTRIES);
     page_write::write_page(
         buffer,
         FIRST,
-        page::KIND_FIRST,
+        PageKind::First.number(),
         FURTHER as u16,
         CELL,
-        table,
-        0,
-        PAGE_ENTRIES,
+        first,
     );
     page_write::write_page(
         buffer,
         FURTHER,
-        page::KIND_FURTHER,
+        PageKind::Further.number(),
         NO_PAGE,
         CELL,
-        table,
-        PAGE_ENTRIES,
-        2,
+        further,
     );
     page_write::free_page(buffer, FREE, NO_PAGE);
 }
@@ -109,39 +104,48 @@ fn exchange(buffer: &mut [u8], at: usize, v: u16) -> u16
 }
 
 // The chain from the first page on, with another page after that one.
-fn try_next(rt: &impl Print, buffer: &mut [u8], name: &str, next: u16) -> io::Result<()>
+fn with_next(buffer: &mut [u8], next: u16) -> Chain
     requires { length buffer.old ≡ buffer_bytes }
 {
     let at = PAGE_BYTES * FIRST + NEXT_AT;
     let was = exchange(buffer, at, next);
     let chain = page_chain::read_chain(buffer, FIRST as u16);
     exchange(buffer, at, was);
-    print_chain(rt, name, chain)
+    chain
 }
 
-// The test of page p, with another value of the field at `at` in it.
-fn try_page(
-    rt: &impl Print,
-    buffer: &mut [u8],
-    name: &str,
-    p: usize,
-    at: usize,
-    v: u16,
-) -> io::Result<()>
-    requires { (length buffer.old ≡ buffer_bytes) × (p < pages) × (at + field_bytes ≤ page_bytes) }
-{
-    let place = PAGE_BYTES * p + at;
-    let was = exchange(buffer, place, v);
-    let good = page_layout::laid_out(page::page_at(buffer, p));
-    exchange(buffer, place, was);
-    print_layout(rt, name, good)
+impl<'a> Damage<'a> {
+    fn new(name: &'a str, page: usize, at: usize, value: u16) -> Damage<'a>
+        requires there { page < pages }
+        requires within { at + field_bytes ≤ page_bytes }
+    {
+        Damage {
+            name,
+            page,
+            at,
+            value,
+        }
+    }
+
+    fn kind(name: &'a str, page: usize, kind: PageKind) -> Damage<'a>
+        requires { page < pages }
+    {
+        Damage::new(name, page, KIND_AT, kind.number())
+    }
 }
 
-// The first n bytes.
-fn front(s: &[u8], n: usize) -> &[u8]
-    requires { n ≤ length s.now }
+// The test of a page, damaged so.
+fn try_pages(rt: &impl Print, buffer: &mut [u8], damages: &[Damage<'_>]) -> io::Result<()>
+    requires { length buffer.old ≡ buffer_bytes }
 {
-    &s[0..n]
+    for damage in damages {
+        let place = PAGE_BYTES * damage.page + damage.at;
+        let was = exchange(buffer, place, damage.value);
+        let good = page_layout::laid_out(page::page_at(buffer, damage.page));
+        exchange(buffer, place, was);
+        print_layout(rt, damage.name, good)?;
+    }
+    Ok(())
 }
 
 // ---- chains
@@ -158,59 +162,46 @@ fn show_chains(rt: &impl Print, buffer: &mut [u8]) -> io::Result<()>
 fn show_next(rt: &impl Print, buffer: &mut [u8]) -> io::Result<()>
     requires { length buffer.old ≡ buffer_bytes }
 {
-    try_next(rt, buffer, "good chain", FURTHER as u16)?;
-    try_next(rt, buffer, "next page is itself", FIRST as u16)?;
-    try_next(rt, buffer, "next page 128", 128)?;
-    try_next(rt, buffer, "next page 130", 130)?;
-    try_next(rt, buffer, "next page 60000", 60000)
+    for (name, next) in [
+        ("good chain", FURTHER as u16),
+        ("next page is itself", FIRST as u16),
+        ("next page 128", 128),
+        ("next page 130", 130),
+        ("next page 60000", 60000),
+    ] {
+        print_chain(rt, name, with_next(buffer, next))?;
+    }
+    Ok(())
 }
 
 fn show_first(rt: &impl Print, buffer: &[u8]) -> io::Result<()> {
-    print_chain(
-        rt,
-        "first page 65535",
-        page_chain::read_chain(buffer, NO_PAGE),
-    )?;
-    print_chain(rt, "first page 200", page_chain::read_chain(buffer, 200))
+    for (name, first) in [("first page 65535", NO_PAGE), ("first page 200", 200)] {
+        print_chain(rt, name, page_chain::read_chain(buffer, first))?;
+    }
+    Ok(())
 }
 
 fn show_cut(rt: &impl Print, buffer: &[u8]) -> io::Result<()>
     requires { length buffer.now ≡ buffer_bytes }
 {
-    print_chain(
-        rt,
-        "one byte short",
-        page_chain::read_chain(front(buffer, BUFFER_BYTES - 1), FIRST as u16),
-    )?;
-    print_chain(
-        rt,
-        "empty buffer",
-        page_chain::read_chain(front(buffer, 0), FIRST as u16),
-    )
+    let (short, _) = buffer.split_at(BUFFER_BYTES - 1);
+    for (name, cut) in [("one byte short", short), ("empty buffer", &[])] {
+        print_chain(rt, name, page_chain::read_chain(cut, FIRST as u16))?;
+    }
+    Ok(())
 }
 
 // The longest chain: each of the 128 pages once, then none or the first again.
 fn show_all(rt: &impl Print) -> io::Result<()> {
     let mut buffer = [0u8; BUFFER_BYTES];
-    link_all(&mut buffer);
-    page_write::free_page(&mut buffer, 127, NO_PAGE);
-    print_chain(rt, "all pages in a row", page_chain::read_chain(&buffer, 0))?;
-    page_write::free_page(&mut buffer, 127, 0);
-    print_chain(
-        rt,
-        "all pages in a ring",
-        page_chain::read_chain(&buffer, 0),
-    )
-}
-
-fn link_all(buffer: &mut [u8])
-    requires { length buffer.old ≡ buffer_bytes }
-{
-    let mut p: usize = 0;
-    while p < PAGES {
-        page_write::free_page(buffer, p, (p + 1) as u16);
-        p += 1;
+    for p in 0..PAGES {
+        page_write::free_page(&mut buffer, p, (p + 1) as u16);
     }
+    for (name, after) in [("all pages in a row", NO_PAGE), ("all pages in a ring", 0)] {
+        page_write::free_page(&mut buffer, PAGES - 1, after);
+        print_chain(rt, name, page_chain::read_chain(&buffer, 0))?;
+    }
+    Ok(())
 }
 
 // ---- layout
@@ -220,113 +211,60 @@ fn show_pages(rt: &impl Print, buffer: &mut [u8]) -> io::Result<()>
 {
     show_good(rt, buffer)?;
     show_size(rt, buffer)?;
-    show_used(rt, buffer)?;
-    show_kinds(rt, buffer)?;
-    show_unused(rt, buffer)?;
-    show_radios(rt, buffer)
+    show_head(rt, buffer)?;
+    show_rest(rt, buffer)
 }
 
 fn show_good(rt: &impl Print, buffer: &mut [u8]) -> io::Result<()>
     requires { length buffer.old ≡ buffer_bytes }
 {
-    try_page(rt, buffer, "first page", FIRST, KIND_AT, page::KIND_FIRST)?;
-    try_page(
-        rt,
-        buffer,
-        "further page",
-        FURTHER,
-        KIND_AT,
-        page::KIND_FURTHER,
-    )?;
-    try_page(rt, buffer, "free page", FREE, KIND_AT, page::KIND_FREE)
+    let damages = [
+        Damage::kind("first page", FIRST, PageKind::First),
+        Damage::kind("further page", FURTHER, PageKind::Further),
+        Damage::kind("free page", FREE, PageKind::Free),
+    ];
+    try_pages(rt, buffer, &damages)
 }
 
 fn show_size(rt: &impl Print, buffer: &[u8]) -> io::Result<()>
     requires { length buffer.now ≡ buffer_bytes }
 {
     let page = page::page_at(buffer, FIRST);
-    print_layout(
-        rt,
-        "page of 327 bytes",
-        page_layout::laid_out(front(page, PAGE_BYTES - 1)),
-    )
+    let (short, _) = page.split_at(PAGE_BYTES - 1);
+    print_layout(rt, "page of 327 bytes", page_layout::laid_out(short))
 }
 
-fn show_used(rt: &impl Print, buffer: &mut [u8]) -> io::Result<()>
+// Used bytes and kind.
+fn show_head(rt: &impl Print, buffer: &mut [u8]) -> io::Result<()>
     requires { length buffer.old ≡ buffer_bytes }
 {
-    try_page(rt, buffer, "used bytes 7", FREE, USED_AT, 7)?;
-    try_page(rt, buffer, "used bytes 27", FURTHER, USED_AT, 27)?;
-    try_page(rt, buffer, "used bytes 338", FIRST, USED_AT, 338)
+    let damages = [
+        Damage::new("used bytes 7", FREE, USED_AT, 7),
+        Damage::new("used bytes 27", FURTHER, USED_AT, 27),
+        Damage::new("used bytes 338", FIRST, USED_AT, 338),
+        Damage::new("kind 0", FIRST, KIND_AT, 0),
+        Damage::new("kind 4", FIRST, KIND_AT, 4),
+        Damage::kind("free page with an entry", FURTHER, PageKind::Free),
+        Damage::kind("first page without an entry", FREE, PageKind::First),
+        Damage::kind("further page without an entry", FREE, PageKind::Further),
+    ];
+    try_pages(rt, buffer, &damages)
 }
 
-fn show_kinds(rt: &impl Print, buffer: &mut [u8]) -> io::Result<()>
+// Unused bytes and radios.
+fn show_rest(rt: &impl Print, buffer: &mut [u8]) -> io::Result<()>
     requires { length buffer.old ≡ buffer_bytes }
 {
-    try_page(rt, buffer, "kind 0", FIRST, KIND_AT, 0)?;
-    try_page(rt, buffer, "kind 4", FIRST, KIND_AT, 4)?;
-    try_page(
-        rt,
-        buffer,
-        "free page with an entry",
-        FURTHER,
-        KIND_AT,
-        page::KIND_FREE,
-    )?;
-    try_page(
-        rt,
-        buffer,
-        "first page without an entry",
-        FREE,
-        KIND_AT,
-        page::KIND_FIRST,
-    )?;
-    try_page(
-        rt,
-        buffer,
-        "further page without an entry",
-        FREE,
-        KIND_AT,
-        page::KIND_FURTHER,
-    )
-}
-
-fn show_unused(rt: &impl Print, buffer: &mut [u8]) -> io::Result<()>
-    requires { length buffer.old ≡ buffer_bytes }
-{
-    try_page(rt, buffer, "first unused byte 1", FURTHER, UNUSED_AT, 1)?;
-    try_page(rt, buffer, "last unused byte 1", FURTHER, LAST_AT, 256)
-}
-
-fn show_radios(rt: &impl Print, buffer: &mut [u8]) -> io::Result<()>
-    requires { length buffer.old ≡ buffer_bytes }
-{
-    try_page(rt, buffer, "first radio 0", FURTHER, RADIO_AT, 0)?;
-    try_page(
-        rt,
-        buffer,
-        "last radio 4095",
-        FURTHER,
-        SECOND_RADIO_AT,
-        4095,
-    )?;
-    try_page(
-        rt,
-        buffer,
-        "last radio 4096",
-        FURTHER,
-        SECOND_RADIO_AT,
-        4096,
-    )?;
-    try_page(
-        rt,
-        buffer,
-        "two radios equal",
-        FURTHER,
-        SECOND_RADIO_AT,
-        3300,
-    )?;
-    try_page(rt, buffer, "radios falling", FURTHER, SECOND_RADIO_AT, 3299)
+    let damages = [
+        Damage::new("first unused byte 1", FURTHER, UNUSED_AT, 1),
+        Damage::new("last unused byte 1", FURTHER, LAST_AT, 256),
+        Damage::new("first radio 0", FURTHER, RADIO_AT, 0),
+        Damage::new("last radio 4095", FURTHER, SECOND_RADIO_AT, 4095),
+        Damage::new("last radio 4096", FURTHER, SECOND_RADIO_AT, 4096),
+        Damage::new("two radios equal", FURTHER, SECOND_RADIO_AT, 3300),
+        Damage::new("radios falling", FURTHER, SECOND_RADIO_AT, 3299),
+    ];
+    try_pages(rt, buffer, &damages)
 }
 
 // ---- printing
@@ -336,11 +274,21 @@ fn print_layout(rt: &impl Print, name: &str, good: bool) -> io::Result<()> {
     println!(rt; "{name}: {word}")
 }
 
-fn print_chain(rt: &impl Print, name: &str, chain: Chain) -> io::Result<()> {
-    let n = chain.n;
-    match chain.end {
-        ChainEnd::Ended => println!(rt; "{name}: ended, pages {n}"),
-        ChainEnd::PastBound => println!(rt; "{name}: past its bound, pages {n}"),
-        ChainEnd::NotThere(p) => println!(rt; "{name}: page {p} is not there, pages {n}"),
+// What a chain is found to be.
+#[derive(Clone, Copy)]
+struct Found(Chain);
+
+impl fmt::Display for Found {
+    fn fmt<W: fmt::Write>(&self, f: &mut fmt::Formatter<W>) -> fmt::Result {
+        let n = self.0.n;
+        match self.0.end {
+            ChainEnd::Ended => write!(f, "ended, pages {n}"),
+            ChainEnd::PastBound => write!(f, "past its bound, pages {n}"),
+            ChainEnd::NotThere(p) => write!(f, "page {p} is not there, pages {n}"),
+        }
     }
+}
+
+fn print_chain(rt: &impl Print, name: &str, chain: Chain) -> io::Result<()> {
+    println!(rt; "{name}: {}", Found(chain))
 }

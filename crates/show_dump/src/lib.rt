@@ -2,15 +2,15 @@
 #![tactic(auto)]
 
 ghost use Rattle.std.specs.Prelude.{◌≡◌, ◌≤◌, length};
-ghost use Rattle.terms.specs.Terms.{pages as page_count, page_entries};
+ghost use Rattle.terms.specs.Terms.{page_entries};
 ghost use Rattle.page.specs.Page.{page_bytes};
 ghost use Rattle.page.specs.Buffer.{buffer_bytes};
 
-use desk::{CutList, Desk, Frame, Line, Report, Slot};
+use desk::{Desk, Frame, Line, Report, Slot};
 use entries::Entry;
-use page::{Chain, Header};
-use std::io;
+use page::Header;
 use std::io::Write;
+use std::{fmt, io};
 use terms::PAGES;
 
 pub fn print_refused(rt: &impl Print, number: u16) -> io::Result<()> {
@@ -20,13 +20,6 @@ pub fn print_refused(rt: &impl Print, number: u16) -> io::Result<()> {
     println!(rt; "refused {number}")
 }
 
-// n, as far as there are slots.
-fn within(n: usize, slots: usize) -> usize
-    ensures { result ≤ slots }
-{
-    if slots < n { slots } else { n }
-}
-
 // ---- the store
 
 pub fn print_store(
@@ -34,7 +27,7 @@ pub fn print_store(
     when: &[u8],
     name: &[u8],
     records: u16,
-    desk: Desk,
+    desk: &Desk,
     pages: &[u8],
 ) -> io::Result<()>
     requires { length pages.now ≡ buffer_bytes }
@@ -43,6 +36,7 @@ pub fn print_store(
     print_desk(rt, desk, pages)
 }
 
+// The names are bytes: text would ask more of callers.
 fn print_title(rt: &impl Print, when: &[u8], name: &[u8], records: u16) -> io::Result<()> {
     let mut out = io::writer(rt);
     out.write_all(b"---- ")?;
@@ -51,47 +45,56 @@ fn print_title(rt: &impl Print, when: &[u8], name: &[u8], records: u16) -> io::R
     writeln!(out, ", records {records}")
 }
 
-fn print_desk(rt: &impl Print, desk: Desk, pages: &[u8]) -> io::Result<()>
+// Numbers in a row, each after a blank.
+#[derive(Clone, Copy)]
+struct Row<'a>(&'a [u16]);
+
+impl<'a> fmt::Display for Row<'a> {
+    fn fmt<W: fmt::Write>(&self, f: &mut fmt::Formatter<W>) -> fmt::Result {
+        for number in self.0 {
+            write!(f, " {number}")?;
+        }
+        Ok(())
+    }
+}
+
+// The first n slots, as far as there are slots.
+fn in_use<T>(slots: &[T], n: u16) -> &[T] {
+    &slots[..(n as usize).min(slots.len())]
+}
+
+fn print_desk(rt: &impl Print, desk: &Desk, pages: &[u8]) -> io::Result<()>
     requires { length pages.now ≡ buffer_bytes }
 {
     let parts = desk.parts;
-    print_frame(rt, parts.frame, desk, pages)?;
-    print_waiting(rt, desk, within(parts.waiting as usize, 128))?;
-    print_memo(rt, desk, within(parts.lines as usize, 1151))?;
-    print_on(rt, desk, within(parts.on as usize, 512))?;
+    print_frame(rt, parts.frame, &desk.cells, pages)?;
+    print_waiting(rt, &desk.waiting, parts.waiting)?;
+    // in a sound store, and in the middle of a call, the last slot is unused
+    for &line in in_use(desk.memo.split_at(Desk::MAX_LINES + 1).0, parts.lines) {
+        print_line(rt, line)?;
+    }
+    println!(rt; "on{}", Row(in_use(&desk.on, parts.on)))?;
     println!(rt; "tally {} highest minute {}", parts.tally, parts.highest)
 }
 
-fn print_frame(rt: &impl Print, frame: Frame, desk: Desk, pages: &[u8]) -> io::Result<()>
+fn print_frame(rt: &impl Print, frame: Frame, cells: &[Slot], pages: &[u8]) -> io::Result<()>
     requires { length pages.now ≡ buffer_bytes }
 {
-    let easts = frame.easts;
-    print_cuts(rt, "east cuts", easts, within(easts.n as usize, 15))?;
-    let norths = frame.norths;
-    print_cuts(rt, "north cuts", norths, within(norths.n as usize, 15))?;
-    print_cells(rt, desk, within(frame.cells as usize, 64), pages)?;
-    print_free(rt, frame.free, page_chain::read_chain(pages, frame.free))
-}
-
-fn print_cuts(rt: &impl Print, name: &str, cuts: CutList, n: usize) -> io::Result<()>
-    requires { n ≤ 15 }
-{
-    print!(rt; "{name}")?;
-    for cut in &cuts.at[..n] {
-        print!(rt; " {cut}")?;
+    println!(rt; "east cuts{}", Row(in_use(&frame.easts.at, frame.easts.n)))?;
+    println!(rt;
+        "north cuts{}",
+        Row(in_use(&frame.norths.at, frame.norths.n))
+    )?;
+    for &slot in in_use(cells, frame.cells) {
+        print_cell(rt, slot, pages)?;
     }
-    println!(rt; "")
+    let free = page_chain::read_chain(pages, frame.free);
+    println!(rt; "free from page {}, pages {}", frame.free, free.n)
 }
 
-fn print_free(rt: &impl Print, front: u16, chain: Chain) -> io::Result<()> {
-    println!(rt; "free from page {front}, pages {}", chain.n)
-}
-
-fn print_waiting(rt: &impl Print, desk: Desk, n: usize) -> io::Result<()>
-    requires { n ≤ 128 }
-{
-    for i in 0..n {
-        print_report(rt, desk::report_at(&desk.waiting, i))?;
+fn print_waiting(rt: &impl Print, waiting: &[u16; Desk::WAITING_WORDS], n: u16) -> io::Result<()> {
+    for i in 0..(n as usize).min(Desk::WAITING_SLOTS) {
+        print_report(rt, desk::report_at(waiting, i))?;
     }
     Ok(())
 }
@@ -102,67 +105,28 @@ fn print_report(rt: &impl Print, r: Report) -> io::Result<()> {
     println!(rt; "waiting {} {} {} {minute}{mark}", r.radio, r.east, r.north)
 }
 
-fn print_memo(rt: &impl Print, desk: Desk, n: usize) -> io::Result<()>
-    requires { n ≤ 1151 }
-{
-    for i in 0..n {
-        print_line(rt, desk::line_at(&desk.memo, i))?;
-    }
-    Ok(())
-}
-
-fn print_line(rt: &impl Print, l: Line) -> io::Result<()> {
-    print!(rt; "memo {} missed {}", l.radio, l.missed)?;
-    if l.placed == 1 {
-        println!(rt; " place {} {}", l.east, l.north)
+fn print_line(rt: &impl Print, line: Line) -> io::Result<()> {
+    print!(rt; "memo {} missed {}", line.radio, line.missed)?;
+    // as it stands: a desk that is no sound one may hold another mark
+    if line.placed == 1 {
+        println!(rt; " place {} {}", line.east, line.north)
     } else {
         println!(rt; " none")
     }
 }
 
-fn print_on(rt: &impl Print, desk: Desk, n: usize) -> io::Result<()>
-    requires { n ≤ 512 }
-{
-    print!(rt; "on")?;
-    for radio in &desk.on[..n] {
-        print!(rt; " {radio}")?;
-    }
-    println!(rt; "")
-}
-
 // ---- the cells, in the order of the round
-
-fn print_cells(rt: &impl Print, desk: Desk, n: usize, pages: &[u8]) -> io::Result<()>
-    requires { (n ≤ 64) × (length pages.now ≡ buffer_bytes) }
-{
-    for i in 0..n {
-        print_cell(rt, desk::slot_at(&desk.cells, i), pages)?;
-    }
-    Ok(())
-}
 
 fn print_cell(rt: &impl Print, s: Slot, pages: &[u8]) -> io::Result<()>
     requires { length pages.now ≡ buffer_bytes }
 {
-    print!(rt; "cell {}", s.number)?;
-    print_edges(rt, s)?;
-    println!(rt; " first page {}", s.first)?;
+    println!(rt;
+        "cell {} easts {} to {} norths {} to {} first page {}",
+        s.number, s.west, s.east, s.south, s.north, s.first
+    )?;
     let chain = page_chain::read_chain(pages, s.first);
-    print_pages(rt, pages, chain, chain.n)
-}
-
-fn print_edges(rt: &impl Print, s: Slot) -> io::Result<()> {
-    print!(rt;
-        " easts {} to {} norths {} to {}",
-        s.west, s.east, s.south, s.north
-    )
-}
-
-fn print_pages(rt: &impl Print, buffer: &[u8], chain: Chain, n: usize) -> io::Result<()>
-    requires { (length buffer.now ≡ buffer_bytes) × (n ≤ page_count) }
-{
-    for page in &chain.pages[..n] {
-        print_page(rt, buffer, *page)?;
+    for &page in chain.pages.iter().take(chain.n) {
+        print_page(rt, pages, page)?;
     }
     Ok(())
 }

@@ -3,21 +3,18 @@ ghost use Rattle.std.specs.Prelude.{◌≡◌, ◌<◌, ◌≤◌, length};
 ghost use Rattle.page.specs.Buffer.{buffer_bytes};
 
 use super::small;
-use super::small::{On, Waiting};
 use desk::{CutList, Desk, Report};
+use std::array;
 use terms::PAGES;
 
 // As many metres as a stripe has where there are 15 cuts.
 const BOX: usize = 4096;
 
 fn all_cuts() -> CutList {
-    let mut at = [0u16; Desk::MAX_CUTS];
-    let mut i: usize = 0;
-    while i < 15 {
-        at[i] = (BOX * (i + 1)) as u16;
-        i += 1;
+    CutList {
+        n: 15,
+        at: array::from_fn(|i| (BOX * (i + 1)) as u16),
     }
-    CutList { n: 15, at }
 }
 
 // The coordinate of the k-th of 16, a stripe apart or all at one.
@@ -39,38 +36,30 @@ fn report(i: usize, apart: bool) -> Report
     )
 }
 
-pub fn crowd(n: usize, apart: bool) -> Waiting
+// The waiting reports of n radios.
+pub fn crowd(n: usize, apart: bool) -> [u16; Desk::WAITING_WORDS]
     requires { n ≤ 128 }
 {
-    let mut rows = [small::report(0, 0, 0, 0); Desk::WAITING_SLOTS];
-    let mut i: usize = 0;
-    while i < n {
-        rows[i] = report(i, apart);
-        i += 1;
+    let mut waiting = [0; Desk::WAITING_WORDS];
+    for i in 0..n {
+        desk::put_report(&mut waiting, i, report(i, apart));
     }
-    Waiting { n: n as u16, rows }
+    waiting
 }
 
 // The radios from 1 to n.
-pub fn first_on(n: usize) -> On
+pub fn first_on(n: usize) -> [u16; Desk::MAX_ON]
     requires { n ≤ 128 }
 {
-    let mut radios = [0u16; Desk::MAX_ON];
-    let mut i: usize = 0;
-    while i < n {
-        radios[i] = (i + 1) as u16;
-        i += 1;
-    }
-    On {
-        n: n as u16,
-        radios,
-    }
+    array::from_fn(|i| if i < n { i as u16 + 1 } else { 0 })
 }
 
 // A fresh desk with every cut.
 pub fn cut_desk() -> Desk {
-    let cut = small::with_easts(Desk::fresh(), all_cuts());
-    small::with_norths(cut, all_cuts())
+    let mut desk = Desk::fresh();
+    desk.parts.frame.easts = all_cuts();
+    desk.parts.frame.norths = all_cuts();
+    desk
 }
 
 // The pages of a fresh store.

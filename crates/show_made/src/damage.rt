@@ -4,13 +4,12 @@ ghost use Rattle.terms.specs.Terms.{pages, field_bytes};
 ghost use Rattle.page.specs.Page.{page_bytes};
 ghost use Rattle.page.specs.Buffer.{buffer_bytes};
 
-use super::small;
-use super::small::{Directory, Memo, Waiting};
-use desk::{Desk, Line};
+use desk::Desk;
 use page::PAGE_BYTES;
 use std::io;
 use std::io::Write;
 
+// The names are bytes: text would ask more of callers.
 fn say(rt: &impl Print, name: &[u8], good: bool) -> io::Result<()> {
     let word = if good { "sound" } else { "unsound" };
     let mut out = io::writer(rt);
@@ -24,212 +23,8 @@ pub fn say_count(rt: &impl Print, name: &[u8], taken: usize) -> io::Result<()> {
     writeln!(out, " taken for sound: {taken} of 64")
 }
 
-// ---- the desk
-
-pub fn try_desk(rt: &impl Print, name: &[u8], desk: Desk, buffer: &[u8]) -> io::Result<()> {
+pub fn try_desk(rt: &impl Print, name: &[u8], desk: &Desk, buffer: &[u8]) -> io::Result<()> {
     say(rt, name, sound::sound(desk, buffer))
-}
-
-// With these east cuts.
-pub fn try_easts(
-    rt: &impl Print,
-    name: &[u8],
-    desk: Desk,
-    buffer: &[u8],
-    n: u16,
-    a: u16,
-    b: u16,
-) -> io::Result<()> {
-    try_desk(
-        rt,
-        name,
-        small::with_easts(desk, small::cuts(n, a, b)),
-        buffer,
-    )
-}
-
-pub fn try_norths(
-    rt: &impl Print,
-    name: &[u8],
-    desk: Desk,
-    buffer: &[u8],
-    n: u16,
-    a: u16,
-) -> io::Result<()> {
-    try_desk(
-        rt,
-        name,
-        small::with_norths(desk, small::cuts(n, a, 0)),
-        buffer,
-    )
-}
-
-pub fn try_cells(
-    rt: &impl Print,
-    name: &[u8],
-    desk: Desk,
-    buffer: &[u8],
-    cells: Directory,
-) -> io::Result<()> {
-    try_desk(
-        rt,
-        name,
-        small::with_cells(desk, cells, small::FREE_FRONT),
-        buffer,
-    )
-}
-
-// With other edges where the cells meet.
-pub fn try_edges(
-    rt: &impl Print,
-    name: &[u8],
-    desk: Desk,
-    buffer: &[u8],
-    east: u16,
-    west: u16,
-) -> io::Result<()> {
-    let low = small::stripe(0, 0, east, small::LOW_FIRST as u16);
-    let high = small::stripe(1, west, small::LAST, small::HIGH_FIRST as u16);
-    try_cells(rt, name, desk, buffer, small::two_cells(low, high))
-}
-
-pub fn try_waiting(
-    rt: &impl Print,
-    name: &[u8],
-    desk: Desk,
-    buffer: &[u8],
-    waiting: Waiting,
-) -> io::Result<()> {
-    try_desk(rt, name, small::with_waiting(desk, waiting), buffer)
-}
-
-// With the two reports so marked.
-pub fn try_marks(
-    rt: &impl Print,
-    name: &[u8],
-    desk: Desk,
-    buffer: &[u8],
-    mark_20: u16,
-    mark_400: u16,
-) -> io::Result<()> {
-    try_waiting(
-        rt,
-        name,
-        desk,
-        buffer,
-        small::two_reports(mark_20, mark_400),
-    )
-}
-
-// With radio 400's report told at another minute.
-pub fn try_minute(
-    rt: &impl Print,
-    name: &[u8],
-    desk: Desk,
-    buffer: &[u8],
-    minute: u32,
-) -> io::Result<()> {
-    let mut waiting = small::waiting_of(desk);
-    let last = waiting.rows[1];
-    waiting.rows[1] = small::told_at(last, minute);
-    try_waiting(rt, name, desk, buffer, waiting)
-}
-
-// With another highest minute.
-pub fn try_highest(
-    rt: &impl Print,
-    name: &[u8],
-    desk: Desk,
-    buffer: &[u8],
-    highest: u32,
-) -> io::Result<()> {
-    try_desk(rt, name, small::with_highest(desk, highest), buffer)
-}
-
-// With an unmarked report more, before the two.
-pub fn try_report(
-    rt: &impl Print,
-    name: &[u8],
-    desk: Desk,
-    buffer: &[u8],
-    radio: u16,
-) -> io::Result<()> {
-    let old = small::waiting_of(desk);
-    let mut waiting = old;
-    waiting.rows[2] = old.rows[1];
-    waiting.rows[1] = old.rows[0];
-    waiting.rows[0] = small::report(radio, 1, 1, 0);
-    waiting.n = 3;
-    try_waiting(rt, name, desk, buffer, waiting)
-}
-
-pub fn try_memo(
-    rt: &impl Print,
-    name: &[u8],
-    desk: Desk,
-    buffer: &[u8],
-    memo: Memo,
-) -> io::Result<()> {
-    try_desk(rt, name, small::with_memo(desk, memo), buffer)
-}
-
-// With another line of radio 10.
-pub fn try_line_10(
-    rt: &impl Print,
-    name: &[u8],
-    desk: Desk,
-    buffer: &[u8],
-    missed: u16,
-    placed: u16,
-    east: u16,
-    north: u16,
-) -> io::Result<()> {
-    let line = small::line(10, missed, placed, east, north);
-    try_memo(
-        rt,
-        name,
-        desk,
-        buffer,
-        small::two_lines(small::line_7(), line),
-    )
-}
-
-// With another line of radio 7.
-pub fn try_line_7(
-    rt: &impl Print,
-    name: &[u8],
-    desk: Desk,
-    buffer: &[u8],
-    missed: u16,
-    north: u16,
-) -> io::Result<()> {
-    let line = small::line(7, missed, 0, 0, north);
-    try_memo(
-        rt,
-        name,
-        desk,
-        buffer,
-        small::two_lines(line, small::line_10()),
-    )
-}
-
-// With a line more, before the two.
-pub fn try_line(
-    rt: &impl Print,
-    name: &[u8],
-    desk: Desk,
-    buffer: &[u8],
-    line: Line,
-) -> io::Result<()> {
-    let one = small::with_line(small::blank_memo(3), 0, line);
-    let two = small::with_line(one, 1, small::line_7());
-    try_memo(
-        rt,
-        name,
-        desk,
-        buffer,
-        small::with_line(two, 2, small::line_10()),
-    )
 }
 
 // ---- the pages
@@ -271,7 +66,7 @@ fn exchange(buffer: &mut [u8], at: usize, v: u16) -> u16
 pub fn try_field(
     rt: &impl Print,
     name: &[u8],
-    desk: Desk,
+    desk: &Desk,
     buffer: &mut [u8],
     p: usize,
     at: usize,
@@ -291,7 +86,7 @@ pub fn try_field(
 pub fn try_two(
     rt: &impl Print,
     name: &[u8],
-    desk: Desk,
+    desk: &Desk,
     buffer: &mut [u8],
     a: usize,
     b: usize,

@@ -3,13 +3,13 @@
 // 400 since its sign-on. The highest minute is that of the high cell's entries and of radio 400's report.
 ghost use Rattle.std.specs.Prelude.{◌≡◌, ◌<◌, ◌≤◌, length};
 ghost use Rattle.terms.specs.Terms.{pages};
-ghost use Rattle.entries.specs.Entries.{table_words};
 ghost use Rattle.page.specs.Buffer.{buffer_bytes};
-ghost use Rattle.desk.specs.Layout.{line_slots};
 
 use desk::{CutList, Desk, Frame, Line, Parts, Report, Slot};
-use entries::{Entry, TABLE_WORDS};
-use terms::{NO_PAGE, PAGE_ENTRIES, PAGES};
+use entries::Entry;
+use page::PageKind;
+use std::array;
+use terms::{NO_PAGE, PAGE_ENTRIES, PAGES, Place};
 
 pub const CUT: u16 = 32768;
 
@@ -28,104 +28,10 @@ pub const LOW_ENTRIES: usize = 34;
 // More than a half has, so that both halves of a minute count.
 pub const HIGHEST: u32 = 70000;
 
-// ---- the desk's parts, as they are made: slots in use first
-
-#[derive(Clone, Copy)]
-pub struct Directory {
-    pub n: u16,
-    pub slots: [Slot; Desk::MAX_CELLS],
-}
-
-#[derive(Clone, Copy)]
-pub struct Waiting {
-    pub n: u16,
-    pub rows: [Report; Desk::WAITING_SLOTS],
-}
-
-#[derive(Drop)]
-pub struct Memo {
-    pub n: u16,
-    pub words: [u16; Desk::MEMO_WORDS],
-}
-
-#[derive(Clone, Copy)]
-pub struct On {
-    pub n: u16,
-    pub radios: [u16; Desk::MAX_ON],
-}
-
-// The directory's array.
-fn cell_words(cells: Directory) -> [u16; Desk::CELL_WORDS] {
-    let mut words = [0u16; Desk::CELL_WORDS];
-    let mut i: usize = 0;
-    while i < Desk::MAX_CELLS {
-        desk::put_slot(&mut words, i, cells.slots[i]);
-        i += 1;
-    }
-    words
-}
-
-// The array of the waiting reports.
-fn report_words(waiting: Waiting) -> [u16; Desk::WAITING_WORDS] {
-    let mut words = [0u16; Desk::WAITING_WORDS];
-    let mut i: usize = 0;
-    while i < Desk::WAITING_SLOTS {
-        desk::put_report(&mut words, i, waiting.rows[i]);
-        i += 1;
-    }
-    words
-}
-
-// The directory that a desk holds.
-pub fn cells_of(d: Desk) -> Directory {
-    let cells = d.cells;
-    let mut slots = [no_slot(); Desk::MAX_CELLS];
-    let mut i: usize = 0;
-    while i < Desk::MAX_CELLS {
-        slots[i] = desk::slot_at(&cells, i);
-        i += 1;
-    }
-    Directory {
-        n: d.parts.frame.cells,
-        slots,
-    }
-}
-
-// The waiting reports that a desk holds.
-pub fn waiting_of(d: Desk) -> Waiting {
-    let words = d.waiting;
-    let mut rows = [report(0, 0, 0, 0); Desk::WAITING_SLOTS];
-    let mut i: usize = 0;
-    while i < Desk::WAITING_SLOTS {
-        rows[i] = desk::report_at(&words, i);
-        i += 1;
-    }
-    Waiting {
-        n: d.parts.waiting,
-        rows,
-    }
-}
-
-// The memo that a desk holds.
-pub fn memo_of(d: Desk) -> Memo {
-    let words = d.memo;
-    Memo {
-        n: d.parts.lines,
-        words,
-    }
-}
-
-// Who is on in a desk.
-pub fn on_of(d: Desk) -> On {
-    let radios = d.on;
-    On {
-        n: d.parts.on,
-        radios,
-    }
-}
+// ---- the desk
 
 pub fn cuts(n: u16, a: u16, b: u16) -> CutList {
-    let mut at = [0u16; Desk::MAX_CUTS];
+    let mut at = [0; Desk::MAX_CUTS];
     at[0] = a;
     at[1] = b;
     CutList { n, at }
@@ -143,32 +49,6 @@ pub fn stripe(number: u16, west: u16, east: u16, first: u16) -> Slot {
     }
 }
 
-pub fn no_slot() -> Slot {
-    Slot {
-        number: 0,
-        west: 0,
-        east: 0,
-        south: 0,
-        north: 0,
-        first: 0,
-    }
-}
-
-pub fn two_cells(a: Slot, b: Slot) -> Directory {
-    let mut slots = [no_slot(); Desk::MAX_CELLS];
-    slots[0] = a;
-    slots[1] = b;
-    Directory { n: 2, slots }
-}
-
-// The low and the high cell.
-pub fn both_cells() -> Directory {
-    two_cells(
-        stripe(0, 0, CUT - 1, LOW_FIRST as u16),
-        stripe(1, CUT, LAST, HIGH_FIRST as u16),
-    )
-}
-
 // A report told at minute 0.
 pub fn report(radio: u16, east: u16, north: u16, new: u16) -> Report {
     Report {
@@ -182,160 +62,69 @@ pub fn report(radio: u16, east: u16, north: u16, new: u16) -> Report {
 }
 
 // The same report, told at this minute.
-pub fn told_at(r: Report, minute: u32) -> Report {
-    let mut t = r;
-    t.low = fields::low_half(minute);
-    t.high = fields::high_half(minute);
-    t
-}
-
-// The reports of radios 20 and 400, so marked.
-pub fn two_reports(mark_20: u16, mark_400: u16) -> Waiting {
-    let mut rows = [report(0, 0, 0, 0); Desk::WAITING_SLOTS];
-    rows[0] = told_at(report(20, 50, 60, mark_20), 60000);
-    rows[1] = told_at(report(400, 40000, 500, mark_400), HIGHEST);
-    Waiting { n: 2, rows }
-}
-
-pub fn line(radio: u16, missed: u16, placed: u16, east: u16, north: u16) -> Line {
-    Line {
-        radio,
-        missed,
-        placed,
-        east,
-        north,
+pub fn told_at(report: Report, minute: u32) -> Report {
+    Report {
+        low: fields::low_half(minute),
+        high: fields::high_half(minute),
+        ..report
     }
-}
-
-// A memo with so many lines, all of them zero yet.
-pub fn blank_memo(n: u16) -> Memo {
-    Memo {
-        n,
-        words: [0; Desk::MEMO_WORDS],
-    }
-}
-
-// With a line in the slot at `i`.
-pub fn with_line(memo: Memo, i: usize, line: Line) -> Memo
-    requires { i < line_slots }
-{
-    let mut m = memo;
-    desk::put_line(&mut m.words, i, line);
-    m
-}
-
-pub fn two_lines(a: Line, b: Line) -> Memo {
-    with_line(with_line(blank_memo(2), 0, a), 1, b)
 }
 
 pub fn line_7() -> Line {
-    line(7, 1, 0, 0, 0)
+    Line::new(7, 1, None)
 }
 
 pub fn line_10() -> Line {
-    line(10, 1, 1, 100, 200)
+    Line::new(
+        10,
+        1,
+        Some(Place {
+            east: 100,
+            north: 200,
+        }),
+    )
 }
 
 // Radio 5, the radios of the first entries of the low cell, and radio 400.
-pub fn radios_on(entries: usize) -> On
+pub fn radios_on(entries: usize) -> [u16; Desk::MAX_ON]
     requires { entries ≤ 34 }
 {
-    let mut radios = [0u16; Desk::MAX_ON];
+    let mut radios = [0; Desk::MAX_ON];
     radios[0] = 5;
-    let mut i: usize = 0;
-    while i < entries {
-        radios[i + 1] = (10 * (i + 1)) as u16;
-        i += 1;
+    for i in 1..=entries {
+        radios[i] = (10 * i) as u16;
     }
     radios[entries + 1] = 400;
-    On {
-        n: (entries + 2) as u16,
-        radios,
-    }
+    radios
 }
 
 pub fn small_desk() -> Desk {
-    let cut = with_easts(Desk::fresh(), cuts(1, CUT, 0));
-    let grown = with_cells(cut, both_cells(), FREE_FRONT);
-    let waits = with_waiting(grown, two_reports(0, 1));
-    let missed = with_memo(waits, two_lines(line_7(), line_10()));
-    let heard = with_on(missed, radios_on(LOW_ENTRIES));
-    with_highest(with_tally(heard, 3), HIGHEST)
-}
-
-// ---- a desk with another part
-
-fn with_parts(d: Desk, parts: Parts) -> Desk {
-    let mut e = d;
-    e.parts = parts;
-    e
-}
-
-fn with_frame(d: Desk, frame: Frame) -> Desk {
-    let mut parts = d.parts;
-    parts.frame = frame;
-    with_parts(d, parts)
-}
-
-pub fn with_easts(d: Desk, easts: CutList) -> Desk {
-    let mut frame = d.parts.frame;
-    frame.easts = easts;
-    with_frame(d, frame)
-}
-
-pub fn with_norths(d: Desk, norths: CutList) -> Desk {
-    let mut frame = d.parts.frame;
-    frame.norths = norths;
-    with_frame(d, frame)
-}
-
-pub fn with_cells(d: Desk, cells: Directory, free: u16) -> Desk {
-    let mut frame = d.parts.frame;
-    frame.cells = cells.n;
-    frame.free = free;
-    let mut e = with_frame(d, frame);
-    let words = cell_words(cells);
-    e.cells = words;
-    e
-}
-
-pub fn with_waiting(d: Desk, waiting: Waiting) -> Desk {
-    let mut parts = d.parts;
-    parts.waiting = waiting.n;
-    let mut e = with_parts(d, parts);
-    let words = report_words(waiting);
-    e.waiting = words;
-    e
-}
-
-pub fn with_memo(d: Desk, memo: Memo) -> Desk {
-    let mut parts = d.parts;
-    parts.lines = memo.n;
-    let mut e = with_parts(d, parts);
-    let words = memo.words;
-    e.memo = words;
-    e
-}
-
-pub fn with_on(d: Desk, on: On) -> Desk {
-    let mut parts = d.parts;
-    parts.on = on.n;
-    let mut e = with_parts(d, parts);
-    let radios = on.radios;
-    e.on = radios;
-    e
-}
-
-pub fn with_tally(d: Desk, tally: u16) -> Desk {
-    let mut parts = d.parts;
-    parts.tally = tally;
-    with_parts(d, parts)
-}
-
-pub fn with_highest(d: Desk, highest: u32) -> Desk {
-    let mut parts = d.parts;
-    parts.highest = highest;
-    with_parts(d, parts)
+    let mut desk = Desk::fresh();
+    desk.parts = Parts {
+        frame: Frame {
+            easts: cuts(1, CUT, 0),
+            norths: cuts(0, 0, 0),
+            cells: 2,
+            free: FREE_FRONT,
+        },
+        waiting: 2,
+        lines: 2,
+        on: LOW_ENTRIES as u16 + 2,
+        tally: 3,
+        highest: HIGHEST,
+    };
+    desk.cells[0] = stripe(0, 0, CUT - 1, LOW_FIRST as u16);
+    desk.cells[1] = stripe(1, CUT, LAST, HIGH_FIRST as u16);
+    desk::put_report(&mut desk.waiting, 0, told_at(report(20, 50, 60, 0), 60000));
+    desk::put_report(
+        &mut desk.waiting,
+        1,
+        told_at(report(400, 40000, 500, 1), HIGHEST),
+    );
+    desk.memo[0] = line_7();
+    desk.memo[1] = line_10();
+    desk.on = radios_on(LOW_ENTRIES);
+    desk
 }
 
 // ---- the pages
@@ -352,17 +141,6 @@ fn low_entry(i: usize) -> Entry
     }
 }
 
-fn fill_low(table: &mut [u16; TABLE_WORDS])
-    requires { length table.old ≡ table_words }
-    ensures { length table.new ≡ table_words }
-{
-    let mut i: usize = 0;
-    while i < LOW_ENTRIES {
-        entries::pushed(table, i, low_entry(i));
-        i += 1;
-    }
-}
-
 // An entry of the high cell.
 fn high_entry(radio: u16) -> Entry {
     Entry {
@@ -373,43 +151,29 @@ fn high_entry(radio: u16) -> Entry {
     }
 }
 
-// Those of radios 5, 7, `third` and 10.
-fn fill_high(table: &mut [u16; TABLE_WORDS], third: u16)
-    requires { length table.old ≡ table_words }
-    ensures { length table.new ≡ table_words }
-{
-    entries::pushed(table, 0, high_entry(5));
-    entries::pushed(table, 1, high_entry(7));
-    entries::pushed(table, 2, high_entry(third));
-    entries::pushed(table, 3, high_entry(10));
-}
-
 // The low cell's entries, so many on each of its pages.
 pub fn write_low(buffer: &mut [u8], first: usize, further: usize)
     requires { (length buffer.old ≡ buffer_bytes) × (first ≤ 32) × (further ≤ 2) }
     ensures { length buffer.new ≡ buffer_bytes }
 {
-    let mut table = [0u16; TABLE_WORDS];
-    fill_low(&mut table);
+    let entries: [Entry; LOW_ENTRIES] = array::from_fn(low_entry);
+    let (on_first, others) = entries.split_at(first);
+    let (on_further, _) = others.split_at(further);
     page_write::write_page(
         buffer,
         LOW_FIRST,
-        page::KIND_FIRST,
+        PageKind::First.number(),
         LOW_FURTHER as u16,
         0,
-        &table,
-        0,
-        first,
+        on_first,
     );
     page_write::write_page(
         buffer,
         LOW_FURTHER,
-        page::KIND_FURTHER,
+        PageKind::Further.number(),
         NO_PAGE,
         0,
-        &table,
-        first,
-        further,
+        on_further,
     );
 }
 
@@ -418,32 +182,17 @@ pub fn write_high(buffer: &mut [u8], twice: bool)
     requires { length buffer.old ≡ buffer_bytes }
     ensures { length buffer.new ≡ buffer_bytes }
 {
-    let mut table = [0u16; TABLE_WORDS];
-    if twice {
-        fill_high(&mut table, 7);
-        page_write::write_page(
-            buffer,
-            HIGH_FIRST,
-            page::KIND_FIRST,
-            NO_PAGE,
-            1,
-            &table,
-            0,
-            4,
-        );
-    } else {
-        fill_high(&mut table, 10);
-        page_write::write_page(
-            buffer,
-            HIGH_FIRST,
-            page::KIND_FIRST,
-            NO_PAGE,
-            1,
-            &table,
-            0,
-            3,
-        );
-    }
+    let three = [5, 7, 10].map(high_entry);
+    let four = [5, 7, 7, 10].map(high_entry);
+    let entries = if twice { &four[..] } else { &three[..] };
+    page_write::write_page(
+        buffer,
+        HIGH_FIRST,
+        PageKind::First.number(),
+        NO_PAGE,
+        1,
+        entries,
+    );
 }
 
 // Page p is the one page of a cell without entries.
@@ -451,8 +200,7 @@ pub fn write_none(buffer: &mut [u8], p: usize, cell: u16)
     requires { (length buffer.old ≡ buffer_bytes) × (p < pages) }
     ensures { length buffer.new ≡ buffer_bytes }
 {
-    let table = [0u16; TABLE_WORDS];
-    page_write::write_page(buffer, p, page::KIND_FIRST, NO_PAGE, cell, &table, 0, 0);
+    page_write::write_page(buffer, p, PageKind::First.number(), NO_PAGE, cell, &[]);
 }
 
 // The pages from a to b are free in that order.
@@ -460,33 +208,10 @@ pub fn link(buffer: &mut [u8], a: usize, b: usize)
     requires { (length buffer.old ≡ buffer_bytes) × (a ≤ b) × (b < pages) }
     ensures { length buffer.new ≡ buffer_bytes }
 {
-    let mut p = a;
-    while p < b {
+    for p in a..b {
         page_write::free_page(buffer, p, (p + 1) as u16);
-        p += 1;
     }
     page_write::free_page(buffer, b, NO_PAGE);
-}
-
-fn is_free(p: usize) -> bool {
-    if p == LOW_FIRST {
-        return false;
-    }
-    if p == LOW_FURTHER {
-        return false;
-    }
-    p != HIGH_FIRST
-}
-
-// Page p, if it is free, comes before `next` in the free chain; the front of that chain.
-fn put_free(buffer: &mut [u8], p: usize, next: u16) -> u16
-    requires { (length buffer.old ≡ buffer_bytes) × (p < pages) }
-{
-    if !is_free(p) {
-        return next;
-    }
-    page_write::free_page(buffer, p, next);
-    p as u16
 }
 
 // The free chain, by rising page.
@@ -494,11 +219,12 @@ fn write_free(buffer: &mut [u8])
     requires { length buffer.old ≡ buffer_bytes }
     ensures { length buffer.new ≡ buffer_bytes }
 {
-    let mut front: u16 = NO_PAGE;
-    let mut p: usize = PAGES;
-    while 0 < p {
-        p -= 1;
-        front = put_free(buffer, p, front);
+    let mut front = NO_PAGE;
+    for p in (0..PAGES).rev() {
+        if ![LOW_FIRST, LOW_FURTHER, HIGH_FIRST].contains(&p) {
+            page_write::free_page(buffer, p, front);
+            front = p as u16;
+        }
     }
 }
 

@@ -1,63 +1,43 @@
 // Many stale entries: "for every k below the number of cells the stale entries in cells at place k and later, plus all waiting, are at most 16 × (63 − k) + c +
 // 127."
 ghost use Rattle.std.specs.Prelude.{◌≡◌, ◌<◌, ◌≤◌, length};
-ghost use Rattle.entries.specs.Entries.{table_words};
 ghost use Rattle.page.specs.Buffer.{buffer_bytes};
 
 use super::small;
-use super::small::{CUT, Directory, LAST, Memo};
-use desk::{Desk, Line, Slot};
-use entries::{Entry, TABLE_WORDS};
+use super::small::{CUT, LAST};
+use desk::{Desk, Line};
+use entries::Entry;
+use page::PageKind;
+use std::array;
 use terms::{NO_PAGE, PAGE_ENTRIES};
 
 // The full cell has all the stale entries, on 36 pages; the empty one has none.
 const STALE_PAGES: usize = 36;
 
-fn stale_line(i: usize) -> Line
-    requires { i < 1151 }
-{
-    small::line((i + 1) as u16, 1, 0, 0, 0)
-}
-
 // Radios off, from 1 to n, with a stale entry each.
-fn stale_memo(n: usize) -> Memo
-    requires { n ≤ 1151 }
-{
-    let mut memo = small::blank_memo(n as u16);
-    let mut i: usize = 0;
-    while i < n {
-        memo = small::with_line(memo, i, stale_line(i));
-        i += 1;
-    }
-    memo
+fn stale_memo(n: usize) -> [Line; Desk::LINE_SLOTS] {
+    array::from_fn(|i| {
+        if i < n {
+            Line::new(i as u16 + 1, 1, None)
+        } else {
+            Line::UNUSED
+        }
+    })
 }
 
 // The entries of the radios from `first` on.
-fn fill_stale(table: &mut [u16; TABLE_WORDS], first: usize, n: usize)
-    requires { (length table.old ≡ table_words) × (first ≤ 1152) × (n ≤ 32) }
-    ensures { length table.new ≡ table_words }
+fn stale_entries(first: usize) -> [Entry; PAGE_ENTRIES]
+    requires { first ≤ 1152 }
 {
-    let mut i: usize = 0;
-    while i < n {
-        entries::pushed(
-            table,
-            i,
-            Entry {
-                radio: (first + i) as u16,
-                east: 1,
-                north: 1,
-                minute: 0,
-            },
-        );
-        i += 1;
-    }
+    array::from_fn(|i| stale_entry((first + i) as u16))
 }
 
-fn stale_kind(p: usize) -> u16 {
-    if p == 0 {
-        page::KIND_FIRST
-    } else {
-        page::KIND_FURTHER
+fn stale_entry(radio: u16) -> Entry {
+    Entry {
+        radio,
+        east: 1,
+        north: 1,
+        minute: 0,
     }
 }
 
@@ -66,21 +46,13 @@ fn write_full(buffer: &mut [u8])
     requires { length buffer.old ≡ buffer_bytes }
     ensures { length buffer.new ≡ buffer_bytes }
 {
-    let mut table = [0u16; TABLE_WORDS];
-    let mut p: usize = 0;
-    while p < STALE_PAGES - 1 {
-        fill_stale(&mut table, PAGE_ENTRIES * p + 1, PAGE_ENTRIES);
-        page_write::write_page(
-            buffer,
-            p,
-            stale_kind(p),
-            (p + 1) as u16,
-            0,
-            &table,
-            0,
-            PAGE_ENTRIES,
-        );
-        p += 1;
+    for p in 0..STALE_PAGES - 1 {
+        let kind = match p {
+            0 => PageKind::First,
+            _ => PageKind::Further,
+        };
+        let entries = stale_entries(PAGE_ENTRIES * p + 1);
+        page_write::write_page(buffer, p, kind.number(), (p + 1) as u16, 0, &entries);
     }
 }
 
@@ -99,42 +71,38 @@ pub fn write_rest(buffer: &mut [u8], n: usize)
     requires { (length buffer.old ≡ buffer_bytes) × (1120 < n) × (n ≤ 1151) }
     ensures { length buffer.new ≡ buffer_bytes }
 {
-    let rest = n - PAGE_ENTRIES * (STALE_PAGES - 1);
-    let mut table = [0u16; TABLE_WORDS];
-    fill_stale(&mut table, PAGE_ENTRIES * (STALE_PAGES - 1) + 1, rest);
+    let full = PAGE_ENTRIES * (STALE_PAGES - 1);
+    let entries = stale_entries(full + 1);
+    let (rest, _) = entries.split_at(n - full);
     page_write::write_page(
         buffer,
         STALE_PAGES - 1,
-        page::KIND_FURTHER,
+        PageKind::Further.number(),
         NO_PAGE,
-        0,
-        &table,
         0,
         rest,
     );
 }
 
-fn full() -> Slot {
-    small::stripe(0, 0, CUT - 1, 0)
-}
-
-fn empty() -> Slot {
-    small::stripe(1, CUT, LAST, 127)
-}
-
-// The full cell's place in the round is 0 or 1.
-fn places(place: usize) -> Directory {
-    if place == 0 {
-        return small::two_cells(full(), empty());
-    }
-    small::two_cells(empty(), full())
-}
-
-// n stale entries, at this place of the round.
+// n stale entries in the full cell, at this place of the round, 0 or 1.
 pub fn stale_desk(n: usize, place: usize, c: u16) -> Desk
     requires { n ≤ 1151 }
 {
-    let cut = small::with_easts(Desk::fresh(), small::cuts(1, CUT, 0));
-    let bare = small::with_cells(cut, places(place), STALE_PAGES as u16);
-    small::with_tally(small::with_memo(bare, stale_memo(n)), c)
+    let full = small::stripe(0, 0, CUT - 1, 0);
+    let empty = small::stripe(1, CUT, LAST, 127);
+    let (front, other) = if place == 0 {
+        (full, empty)
+    } else {
+        (empty, full)
+    };
+    let mut desk = Desk::fresh();
+    desk.parts.frame.easts = small::cuts(1, CUT, 0);
+    desk.parts.frame.cells = 2;
+    desk.parts.frame.free = STALE_PAGES as u16;
+    desk.cells[0] = front;
+    desk.cells[1] = other;
+    desk.memo = stale_memo(n);
+    desk.parts.lines = n as u16;
+    desk.parts.tally = c;
+    desk
 }

@@ -2,16 +2,14 @@
 ghost use Rattle.std.specs.Prelude.{◌≡◌, length};
 ghost use Rattle.page.specs.Buffer.{buffer_bytes};
 
-use desk::Desk;
-use show_made::damage::{
-    CELL_AT, try_cells, try_desk, try_easts, try_edges, try_field, try_highest, try_marks,
-    try_minute, try_norths, try_report, try_waiting,
-};
+use super::try_with;
+use desk::{Desk, Report};
+use show_made::damage::{CELL_AT, try_field};
 use show_made::small;
-use show_made::small::{CUT, HIGH_FIRST, HIGHEST, LAST, LOW_FIRST};
+use show_made::small::{CUT, HIGH_FIRST, HIGHEST};
 use std::io;
 
-pub fn show_desk(rt: &impl Print, desk: Desk, buffer: &mut [u8]) -> io::Result<()>
+pub fn show_desk(rt: &impl Print, desk: &Desk, buffer: &mut [u8]) -> io::Result<()>
     requires { length buffer.old ≡ buffer_bytes }
     ensures { length buffer.new ≡ buffer_bytes }
 {
@@ -26,100 +24,98 @@ pub fn show_desk(rt: &impl Print, desk: Desk, buffer: &mut [u8]) -> io::Result<(
 }
 
 // "Every limit above holds"
-fn show_limits(rt: &impl Print, desk: Desk, buffer: &[u8]) -> io::Result<()> {
-    try_easts(rt, b"16 east cuts", desk, buffer, 16, CUT, 0)?;
-    try_norths(rt, b"16 north cuts", desk, buffer, 16, 0)?;
-    let mut cells = small::both_cells();
-    cells.n = 65;
-    try_cells(rt, b"65 cells", desk, buffer, cells)?;
-    show_on(rt, desk, buffer)
-}
-
-fn show_on(rt: &impl Print, desk: Desk, buffer: &[u8]) -> io::Result<()> {
-    let mut on = small::on_of(desk);
-    on.radios[35] = 4096;
-    let mut waiting = small::waiting_of(desk);
-    waiting.rows[1] = small::report(4096, 40000, 500, 1);
-    try_waiting(
-        rt,
-        b"radio 4096 on",
-        small::with_on(desk, on),
-        buffer,
-        waiting,
-    )?;
-    on.n = 513;
-    try_desk(rt, b"513 on", small::with_on(desk, on), buffer)
+fn show_limits(rt: &impl Print, desk: &Desk, buffer: &[u8]) -> io::Result<()> {
+    try_with(rt, "16 east cuts", desk, buffer, |d| {
+        d.parts.frame.easts = small::cuts(16, CUT, 0);
+    })?;
+    try_with(rt, "16 north cuts", desk, buffer, |d| {
+        d.parts.frame.norths = small::cuts(16, 0, 0);
+    })?;
+    try_with(rt, "65 cells", desk, buffer, |d| d.parts.frame.cells = 65)?;
+    try_with(rt, "radio 4096 on", desk, buffer, |d| {
+        d.on[35] = 4096;
+        desk::put_report(&mut d.waiting, 1, small::report(4096, 40000, 500, 1));
+    })?;
+    try_with(rt, "513 on", desk, buffer, |d| {
+        d.on[35] = 4096;
+        d.parts.on = 513;
+    })
 }
 
 // "cuts are rising, from 1 to 65,535"
-fn show_cuts(rt: &impl Print, desk: Desk, buffer: &[u8]) -> io::Result<()> {
-    try_easts(rt, b"cut at 0", desk, buffer, 2, 0, CUT)?;
-    try_easts(rt, b"cut twice", desk, buffer, 2, CUT, CUT)?;
-    try_easts(rt, b"cuts falling", desk, buffer, 2, 50000, CUT)?;
-    try_easts(rt, b"cut more", desk, buffer, 2, 20000, CUT)?;
-    try_norths(rt, b"north cut", desk, buffer, 1, 1)
+fn show_cuts(rt: &impl Print, desk: &Desk, buffer: &[u8]) -> io::Result<()> {
+    for (name, a, b) in [
+        ("cut at 0", 0, CUT),
+        ("cut twice", CUT, CUT),
+        ("cuts falling", 50000, CUT),
+        ("cut more", 20000, CUT),
+    ] {
+        try_with(rt, name, desk, buffer, |d| {
+            d.parts.frame.easts = small::cuts(2, a, b);
+        })?;
+    }
+    try_with(rt, "north cut", desk, buffer, |d| {
+        d.parts.frame.norths = small::cuts(1, 1, 0);
+    })
 }
 
 // "The cells tile the square": rectangles of whole memory cells, each place in one
-fn show_tiles(rt: &impl Print, desk: Desk, buffer: &[u8]) -> io::Result<()> {
-    try_edges(rt, b"edge beside the cut", desk, buffer, CUT - 2, CUT - 1)?;
-    try_edges(rt, b"cells overlap", desk, buffer, CUT - 1, 0)?;
-    let cut = small::with_easts(desk, small::cuts(2, 20000, CUT));
-    try_edges(rt, b"gap between cells", cut, buffer, 19999, CUT)?;
-    try_edges(rt, b"cells meet at the cut", cut, buffer, CUT - 1, CUT)
+fn show_tiles(rt: &impl Print, desk: &Desk, buffer: &[u8]) -> io::Result<()> {
+    try_edges(rt, "edge beside the cut", desk, buffer, CUT - 2, CUT - 1)?;
+    try_edges(rt, "cells overlap", desk, buffer, CUT - 1, 0)?;
+    let mut cut = *desk;
+    cut.parts.frame.easts = small::cuts(2, 20000, CUT);
+    try_edges(rt, "gap between cells", &cut, buffer, 19999, CUT)?;
+    try_edges(rt, "cells meet at the cut", &cut, buffer, CUT - 1, CUT)
+}
+
+// With other edges where the cells meet.
+fn try_edges(
+    rt: &impl Print,
+    name: &str,
+    desk: &Desk,
+    buffer: &[u8],
+    east: u16,
+    west: u16,
+) -> io::Result<()> {
+    try_with(rt, name, desk, buffer, |d| {
+        d.cells[0].east = east;
+        d.cells[1].west = west;
+    })
 }
 
 // "numbers from 0 to 63", "The round names each cell once."
-fn show_numbers(rt: &impl Print, desk: Desk, buffer: &mut [u8]) -> io::Result<()>
+fn show_numbers(rt: &impl Print, desk: &Desk, buffer: &mut [u8]) -> io::Result<()>
     requires { length buffer.old ≡ buffer_bytes }
     ensures { length buffer.new ≡ buffer_bytes }
 {
-    try_number(rt, b"cell 63", desk, buffer, 63)?;
-    try_number(rt, b"cell 64", desk, buffer, 64)?;
-    try_number(rt, b"cell 0 twice in the round", desk, buffer, 0)?;
+    for (name, number) in [
+        ("cell 63", 63),
+        ("cell 64", 64),
+        ("cell 0 twice in the round", 0),
+    ] {
+        try_number(rt, name, desk, buffer, number)?;
+    }
     show_empty(rt, desk, buffer)
-}
-
-// Another number for the high cell.
-fn with_number(desk: Desk, number: u16) -> Desk {
-    let low = small::stripe(0, 0, CUT - 1, LOW_FIRST as u16);
-    let high = small::stripe(number, CUT, LAST, HIGH_FIRST as u16);
-    small::with_cells(desk, small::two_cells(low, high), small::FREE_FRONT)
-}
-
-// A third cell on the first free page, its west edge past its east edge: the other two still tile the square.
-fn with_empty(desk: Desk) -> Desk {
-    let mut cells = small::both_cells();
-    cells.slots[2] = small::stripe(2, CUT, CUT - 1, 1);
-    cells.n = 3;
-    small::with_cells(desk, cells, 2)
-}
-
-fn show_empty(rt: &impl Print, desk: Desk, buffer: &mut [u8]) -> io::Result<()>
-    requires { length buffer.old ≡ buffer_bytes }
-    ensures { length buffer.new ≡ buffer_bytes }
-{
-    small::write_none(buffer, 1, 2);
-    let told = try_desk(rt, b"cell without a place", with_empty(desk), buffer);
-    page_write::free_page(buffer, 1, 2);
-    told
 }
 
 // With another number for the high cell, in the directory and on its page.
 fn try_number(
     rt: &impl Print,
-    name: &[u8],
-    desk: Desk,
+    name: &str,
+    desk: &Desk,
     buffer: &mut [u8],
     number: u16,
 ) -> io::Result<()>
     requires { length buffer.old ≡ buffer_bytes }
     ensures { length buffer.new ≡ buffer_bytes }
 {
+    let mut numbered = *desk;
+    numbered.cells[1].number = number;
     try_field(
         rt,
-        name,
-        with_number(desk, number),
+        name.as_bytes(),
+        &numbered,
         buffer,
         HIGH_FIRST,
         CELL_AT,
@@ -127,67 +123,96 @@ fn try_number(
     )
 }
 
-// "One waiting report a radio, by rising radio"; "An unmarked waiting report belongs to a radio on."
-fn show_waiting(rt: &impl Print, desk: Desk, buffer: &[u8]) -> io::Result<()> {
-    try_report(rt, b"report out of its place", desk, buffer, 30)?;
-    try_report(rt, b"two reports of a radio", desk, buffer, 20)?;
-    try_report(rt, b"unmarked report of a radio off", desk, buffer, 7)?;
-    try_report(rt, b"unmarked report of a radio on", desk, buffer, 10)?;
-    try_marks(rt, b"mark 2", desk, buffer, 0, 2)
+// A third cell on the first free page, its west edge past its east edge: the other two still tile the square.
+fn show_empty(rt: &impl Print, desk: &Desk, buffer: &mut [u8]) -> io::Result<()>
+    requires { length buffer.old ≡ buffer_bytes }
+    ensures { length buffer.new ≡ buffer_bytes }
+{
+    small::write_none(buffer, 1, 2);
+    let told = try_with(rt, "cell without a place", desk, buffer, |d| {
+        d.cells[2] = small::stripe(2, CUT, CUT - 1, 1);
+        d.parts.frame.cells = 3;
+        d.parts.frame.free = 2;
+    });
+    page_write::free_page(buffer, 1, 2);
+    told
 }
 
-// 02, Job 3: "a sound store has no entry or waiting report above it"
-fn show_minutes(rt: &impl Print, desk: Desk, buffer: &[u8]) -> io::Result<()> {
-    try_minute(rt, b"report at the highest minute", desk, buffer, HIGHEST)?;
-    try_minute(rt, b"report above it", desk, buffer, HIGHEST + 1)?;
-    try_minute(
-        rt,
-        b"report above it by a half",
-        desk,
-        buffer,
-        HIGHEST + 65536,
-    )?;
-    try_minute(rt, b"report below it", desk, buffer, 65535)?;
-    try_highest(rt, b"higher minute", desk, buffer, HIGHEST + 1)?;
-    try_highest(rt, b"lower minute", desk, buffer, HIGHEST - 1)
+// "One waiting report a radio, by rising radio"; "An unmarked waiting report belongs to a radio on."
+fn show_waiting(rt: &impl Print, desk: &Desk, buffer: &[u8]) -> io::Result<()> {
+    for (name, radio) in [
+        ("report out of its place", 30),
+        ("two reports of a radio", 20),
+        ("unmarked report of a radio off", 7),
+        ("unmarked report of a radio on", 10),
+    ] {
+        try_with(rt, name, desk, buffer, |d| add_report(d, radio))?;
+    }
+    try_with(rt, "mark 2", desk, buffer, |d| {
+        let report = desk::report_at(&d.waiting, 1);
+        desk::put_report(&mut d.waiting, 1, Report { new: 2, ..report });
+    })
+}
+
+// With an unmarked report more, before the two.
+fn add_report(desk: &mut Desk, radio: u16) {
+    let first = desk::report_at(&desk.waiting, 0);
+    let second = desk::report_at(&desk.waiting, 1);
+    desk::put_report(&mut desk.waiting, 0, small::report(radio, 1, 1, 0));
+    desk::put_report(&mut desk.waiting, 1, first);
+    desk::put_report(&mut desk.waiting, 2, second);
+    desk.parts.waiting = 3;
+}
+
+// "a sound store has no entry or waiting report above it"
+fn show_minutes(rt: &impl Print, desk: &Desk, buffer: &[u8]) -> io::Result<()> {
+    for (name, minute) in [
+        ("report at the highest minute", HIGHEST),
+        ("report above it", HIGHEST + 1),
+        ("report above it by a half", HIGHEST + 65536),
+        ("report below it", 65535),
+    ] {
+        try_with(rt, name, desk, buffer, |d| {
+            let report = desk::report_at(&d.waiting, 1);
+            desk::put_report(&mut d.waiting, 1, small::told_at(report, minute));
+        })?;
+    }
+    for (name, highest) in [
+        ("higher minute", HIGHEST + 1),
+        ("lower minute", HIGHEST - 1),
+    ] {
+        try_with(rt, name, desk, buffer, |d| d.parts.highest = highest)?;
+    }
+    Ok(())
 }
 
 // Slots past the count are zero.
-fn show_unused(rt: &impl Print, desk: Desk, buffer: &[u8]) -> io::Result<()> {
-    try_easts(rt, b"number past the cuts", desk, buffer, 1, CUT, 50000)?;
-    let mut cells = small::both_cells();
-    cells.slots[63] = small::stripe(0, 0, 0, 0);
-    try_cells(rt, b"number past the cells", desk, buffer, cells)?;
-    let mut waiting = small::waiting_of(desk);
-    waiting.rows[127] = small::report(0, 0, 0, 1);
-    try_waiting(rt, b"number past the reports", desk, buffer, waiting)?;
-    waiting.rows[127] = small::told_at(small::report(0, 0, 0, 0), 65536);
-    try_waiting(rt, b"minute past the reports", desk, buffer, waiting)?;
-    show_last(rt, desk, buffer)
-}
-
-fn show_last(rt: &impl Print, desk: Desk, buffer: &[u8]) -> io::Result<()> {
-    let old = small::memo_of(desk);
-    let memo = small::with_line(old, 1150, small::line(0, 0, 0, 0, 1));
-    try_desk(
-        rt,
-        b"number past the lines",
-        small::with_memo(desk, memo),
-        buffer,
-    )?;
-    let mut on = small::on_of(desk);
-    on.radios[511] = 1;
-    try_desk(
-        rt,
-        b"number past the radios on",
-        small::with_on(desk, on),
-        buffer,
-    )
+fn show_unused(rt: &impl Print, desk: &Desk, buffer: &[u8]) -> io::Result<()> {
+    try_with(rt, "number past the cuts", desk, buffer, |d| {
+        d.parts.frame.easts = small::cuts(1, CUT, 50000);
+    })?;
+    try_with(rt, "number past the cells", desk, buffer, |d| {
+        d.cells[63] = small::stripe(0, 0, 0, 0);
+    })?;
+    try_with(rt, "number past the reports", desk, buffer, |d| {
+        desk::put_report(&mut d.waiting, 127, small::report(0, 0, 0, 1));
+    })?;
+    try_with(rt, "minute past the reports", desk, buffer, |d| {
+        let report = small::told_at(small::report(0, 0, 0, 0), 65536);
+        desk::put_report(&mut d.waiting, 127, report);
+    })?;
+    try_with(rt, "number past the lines", desk, buffer, |d| {
+        d.memo[1150].north = 1;
+    })?;
+    try_with(rt, "number past the radios on", desk, buffer, |d| {
+        d.on[511] = 1;
+    })
 }
 
 // "c is 0 to 15."
-fn show_tally(rt: &impl Print, desk: Desk, buffer: &[u8]) -> io::Result<()> {
-    try_desk(rt, b"c 0", small::with_tally(desk, 0), buffer)?;
-    try_desk(rt, b"c 15", small::with_tally(desk, 15), buffer)?;
-    try_desk(rt, b"c 16", small::with_tally(desk, 16), buffer)
+fn show_tally(rt: &impl Print, desk: &Desk, buffer: &[u8]) -> io::Result<()> {
+    for (name, c) in [("c 0", 0), ("c 15", 15), ("c 16", 16)] {
+        try_with(rt, name, desk, buffer, |d| d.parts.tally = c)?;
+    }
+    Ok(())
 }

@@ -1,12 +1,11 @@
 // The clauses on radios, memo and entries together.
-use desk::Desk;
-use show_made::damage::{
-    try_desk, try_line, try_line_7, try_line_10, try_marks, try_memo, try_waiting,
-};
+use super::try_with;
+use desk::{Desk, Line, Report};
 use show_made::small;
 use std::io;
+use terms::Place;
 
-pub fn show_radios(rt: &impl Print, desk: Desk, buffer: &[u8]) -> io::Result<()> {
+pub fn show_radios(rt: &impl Print, desk: &Desk, buffer: &[u8]) -> io::Result<()> {
     show_on(rt, desk, buffer)?;
     show_off(rt, desk, buffer)?;
     show_memo(rt, desk, buffer)?;
@@ -14,82 +13,70 @@ pub fn show_radios(rt: &impl Print, desk: Desk, buffer: &[u8]) -> io::Result<()>
 }
 
 // "Each radio on has one entry that isn't stale or a waiting report marked new, and not both."
-fn show_on(rt: &impl Print, desk: Desk, buffer: &[u8]) -> io::Result<()> {
-    let mut waiting = small::waiting_of(desk);
-    waiting.rows[1] = small::report(0, 0, 0, 0);
-    waiting.n = 1;
-    try_waiting(rt, b"radio on with neither", desk, buffer, waiting)?;
-    try_marks(rt, b"radio on with both", desk, buffer, 1, 1)?;
-    let old = small::memo_of(desk);
-    let mut memo = small::with_line(old, 1, small::line(0, 0, 0, 0, 0));
-    memo.n = 1;
-    try_memo(rt, b"radio on with two entries", desk, buffer, memo)
+fn show_on(rt: &impl Print, desk: &Desk, buffer: &[u8]) -> io::Result<()> {
+    try_with(rt, "radio on with neither", desk, buffer, |d| {
+        desk::put_report(&mut d.waiting, 1, small::report(0, 0, 0, 0));
+        d.parts.waiting = 1;
+    })?;
+    try_with(rt, "radio on with both", desk, buffer, |d| {
+        let report = desk::report_at(&d.waiting, 0);
+        desk::put_report(&mut d.waiting, 0, Report { new: 1, ..report });
+    })?;
+    try_with(rt, "radio on with two entries", desk, buffer, |d| {
+        d.memo[1] = Line::UNUSED;
+        d.parts.lines = 1;
+    })
 }
 
 // "A radio off has neither."
-fn show_off(rt: &impl Print, desk: Desk, buffer: &[u8]) -> io::Result<()> {
-    let mut on = small::on_of(desk);
-    on.radios[35] = 0;
-    on.n = 35;
-    try_desk(
-        rt,
-        b"radio off with a new report",
-        small::with_on(desk, on),
-        buffer,
-    )?;
-    on.radios[34] = 400;
-    try_desk(
-        rt,
-        b"radio off with an entry",
-        small::with_on(desk, on),
-        buffer,
-    )
+fn show_off(rt: &impl Print, desk: &Desk, buffer: &[u8]) -> io::Result<()> {
+    let mut off = *desk;
+    off.on[35] = 0;
+    off.parts.on = 35;
+    try_with(rt, "radio off with a new report", &off, buffer, |d| {})?;
+    try_with(rt, "radio off with an entry", &off, buffer, |d| {
+        d.on[34] = 400;
+    })
 }
 
 // "Memo lines by rising radio"; marked 1 or 0, and the place zero where there is none
-fn show_memo(rt: &impl Print, desk: Desk, buffer: &[u8]) -> io::Result<()> {
-    let falling = small::two_lines(small::line_10(), small::line_7());
-    try_memo(rt, b"lines falling", desk, buffer, falling)?;
-    try_line(rt, b"two lines of a radio", desk, buffer, small::line_7())?;
-    try_line_10(rt, b"line marked 2", desk, buffer, 1, 2, 100, 200)?;
-    try_line_7(rt, b"line of none with a place", desk, buffer, 1, 1)
+fn show_memo(rt: &impl Print, desk: &Desk, buffer: &[u8]) -> io::Result<()> {
+    try_with(rt, "lines falling", desk, buffer, |d| d.memo.swap(0, 1))?;
+    try_with(rt, "two lines of a radio", desk, buffer, |d| {
+        add_line(d, small::line_7());
+    })?;
+    try_with(rt, "line marked 2", desk, buffer, |d| d.memo[1].placed = 2)?;
+    try_with(rt, "line of none with a place", desk, buffer, |d| {
+        d.memo[0].north = 1;
+    })
 }
 
 // "missed counts of 1 or more equal to that radio's stale entries, an entry being judged by the line's place"
-fn show_missed(rt: &impl Print, desk: Desk, buffer: &[u8]) -> io::Result<()> {
-    try_line(
-        rt,
-        b"missed count 0",
-        desk,
-        buffer,
-        small::line(5, 0, 1, 40000, 5),
-    )?;
-    try_line(
-        rt,
-        b"missed count 1, none stale",
-        desk,
-        buffer,
-        small::line(5, 1, 1, 40000, 5),
-    )?;
-    try_line_10(
-        rt,
-        b"missed count 2, one stale",
-        desk,
-        buffer,
-        2,
-        1,
-        100,
-        200,
-    )?;
-    try_line_10(rt, b"line with another place", desk, buffer, 1, 1, 100, 201)?;
-    try_line_10(
-        rt,
-        b"line with the place of the other entry",
-        desk,
-        buffer,
-        1,
-        1,
-        40000,
-        10,
-    )
+fn show_missed(rt: &impl Print, desk: &Desk, buffer: &[u8]) -> io::Result<()> {
+    for (name, missed) in [("missed count 0", 0), ("missed count 1, none stale", 1)] {
+        try_with(rt, name, desk, buffer, |d| {
+            add_line(d, Line::new(5, missed, place(40000, 5)));
+        })?;
+    }
+    for (name, missed, east, north) in [
+        ("missed count 2, one stale", 2, 100, 200),
+        ("line with another place", 1, 100, 201),
+        ("line with the place of the other entry", 1, 40000, 10),
+    ] {
+        try_with(rt, name, desk, buffer, |d| {
+            d.memo[1] = Line::new(10, missed, place(east, north));
+        })?;
+    }
+    Ok(())
+}
+
+fn place(east: u16, north: u16) -> Option<Place> {
+    Some(Place { east, north })
+}
+
+// With a line more, before the two.
+fn add_line(desk: &mut Desk, line: Line) {
+    desk.memo.copy_within(0..2, 1);
+    desk.memo[0] = line;
+    desk.parts.lines = 3;
 }

@@ -4,83 +4,65 @@ ghost use Rattle.terms.specs.Terms.{pages};
 ghost use Rattle.page.specs.Buffer.{buffer_bytes};
 
 use desk::Desk;
-use page::PAGE_BYTES;
+use page::{HEAD_BYTES, PAGE_BYTES};
 use show_made::damage::say_count;
-use show_made::small;
+use show_made::small::{LOW_FIRST, LOW_FURTHER};
 use std::io;
 
-fn flip(buffer: &mut [u8], at: usize, bit: u8)
+// Whether the store is still taken for sound with the bits of the byte at `at` flipped.
+fn taken_with(desk: &Desk, buffer: &mut [u8], at: usize, bits: u8) -> bool
     requires { at < length buffer.old }
-    ensures { length buffer.new ≡ length buffer.old }
 {
-    let was = buffer[at];
-    buffer[at] = was ^ bit;
-}
-
-// 1 if the store is still taken for sound with the bit flipped, else 0.
-fn try_flip(desk: Desk, buffer: &mut [u8], at: usize, bit: u8) -> usize
-    requires { at < length buffer.old }
-    ensures { (length buffer.new ≡ length buffer.old) × (result ≤ 1) }
-{
-    flip(buffer, at, bit);
+    buffer[at] ^= bits;
     let good = sound::sound(desk, buffer);
-    flip(buffer, at, bit);
-    if good { 1 } else { 0 }
+    buffer[at] ^= bits;
+    good
 }
 
-// The next bit, after the last the first again.
-fn turned(bit: u8) -> u8 {
-    if bit < 128 { bit * 2 } else { 1 }
-}
-
-// How many of the 8 flips in the byte at `at` are.
-fn flips_at(desk: Desk, buffer: &mut [u8], at: usize) -> usize
-    requires { (length buffer.old ≡ buffer_bytes) × (at < buffer_bytes) }
-    ensures { (length buffer.new ≡ buffer_bytes) × (result ≤ 8) }
-{
-    let mut taken: usize = 0;
-    let mut bit: u8 = 1;
-    let mut i: usize = 0;
-    while i < 8 {
-        taken = taken + try_flip(desk, buffer, at, bit);
-        bit = turned(bit);
-        i += 1;
-    }
-    taken
-}
-
-// How many of the 64 in the header of page p.
-fn flips_of(desk: Desk, buffer: &mut [u8], p: usize) -> usize
+// How many of the 64 flips in the header of page p are.
+fn flips_of(desk: &Desk, buffer: &mut [u8], p: usize) -> usize
     requires { (length buffer.old ≡ buffer_bytes) × (p < pages) }
-    ensures { (length buffer.new ≡ buffer_bytes) × (result ≤ 64) }
+    ensures { result ≤ 64 }
 {
-    let mut taken: usize = 0;
-    let mut i: usize = 0;
-    while i < page::HEAD_BYTES {
-        taken = taken + flips_at(desk, buffer, PAGE_BYTES * p + i);
-        i += 1;
+    let mut taken = 0;
+    for i in 0..8 * HEAD_BYTES {
+        if taken_with(desk, buffer, PAGE_BYTES * p + i / 8, 1 << (i % 8)) {
+            taken += 1;
+        }
     }
     taken
+}
+
+fn show_page(
+    rt: &impl Print,
+    name: &str,
+    desk: &Desk,
+    buffer: &mut [u8],
+    p: usize,
+) -> io::Result<()>
+    requires { (length buffer.old ≡ buffer_bytes) × (p < pages) }
+{
+    say_count(rt, name.as_bytes(), flips_of(desk, buffer, p))
 }
 
 // None is: the used bytes follow from the entries, for every entry has a radio and the bytes past them are zero; kind and cell follow from the chain; and with
 // another next page some page is in no chain or in two.
-pub fn show_flips(rt: &impl Print, desk: Desk, buffer: &mut [u8]) -> io::Result<()>
+pub fn show_flips(rt: &impl Print, desk: &Desk, buffer: &mut [u8]) -> io::Result<()>
     requires { length buffer.old ≡ buffer_bytes }
 {
-    say_count(
+    show_page(
         rt,
-        b"flips of a first page's header",
-        flips_of(desk, buffer, small::LOW_FIRST),
+        "flips of a first page's header",
+        desk,
+        buffer,
+        LOW_FIRST,
     )?;
-    say_count(
+    show_page(
         rt,
-        b"flips of a further page's header",
-        flips_of(desk, buffer, small::LOW_FURTHER),
+        "flips of a further page's header",
+        desk,
+        buffer,
+        LOW_FURTHER,
     )?;
-    say_count(
-        rt,
-        b"flips of a free page's header",
-        flips_of(desk, buffer, 64),
-    )
+    show_page(rt, "flips of a free page's header", desk, buffer, 64)
 }

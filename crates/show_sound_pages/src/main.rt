@@ -12,7 +12,7 @@ fn main(rt: HostRuntime) -> io::Result<()> {
     let mut buffer = [0u8; BUFFER_BYTES];
     small::write_pages(&mut buffer);
     let desk = small::small_desk();
-    damage::try_desk(&rt, b"as built", desk, &buffer)?;
-    page_clauses::show_pages(&rt, desk, &mut buffer)?;
-    flips::show_flips(&rt, desk, &mut buffer)
+    damage::try_desk(&rt, b"as built", &desk, &buffer)?;
+    page_clauses::show_pages(&rt, &desk, &mut buffer)?;
+    flips::show_flips(&rt, &desk, &mut buffer)
 }

@@ -1,11 +1,10 @@
 -- What the three tests come to, one after the other: the contract of the whole.
-use mathlib.Core.Bool.{Bool, true, false, not}
+use mathlib.Core.Bool.{Bool, true, false}
 use mathlib.Core.List.{List}
 use mathlib.Core.Path.{◌≡◌, sym, ap, ◌∙◌}
 use Prim.Native.Nat.{ℕ}
 use Rattle.lists.specs.Rows.{Rows}
 use Rattle.lists.proofs.Cases.{false-true}
-use Rattle.lists.proofs.TestsLaws.{not-true, not-false}
 use Rattle.desk.specs.Held.{Ledger, ledger_grid, desk_with, desk_ledger}
 use Rattle.desk.specs.declared.Desk.{Desk}
 use Rattle.desk.specs.Layout.{watches_of, desk_of}
@@ -24,44 +23,44 @@ use Rattle.sound_radios.proofs.ReadLaws.{rows_read_lem}
 use Rattle.sound.proofs.StoreLaws.{radios_sound, sound_radios, sound_desk}
 
 -- a test that is false where sound desks pass
-unsound : (d : Ledger) (b : List ℕ) (r : Bool) → not r ≡ true → (SoundLedger d b → r ≡ true) → (false ≡ true → SoundLedger d b) × (SoundLedger d b → false ≡ true)
-unsound d b r f h = (λ e. false-true e, λ y. sym (not-true r f) ∙ h y)
+unsound : (d : Ledger) (b : List ℕ) (r : Bool) → r ≡ false → (SoundLedger d b → r ≡ true) → (false ≡ true → SoundLedger d b) × (SoundLedger d b → false ≡ true)
+unsound d b r f h = (λ e. false-true e, λ y. sym f ∙ h y)
 
-pub desk_passed : {a : Bool} (d : Ledger) → a ≡ desk_sound d → not a ≡ false → desk_sound d ≡ true
-desk_passed {a} d e f = sym e ∙ not-false a f
+pub desk_passed : {a : Bool} (d : Ledger) → a ≡ desk_sound d → a ≡ true → desk_sound d ≡ true
+desk_passed {a} d e f = sym e ∙ f
 
 module _ (d : Ledger) (b : List ℕ) where
-  pub desk_unsound : {a : Bool} → a ≡ desk_sound d → not a ≡ true → (false ≡ true → SoundLedger d b) × (SoundLedger d b → false ≡ true)
+  pub desk_unsound : {a : Bool} → a ≡ desk_sound d → a ≡ false → (false ≡ true → SoundLedger d b) × (SoundLedger d b → false ≡ true)
   desk_unsound {a} e f = unsound d b a f (λ y. e ∙ sound_desk d b y)
 
   module _ {p : Bool} (says : (p ≡ true → PagesSound d.parts.highest b (ledger_grid d).cells (ledger_grid d).free) × (PagesSound d.parts.highest b (ledger_grid d).cells (ledger_grid d).free → p ≡ true)) where
-    pub pages_unsound : not p ≡ true → (false ≡ true → SoundLedger d b) × (SoundLedger d b → false ≡ true)
+    pub pages_unsound : p ≡ false → (false ≡ true → SoundLedger d b) × (SoundLedger d b → false ≡ true)
     pages_unsound f = unsound d b p f (λ y. says.1 (desk_pages d b y))
 
-    module _ (passed : not p ≡ false) where
+    module _ (passed : p ≡ true) where
       -- what the radios' test may rely on
       pub pages_passed : PagesSound d.parts.highest b (ledger_grid d).cells (ledger_grid d).free
-      pages_passed = says.0 (not-false p passed)
+      pages_passed = says.0 passed
 
       -- the pages' entries are those of the cells
-      pub radios_say : {a r : Bool} → Shaped d → a ≡ desk_sound d → not a ≡ false
+      pub radios_say : {a r : Bool} → Shaped d → a ≡ desk_sound d → a ≡ true
           → r ≡ entries_test (shown d).memo (shown d).waiting (shown d).on d.parts.tally (rows_read b (ledger_grid d).cells)
           → (r ≡ true → SoundLedger d b) × (SoundLedger d b → r ≡ true)
       radios_say {a} shape e f q =
-          let desk = sym e ∙ not-false a f in
+          let desk = sym e ∙ f in
           let rows = q ∙ ap (λ (l : List (Rows Fix)). entries_test (shown d).memo (shown d).waiting (shown d).on d.parts.tally l) (rows_read_lem pages_passed) in
           (λ t. radios_sound d b shape desk pages_passed (sym rows ∙ t), λ y. rows ∙ sound_radios d b shape desk pages_passed y)
 
 -- ---- the watches beside the ledger
 
 -- the ledger's test passed
-pub ledger_passed : {l : Ledger} {b : List ℕ} (t : Bool) → (t ≡ true → SoundLedger l b) → not t ≡ false → SoundLedger l b
-ledger_passed t f e = f (not-false t e)
+pub ledger_passed : {l : Ledger} {b : List ℕ} (t : Bool) → (t ≡ true → SoundLedger l b) → t ≡ true → SoundLedger l b
+ledger_passed t f e = f e
 
 module _ (d : Desk) (b : List ℕ) where
   -- a ledger that is not sound
-  pub ledger_unsound : {a : Bool} → (SoundLedger (desk_ledger d) b → a ≡ true) → not a ≡ true → (false ≡ true → Sound d b) × (Sound d b → false ≡ true)
-  ledger_unsound {a} h f = (λ e. false-true e, λ y. sym (not-true a f) ∙ h (Sound_ledger y))
+  pub ledger_unsound : {a : Bool} → (SoundLedger (desk_ledger d) b → a ≡ true) → a ≡ false → (false ≡ true → Sound d b) × (Sound d b → false ≡ true)
+  ledger_unsound {a} h f = (λ e. false-true e, λ y. sym f ∙ h (Sound_ledger y))
 
   -- a sound one: all is in the watches
   module _ (s : SoundLedger (desk_ledger d) b) where

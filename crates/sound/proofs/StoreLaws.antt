@@ -12,8 +12,7 @@ use Rattle.rules.specs.Limits.{max_cells}
 use Rattle.rules.specs.Store.{Cell, Store}
 use Rattle.rules.specs.WellFormed.{chains, PagesOnce}
 use Rattle.desk.specs.Held.{Ledger, ledger_grid}
-use Rattle.desk.specs.Layout.{slotted, cut_list_of, slot_of, no_slot, slot_words, directory_of, grid_of, waiting_of, memo_of, on_of, ledger_holding, ledger_of}
-use Rattle.desk.specs.Views.{every_slot}
+use Rattle.desk.specs.Layout.{slotted, cut_list_of, slot_of, no_slot, directory_of, grid_of, waiting_of, memo_of, on_of, ledger_holding, ledger_of}
 use Rattle.desk.specs.Sound.{SoundLedger}
 use Rattle.desk.proofs.ReadLaws.{Paged}
 use Rattle.desk.proofs.UniqueLaws.{take_slots, same_store}
@@ -105,7 +104,7 @@ module _ (d : Ledger) (b : List ℕ) (shape : Shaped d) (desk : desk_sound d ≡
   unfolding ledger_of grid_of
   whole_slots =
       sym (take_slots (shown d).cells)
-      ∙ sym (ap (λ (y : Ledger). take (ledger_grid y).cells.n (every_slot (ledger_grid y).cells.words)) (desk_shown d shape desk))
+      ∙ sym (ap (λ (y : Ledger). take (ledger_grid y).cells.n ((ledger_grid y).cells.slots)) (desk_shown d shape desk))
       ∙ x.shown
 
   whole_count : length (shown d).cells ≡ length x.cells
@@ -123,7 +122,7 @@ module _ (d : Ledger) (b : List ℕ) (shape : Shaped d) (desk : desk_sound d ≡
       (record {
         easts = cut_list_of (shown d).cuts.easts;
         norths = cut_list_of (shown d).cuts.norths;
-        cells = record { n = n i; words = slot_words (slotted max_cells no_slot (l i)) };
+        cells = record { n = n i; slots = slotted max_cells no_slot (l i) };
         free = f i;
       })
       (waiting_of (shown d).waiting) (memo_of (shown d).memo) (on_of (shown d).on) (shown d).tally (shown d).highest)

@@ -10,8 +10,8 @@ use Rattle.rules.specs.Store.{Report as StoreReport}
 use Rattle.desk.specs.Held.{Memo, On, Waiting}
 use Rattle.desk.specs.declared.Report.{Report}
 use Rattle.desk.specs.declared.Line.{Line}
-use Rattle.desk.specs.Layout.{report_fields, no_report, line_slots, line_fields, no_line}
-use Rattle.desk.specs.Views.{every_report, lines_in, radio_row, radios_of}
+use Rattle.desk.specs.Layout.{report_fields, no_report, line_slots, no_line}
+use Rattle.desk.specs.Views.{every_report, radio_row, radios_of}
 use Rattle.memo.specs.Memo.{lines_of}
 use Rattle.memo_index.proofs.IndexLaws.{lines_none, line_next}
 use Rattle.lists.proofs.SlotsLaws.{all-nil}
@@ -120,6 +120,6 @@ module _ (m : Memo) {t₀ : List ℕ} {i : ℕ} {t : List ℕ} (a : Adding misse
   pub missed_end : m.n ≤ i → t ≡ added missed_off t₀ (lines_of m)
   missed_end h = Adding_end a (lines_none m h)
 
-  pub missed_turn : length m.words ≡ line_fields * line_slots → m.n ≤ line_slots → i < m.n → {line : Line} → line ≡ get_or (lines_in m.words) i no_line → {k p v : ℕ} → k ≡ line.radio
+  pub missed_turn : length m.lines ≡ line_slots → m.n ≤ line_slots → i < m.n → {line : Line} → line ≡ get_or m.lines i no_line → {k p v : ℕ} → k ≡ line.radio
       → p ≡ (field_end - half * min line.missed (half - 1)) % field_end → v ≡ (get_or t k 0 + p) % field_end → Adding missed_off t₀ (lines_of m) (i + 1) (set t k v)
   missed_turn size few more read {k} at q w = Adding_turn a (line_next m size few more read) at (w ∙ ap (λ (n : ℕ). (get_or t k 0 + n) % field_end) q)

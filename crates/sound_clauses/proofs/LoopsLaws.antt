@@ -2,7 +2,7 @@
 use mathlib.Core.Path.{◌≡◌, refl, sym, ap, ap₂, ◌∙◌}
 use mathlib.Core.Bool.{Bool, true, false, not}
 use mathlib.Core.List.{List, [], ◌∷◌, ◌++◌, map}
-use mathlib.Core.Option.{Option, none, some}
+use Rattle.std.specs.Prelude.{Option, None, Some}
 use Prim.Native.Nat.{ℕ, zero, suc, ◌+◌, ◌≤◌, ◌<◌}
 use native.Mathlib.Omega.{arith}
 use native.Mathlib.Nat.{not-suc-le-zero}
@@ -247,12 +247,12 @@ module _ {Val : Type 0} where
       )
     where
       nothing : (o : Option Val) → count_found (λ _ _. 0) r o ≡ 0
-      nothing none = refl
-      nothing (some v) = refl
+      nothing None = refl
+      nothing (Some v) = refl
 
       here : (o : Option Val) → count_found (λ k v. one_if (both (eqb r k) (t (record { key = k; val = v })))) r o ≡ count_found (λ k v. one_if (t (record { key = k; val = v }))) r o
-      here none = refl
-      here (some v) = both_one r (t (record { key = r; val = v }))
+      here None = refl
+      here (Some v) = both_one r (t (record { key = r; val = v }))
 
   -- a key past the last
   pub passing_beyond : (t : Row Val → Bool) (n r : ℕ) (l : Rows Val) → UpTo n l → n < r → passing t r l ≡ 0

@@ -2,7 +2,7 @@
 use mathlib.Core.Path.{◌≡◌, refl, sym, ap, ap₂, ◌∙◌}
 use mathlib.Core.Bool.{Bool, true, false, not, cond}
 use mathlib.Core.List.{List}
-use mathlib.Core.Option.{Option, none, some}
+use Rattle.std.specs.Prelude.{Option, None, Some}
 use Prim.Native.Nat.{ℕ, suc, ◌+◌, ◌≤◌, ◌<◌}
 use native.Mathlib.Omega.{arith}
 use lib.Dec.{eqb, leb, ltb}
@@ -52,8 +52,8 @@ passing_cell : (t : Row Fix → Bool) (g : Fix → Bool) (r : ℕ) (es : Rows Fi
 passing_cell t g r es h a = same (find es r) ∙ sym (passing_found t 0 r es a)
   where
     same : (o : Option Fix) → count_if g o ≡ count_found (λ k v. one_if (t (record { key = k; val = v }))) r o
-    same none = refl
-    same (some f) = ap one_if (sym (h f))
+    same None = refl
+    same (Some f) = ap one_if (sym (h f))
 
 -- of all
 passing_cells : (t : Row Fix → Bool) (g : Fix → Bool) (r : ℕ) (cells : List Cell) → ((f : Fix) → t (record { key = r; val = f }) ≡ g f) → RowsRise cells
@@ -70,7 +70,7 @@ unfolding live_of live_at
 live_cells memo r cells a = passing_cells (λ e. not (stale memo e)) (λ f. not (stale_by (find memo r) f)) r cells (λ f. refl) a
 
 -- stale entries of a radio with a line, judged by the line's place
-pub stale_cells : (memo : Rows Line) (r : ℕ) (l : Line) (cells : List Cell) → find memo r ≡ some l → RowsRise cells → stale_of l.last r cells ≡ stale_at memo r (concat (rows_of cells))
+pub stale_cells : (memo : Rows Line) (r : ℕ) (l : Line) (cells : List Cell) → find memo r ≡ Some l → RowsRise cells → stale_of l.last r cells ≡ stale_at memo r (concat (rows_of cells))
 unfolding stale_of stale_at
 stale_cells memo r l cells e a = passing_cells (stale memo) (λ f. not (is_at l.last f.place)) r cells (λ f. ap (λ (o : Option Line). stale_by o f) e) a
 
@@ -84,16 +84,16 @@ unfolding new_at
 new_found r ws a = passing_found (λ w. w.val.new) 0 r ws a ∙ same (find ws r)
   where
     same : (o : Option Report) → count_found (λ _ w. one_if w.new) r o ≡ one_if (was_new o)
-    same none = refl
-    same (some w) = refl
+    same None = refl
+    same (Some w) = refl
 
 pub on_found : (r : ℕ) (on : Rows (Unit {0})) → Rising 0 on → on_at r on ≡ one_if (is_some (find on r))
 unfolding on_at
 on_found r on a = passing_found (λ _. true) 0 r on a ∙ same (find on r)
   where
     same : (o : Option (Unit {0})) → count_found (λ _ _. 1) r o ≡ one_if (is_some o)
-    same none = refl
-    same (some u) = refl
+    same None = refl
+    same (Some u) = refl
 
 pub on_some : (r : ℕ) (on : Rows (Unit {0})) → ltb 0 (on_at r on) ≡ is_some (find on r)
 unfolding on_at
@@ -140,13 +140,13 @@ module _ (memo : Rows Line) (cells : List Cell) (ws : Rows Report) (on : Rows (U
 abbrev Belongs : Rows (Unit {0}) → ℕ → Report → Type 0
 Belongs on r w = w.new ≡ false → is_some (find on r) ≡ true
 
-pub unmarked_true : (ws : Rows Report) (on : Rows (Unit {0})) → unmarked_test ws on ≡ true → (r : ℕ) (w : Report) → find ws r ≡ some w → w.new ≡ false → is_some (find on r) ≡ true
+pub unmarked_true : (ws : Rows Report) (on : Rows (Unit {0})) → unmarked_test ws on ≡ true → (r : ℕ) (w : Report) → find ws r ≡ Some w → w.new ≡ false → is_some (find on r) ≡ true
 unfolding unmarked_test
 unmarked_true ws on e r w =
     Each-find (Belongs on) r w ws (all-Each (λ x. either x.val.new (ltb 0 (on_at x.key on))) (λ x. Belongs on x.key x.val) ws
     (λ x t u. either_cases x.val.new (ltb 0 (on_at x.key on)) t (λ v. cc) (λ v. sym (on_some x.key on) ∙ v)) e)
 
-pub true_unmarked : (ws : Rows Report) (on : Rows (Unit {0})) → Rising 0 ws → ((r : ℕ) (w : Report) → find ws r ≡ some w → w.new ≡ false → is_some (find on r) ≡ true) → unmarked_test ws on ≡ true
+pub true_unmarked : (ws : Rows Report) (on : Rows (Unit {0})) → Rising 0 ws → ((r : ℕ) (w : Report) → find ws r ≡ Some w → w.new ≡ false → is_some (find on r) ≡ true) → unmarked_test ws on ≡ true
 unfolding unmarked_test
 true_unmarked ws on a h =
     Each-all (λ x. either x.val.new (ltb 0 (on_at x.key on))) (λ x. Belongs on x.key x.val) ws
@@ -166,12 +166,12 @@ unfolding memo_test
 true_memo memo r u = rows_rise max_radio 0 memo r u
 
 pub last_true : (o : Option Place) → last_test o ≡ true → InSquareIf o
-last_true none e = tt
-last_true (some p) e = place_true p e
+last_true None e = tt
+last_true (Some p) e = place_true p e
 
 pub true_last : (o : Option Place) → InSquareIf o → last_test o ≡ true
-true_last none h = refl
-true_last (some p) h = true_place p h
+true_last None h = refl
+true_last (Some p) h = true_place p h
 
 -- a line of the radio, against all entries
 abbrev Counted : Rows Line → Rows Fix → ℕ → Line → Type 0
@@ -188,12 +188,12 @@ true_line : (memo : Rows Line) (es : Rows Fix) (x : Row Line) → Counted memo e
 unfolding line_test
 true_line memo es x c = both_intro (lt-ltb 0 x.val.missed c.0) (eq-eqb (stale_at memo x.key es) x.val.missed c.1)
 
-line_found : (memo : Rows Line) (es : Rows Fix) → lines_test memo es ≡ true → (r : ℕ) (l : Line) → find memo r ≡ some l → Counted memo es r l
+line_found : (memo : Rows Line) (es : Rows Fix) → lines_test memo es ≡ true → (r : ℕ) (l : Line) → find memo r ≡ Some l → Counted memo es r l
 unfolding lines_test
 line_found memo es e r l = Each-find (Counted memo es) r l memo (all-Each (line_test memo es) (λ x. Counted memo es x.key x.val) memo (line_true memo es) e)
 
 module _ (memo : Rows Line) (cells : List Cell) (rows : RowsRise cells) where
-  pub lines_true : lines_test memo (concat (rows_of cells)) ≡ true → lasts_test memo ≡ true → (r : ℕ) (l : Line) → find memo r ≡ some l → GoodLine cells r l
+  pub lines_true : lines_test memo (concat (rows_of cells)) ≡ true → lasts_test memo ≡ true → (r : ℕ) (l : Line) → find memo r ≡ Some l → GoodLine cells r l
   unfolding lasts_test
   lines_true e f r l g =
       let c = line_found memo (concat (rows_of cells)) e r l g in
@@ -203,7 +203,7 @@ module _ (memo : Rows Line) (cells : List Cell) (rows : RowsRise cells) where
         placed = Each-find (λ _ k. InSquareIf k.last) r l memo (all-Each (λ x. last_test x.val.last) (λ x. InSquareIf x.val.last) memo (λ x t. last_true x.val.last t) f) g;
       }
 
-  module _ (rise : Rising 0 memo) (h : (r : ℕ) (l : Line) → find memo r ≡ some l → GoodLine cells r l) where
+  module _ (rise : Rising 0 memo) (h : (r : ℕ) (l : Line) → find memo r ≡ Some l → GoodLine cells r l) where
     pub true_lines : lines_test memo (concat (rows_of cells)) ≡ true
     unfolding lines_test
     true_lines =
@@ -234,15 +234,15 @@ missed_found r b memo a =
     other x h = rw (ne_eqb r x.key h)
 
     nothing : (o : Option Line) → count_found (λ _ _. 0) r o ≡ 0
-    nothing none = refl
-    nothing (some l) = refl
+    nothing None = refl
+    nothing (Some l) = refl
 
     here : (o : Option Line) → count_found (λ k l. cond (eqb r k) l.missed 0) r o ≡ count_found (λ _ l. l.missed) r o
-    here none = refl
-    here (some l) = rw (eq-eqb r r refl)
+    here None = refl
+    here (Some l) = rw (eq-eqb r r refl)
 
 -- without a line nothing is stale
-stale_none : (memo : Rows Line) (r : ℕ) (es : Rows Fix) → find memo r ≡ none → stale_at memo r es ≡ 0
+stale_none : (memo : Rows Line) (r : ℕ) (es : Rows Fix) → find memo r ≡ None → stale_at memo r es ≡ 0
 unfolding stale_at passing both
 stale_none memo r es e =
     sum_zero (λ x. one_if (both (eqb r x.key) (stale memo x))) es

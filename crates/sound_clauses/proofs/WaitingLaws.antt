@@ -1,7 +1,7 @@
 -- The tests of the waiting reports say just the clauses: every place's memory cell is among those that the test goes through.
 use mathlib.Core.Path.{◌≡◌, subst}
 use mathlib.Core.Bool.{true}
-use mathlib.Core.Option.{some}
+use Rattle.std.specs.Prelude.{Some}
 use Prim.Native.Nat.{ℕ, ◌≤◌, ◌<◌}
 use native.Mathlib.Omega.{arith}
 use lib.Dec.{leb, ltb}
@@ -37,12 +37,12 @@ true_waiting ws h r u = both_intro (lt-ltb (length ws) full_memory h) (rows_rise
 
 -- ---- places
 
-pub places_true : (ws : Rows Report) → places_test ws ≡ true → (r : ℕ) (w : Report) → find ws r ≡ some w → InSquare w.fix.place
+pub places_true : (ws : Rows Report) → places_test ws ≡ true → (r : ℕ) (w : Report) → find ws r ≡ Some w → InSquare w.fix.place
 unfolding places_test
 places_true ws e r w =
     Each-find (λ _ v. InSquare v.fix.place) r w ws (all-Each (λ x. place_test x.val.fix.place) (λ x. InSquare x.val.fix.place) ws (λ x t. place_true x.val.fix.place t) e)
 
-pub true_places : (ws : Rows Report) → Rising 0 ws → ((r : ℕ) (w : Report) → find ws r ≡ some w → InSquare w.fix.place) → places_test ws ≡ true
+pub true_places : (ws : Rows Report) → Rising 0 ws → ((r : ℕ) (w : Report) → find ws r ≡ Some w → InSquare w.fix.place) → places_test ws ≡ true
 unfolding places_test
 true_places ws a h =
     Each-all (λ x. place_test x.val.fix.place) (λ x. InSquare x.val.fix.place) ws (λ x s. true_place x.val.fix.place s) (find-Each (λ _ v. InSquare v.fix.place) 0 ws a h)

@@ -1,6 +1,5 @@
 -- Tests of the radios: who is on, entries against memo and marks (01, "A sound store").
-use Rattle.std.specs.Prelude.{Bool, true, not, cond, ℕ, suc, ◌+◌, eqb, leb, ltb, length}
-use Rattle.std.proofs.Math.Option.{Option, none, some}
+use Rattle.std.specs.Prelude.{Bool, true, not, cond, ℕ, suc, ◌+◌, eqb, leb, ltb, length, Option, None, Some}
 use Rattle.terms.specs.Terms.{Place, Fix, max_radio, max_on}
 use Rattle.lists.specs.Rows.{Row, Rows}
 use Rattle.lists.specs.Sums.{sum_by}
@@ -54,8 +53,8 @@ lines_test memo es = all (line_test memo es) memo
 
 -- a line's place is a place, or "none"
 abbrev pub last_test : Option Place → Bool
-last_test none = true
-last_test (some p) = place_test p
+last_test None = true
+last_test (Some p) = place_test p
 
 unfoldable pub lasts_test : Rows Line → Bool
 lasts_test memo = all (λ l. last_test l.val.last) memo

@@ -1,7 +1,7 @@
 -- The test of the whole desk: what its parts' tests come to, and the theorem: it passes exactly if the desk is that of the store it shows and the mirror's tests
 -- that look at the desk alone hold of that store.
 use mathlib.Core.Path.{◌≡◌, refl, sym, ap, ap₂, ◌∙◌, transport}
-use mathlib.Core.Bool.{Bool, true, false, not}
+use mathlib.Core.Bool.{Bool, true, false}
 use mathlib.Core.List.{List, map}
 use Prim.Native.Nat.{ℕ, ◌-◌, ◌≤◌}
 use native.Mathlib.Omega.{arith}
@@ -10,15 +10,14 @@ use lib.ListN.{length, length-map}
 use borrow.Author.Tests.{le-leb, leb-true}
 use Rattle.lists.specs.Sums.{concat}
 use Rattle.lists.specs.Tests.{both, all}
-use Rattle.lists.proofs.TestsLaws.{both_left, both_right, both_intro, not-false}
+use Rattle.lists.proofs.TestsLaws.{both_left, both_right, both_intro}
 use Rattle.rules.specs.Limits.{max_cells, full_memory, sweep_every}
 use Rattle.rules.specs.Grid.{Cuts, Rect}
 use Rattle.rules.specs.Store.{Store, Cell}
 use Rattle.desk.specs.declared.CutList.{CutList}
 use Rattle.desk.specs.declared.Slot.{Slot}
-use Rattle.desk.specs.Held.{Directory, Memo, On, Waiting, ledger_grid, ledger_waiting, ledger_memo, ledger_on, waiting_with}
-use Rattle.desk.specs.Held.{Ledger}
-use Rattle.desk.specs.Layout.{line_slots, slotted, cut_list_of, slot_of, no_slot, slot_words, directory_of, grid_of, ledger_holding, ledger_of}
+use Rattle.desk.specs.Held.{Directory, Memo, On, Waiting, ledger_grid, ledger_waiting, ledger_memo, ledger_on, waiting_with, Ledger}
+use Rattle.desk.specs.Layout.{line_slots, slotted, cut_list_of, slot_of, no_slot, directory_of, grid_of, ledger_holding, ledger_of}
 use Rattle.desk.specs.Views.{every_report, cuts_by, slots_in, directory_with, edges_of as rect_of}
 use Rattle.desk.proofs.UniqueLaws.{same_cuts, same_slots, same_waiting, same_memo, same_on, same_tally}
 use Rattle.sound_clauses.specs.Grid.{edges_test, tile_test}
@@ -44,46 +43,46 @@ use Rattle.sound_desk.proofs.WholeLaws.{on_whole, whole_on, waiting_whole, whole
 
 -- ---- what a part that has passed gives to the tests after it
 
-pub waiting_room : {a : Bool} (highest n : ℕ) (words : List ℕ) → a ≡ waiting_sound highest (waiting_with n words) → not a ≡ false → n ≤ full_memory
+pub waiting_room : {a : Bool} (highest n : ℕ) (words : List ℕ) → a ≡ waiting_sound highest (waiting_with n words) → a ≡ true → n ≤ full_memory
 unfolding waiting_sound
 waiting_room {a} highest n words e f =
-    let h = slots_count report_weight (full_memory - 1) n (every_report words) (both_left (slots_test report_weight (full_memory - 1) n (every_report words)) _ (sym e ∙ not-false a f)) in
+    let h = slots_count report_weight (full_memory - 1) n (every_report words) (both_left (slots_test report_weight (full_memory - 1) n (every_report words)) _ (sym e ∙ f)) in
     omega arith
 
 -- ---- waiting reports and radios on
 
 module _ (highest : ℕ) (easts norths : CutList) (w : Waiting) (on : On) {a : Bool} (waits : a ≡ waiting_sound highest w) where
-  pub radios_waiting : not a ≡ true → false ≡ radios_sound highest easts norths w on
+  pub radios_waiting : a ≡ false → false ≡ radios_sound highest easts norths w on
   unfolding radios_sound
   radios_waiting f = stops _ waits f
 
-  module _ (passed : not a ≡ false) {b : Bool} (heard : b ≡ on_sound on) where
-    pub radios_heard : not b ≡ true → false ≡ radios_sound highest easts norths w on
+  module _ (passed : a ≡ true) {b : Bool} (heard : b ≡ on_sound on) where
+    pub radios_heard : b ≡ false → false ≡ radios_sound highest easts norths w on
     unfolding radios_sound
     radios_heard f = goes waits passed (stops _ heard f)
 
-    pub radios_few : {r : Bool} → not b ≡ false → r ≡ few_sound easts norths w → r ≡ radios_sound highest easts norths w on
+    pub radios_few : {r : Bool} → b ≡ true → r ≡ few_sound easts norths w → r ≡ radios_sound highest easts norths w on
     unfolding radios_sound
     radios_few f q = goes waits passed (goes heard f q)
 
 -- ---- the desk
 
 module _ (d : Ledger) {a : Bool} (grid : a ≡ grid_sound (ledger_grid d).easts (ledger_grid d).norths (ledger_grid d).cells) where
-  pub desk_grid : not a ≡ true → false ≡ desk_sound d
+  pub desk_grid : a ≡ false → false ≡ desk_sound d
   unfolding desk_sound
   desk_grid f = stops _ grid f
 
-  module _ (passed : not a ≡ false) {b : Bool} (radios : b ≡ radios_sound d.parts.highest (ledger_grid d).easts (ledger_grid d).norths (ledger_waiting d) (ledger_on d)) where
-    pub desk_radios : not b ≡ true → false ≡ desk_sound d
+  module _ (passed : a ≡ true) {b : Bool} (radios : b ≡ radios_sound d.parts.highest (ledger_grid d).easts (ledger_grid d).norths (ledger_waiting d) (ledger_on d)) where
+    pub desk_radios : b ≡ false → false ≡ desk_sound d
     unfolding desk_sound
     desk_radios f = goes grid passed (stops _ radios f)
 
-    module _ (passed' : not b ≡ false) {k : Bool} (memo : k ≡ memo_sound (ledger_memo d)) where
-      pub desk_memo : not k ≡ true → false ≡ desk_sound d
+    module _ (passed' : b ≡ true) {k : Bool} (memo : k ≡ memo_sound (ledger_memo d)) where
+      pub desk_memo : k ≡ false → false ≡ desk_sound d
       unfolding desk_sound
       desk_memo f = goes grid passed (goes radios passed' (stops _ memo f))
 
-      pub desk_tally : not k ≡ false → ltb d.parts.tally sweep_every ≡ desk_sound d
+      pub desk_tally : k ≡ true → ltb d.parts.tally sweep_every ≡ desk_sound d
       unfolding desk_sound tally_test
       desk_tally f = goes grid passed (goes radios passed' (goes memo f refl))
 
@@ -92,7 +91,7 @@ module _ (d : Ledger) {a : Bool} (grid : a ≡ grid_sound (ledger_grid d).easts 
 -- the slots of a store's cells
 cells_slots : (cells : List Cell) → directory_of cells ≡ directory_with (map slot_of cells)
 unfolding directory_of directory_with
-cells_slots cells = let e = sym (length-map cells slot_of) in λ i. record { n = e i; words = slot_words (slotted max_cells no_slot (map slot_of cells)) }
+cells_slots cells = let e = sym (length-map cells slot_of) in λ i. record { n = e i; slots = slotted max_cells no_slot (map slot_of cells) }
 
 shown_slots : (l : List Slot) → map slot_of (map cell_of l) ≡ l
 shown_slots l = map-map slot_of cell_of l ∙ map_same (λ x. slot_of (cell_of x)) (λ x. refl) l

@@ -110,6 +110,6 @@ few_turn f more said room = record { so = λ easts norths s. Few_more s (f.so ea
 
 -- ---- the memory cells of an array's slots
 
-pub seated : (easts norths : CutList) (n : ℕ) (ws : List ℕ) {at : Stripes} → (easts.n ≤ max_cuts) × (norths.n ≤ max_cuts) × (n ≤ full_memory) × (length ws ≡ report_fields * full_memory)
+pub seated : (easts norths : CutList) (n : ℕ) (ws : List ℕ) {at : Stripes} → (easts.n ≤ max_cuts) × (norths.n ≤ max_cuts) × (n ≤ full_memory) → length ws ≡ report_fields * full_memory
     → Boxed (cuts_by easts norths) (every_report ws) at → Seated easts norths (waiting_with n ws) at
-seated easts norths n ws h b = record { size = every_size ws h.3; fits = h.2; east_cuts = h.0; north_cuts = h.1; boxes = b }
+seated easts norths n ws h l b = record { size = every_size ws l; fits = h.2; east_cuts = h.0; north_cuts = h.1; boxes = b }

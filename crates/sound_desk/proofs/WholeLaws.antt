@@ -2,7 +2,7 @@
 use mathlib.Core.Path.{◌≡◌, refl, sym, ap, ap₂, ◌∙◌}
 use mathlib.Core.Bool.{Bool, true, false}
 use mathlib.Core.List.{List, [], ◌∷◌, map}
-use mathlib.Core.Option.{Option, none, some}
+use Rattle.std.specs.Prelude.{Option, None, Some}
 use Prim.Native.Nat.{ℕ, ◌-◌, ◌*◌, ◌≤◌, ◌<◌}
 use native.Mathlib.Omega.{arith}
 use lib.Dec.{eqb, leb, ltb}
@@ -18,9 +18,9 @@ use Rattle.rules.specs.Store.{Report as StoreReport, Line as StoreLine}
 use Rattle.desk.specs.declared.Report.{Report}
 use Rattle.desk.specs.Held.{Memo, On, Waiting}
 use Rattle.desk.specs.declared.Line.{Line}
-use Rattle.desk.specs.Layout.{report_fields, line_slots, line_fields, slotted, report_of, no_report, waiting_of, line_with, line_of, no_line, memo_of, on_of}
-use Rattle.desk.specs.Views.{every_report, lines_in, radio_row, radios_of}
-use Rattle.desk.proofs.LinesLaws.{lines_laid, words_laid, length-lines_in}
+use Rattle.desk.specs.Layout.{report_fields, line_slots, slotted, report_of, no_report, waiting_of, line_with, line_of, no_line, memo_of, on_of}
+use Rattle.desk.specs.Views.{every_report, radio_row, radios_of}
+use Rattle.desk.proofs.HeldLaws.{lines_laid}
 use Rattle.desk.proofs.ReportsLaws.{reports_of_words, waiting_is}
 use Rattle.desk.proofs.UniqueLaws.{take_waiting, take_memo}
 use Rattle.memo.specs.Memo.{row_of, lines_of}
@@ -155,20 +155,20 @@ line_back x t =
     rw z (λ i. record { radio = x.radio; missed = x.missed; placed = e i; east = a i; north = o i }))
 
 module _ (m : Memo) where
-  memo_laid : length m.words ≡ line_fields * line_slots → slots_test line_weight line_slots m.n (lines_in m.words) ≡ true → all line_marked (noted m) ≡ true → m ≡ memo_of (lines_of m)
+  memo_laid : length m.lines ≡ line_slots → slots_test line_weight line_slots m.n m.lines ≡ true → all line_marked (noted m) ≡ true → m ≡ memo_of (lines_of m)
   unfolding lines_of memo_of
   memo_laid size s t =
-      let l = length-lines_in line_slots m.words size in
-      let n : m.n ≡ (memo_of (lines_of m)).n = slots_used line_weight line_slots m.n (lines_in m.words) s line_slots l (omega arith) ∙ sym (length-map (noted m) row_of) in
-      let a = slots_slotted line_weight line_slots m.n (lines_in m.words) s line_slots l (omega arith) no_line line_nothing ∙ ap (slotted line_slots no_line) (map_back line_of row_of line_marked (noted m) line_back t) in
-      let w : m.words ≡ (memo_of (lines_of m)).words = words_laid m.words (lines_of m) size a in
-      λ i. record { n = n i; words = w i }
+      let l = size in
+      let n : m.n ≡ (memo_of (lines_of m)).n = slots_used line_weight line_slots m.n m.lines s line_slots l (omega arith) ∙ sym (length-map (noted m) row_of) in
+      let a = slots_slotted line_weight line_slots m.n m.lines s line_slots l (omega arith) no_line line_nothing ∙ ap (slotted line_slots no_line) (map_back line_of row_of line_marked (noted m) line_back t) in
+      let w : m.lines ≡ (memo_of (lines_of m)).lines = a ∙ sym (lines_laid (lines_of m)) in
+      λ i. record { n = n i; lines = w i }
 
-  pub memo_whole : length m.words ≡ line_fields * line_slots → memo_sound m ≡ true → (m ≡ memo_of (lines_of m)) × (memo_test (lines_of m) ≡ true) × (missed_test (lines_of m) ≡ true) × (lasts_test (lines_of m) ≡ true)
+  pub memo_whole : length m.lines ≡ line_slots → memo_sound m ≡ true → (m ≡ memo_of (lines_of m)) × (memo_test (lines_of m) ≡ true) × (missed_test (lines_of m) ≡ true) × (lasts_test (lines_of m) ≡ true)
   unfolding memo_sound
   memo_whole l t =
-      let s = both_left (slots_test line_weight line_slots m.n (lines_in m.words)) (lines_ok m) t in
-      let o = both_right (slots_test line_weight line_slots m.n (lines_in m.words)) (lines_ok m) t in
+      let s = both_left (slots_test line_weight line_slots m.n m.lines) (lines_ok m) t in
+      let o = both_right (slots_test line_weight line_slots m.n m.lines) (lines_ok m) t in
       let b = both_right (memo_test (lines_of m)) (lines_rest m) o in
       let d = both_right (all line_marked (noted m)) (both (missed_test (lines_of m)) (lasts_test (lines_of m))) b in (
         memo_laid l s (both_left (all line_marked (noted m)) (both (missed_test (lines_of m)) (lasts_test (lines_of m))) b),
@@ -177,15 +177,15 @@ module _ (m : Memo) where
         both_right (missed_test (lines_of m)) (lasts_test (lines_of m)) d,
       )
 
-memo_slots : (l : Rows StoreLine) → length l ≤ line_slots → slots_test line_weight line_slots (memo_of l).n (lines_in (memo_of l).words) ≡ true
+memo_slots : (l : Rows StoreLine) → length l ≤ line_slots → slots_test line_weight line_slots (memo_of l).n ((memo_of l).lines) ≡ true
 memo_slots l h =
     ap₂ (slots_test line_weight line_slots) (count_memo l ∙ sym (length-map l line_of)) (lines_laid l)
     ∙ slotted_slots line_weight line_slots line_slots no_line (map line_of l) refl (rw (length-map l line_of) h)
 
 line_marked_lem : (r m : ℕ) (o : Option Place) → line_marked (line_with r m o) ≡ true
 unfolding both either
-line_marked_lem r m none = refl
-line_marked_lem r m (some p) = refl
+line_marked_lem r m None = refl
+line_marked_lem r m (Some p) = refl
 
 lines_marked : (l : Rows StoreLine) → all line_marked (map line_of l) ≡ true
 unfolding all

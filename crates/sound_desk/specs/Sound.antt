@@ -8,9 +8,8 @@ use Rattle.rules.specs.Limits.{max_cells, max_cuts, full_memory}
 use Rattle.rules.specs.Grid.{Rect, Cuts}
 use Rattle.rules.specs.Store.{Store, Report as StoreReport, Line as StoreLine}
 use Rattle.desk.specs.declared.CutList.{CutList}
-use Rattle.desk.specs.Held.{On, Waiting, ledger_grid, ledger_waiting, ledger_memo, ledger_on}
-use Rattle.desk.specs.Held.{Ledger}
-use Rattle.desk.specs.Layout.{slot_fields, report_fields, line_slots, line_fields}
+use Rattle.desk.specs.Held.{On, Waiting, ledger_grid, ledger_waiting, ledger_memo, ledger_on, Ledger}
+use Rattle.desk.specs.Layout.{report_fields, line_slots}
 use Rattle.desk.specs.Views.{cuts_by, radios_of, slots_in}
 use Rattle.memo.specs.Memo.{lines_of}
 use Rattle.sound_clauses.specs.Grid.{cuts_test, edges_test, tile_test}
@@ -80,7 +79,7 @@ DeskTests s = Tests s.cuts (numbers_of s.cells) (edges_of s.cells) s.waiting s.m
 pub record Shaped (d : Ledger) : Type 0 where
   pub easts : length (ledger_grid d).easts.at ≡ max_cuts
   pub norths : length (ledger_grid d).norths.at ≡ max_cuts
-  pub cells : length d.cells ≡ slot_fields * max_cells
+  pub cells : length d.cells ≡ max_cells
   pub waiting : length d.waiting ≡ report_fields * full_memory
-  pub memo : length d.memo ≡ line_fields * line_slots
+  pub memo : length d.memo ≡ line_slots
   pub on : length d.on ≡ max_on

@@ -2,15 +2,13 @@
 // any condition: a count is tested before a slot is looked at.
 #![tactic(auto)]
 
-ghost use Rattle.std.specs.Prelude.{◌≡◌, ◌*◌, ◌≤◌, length};
-ghost use Rattle.rules.specs.Limits.{max_cells, max_cuts, full_memory};
-ghost use Rattle.terms.specs.Terms.{max_on};
-ghost use Rattle.desk.specs.Layout.{slot_fields, report_fields, line_slots, line_fields};
-ghost use Rattle.desk.specs.Held.{waiting_with, on_with, ledger_with};
-ghost use Rattle.sound_desk.specs.Sound.{few_sound, radios_sound, desk_sound};
+ghost use Rattle.std.specs.Prelude.{true, ◌≡◌, ◌≤◌};
+ghost use Rattle.rules.specs.Limits.{max_cuts, full_memory};
+ghost use Rattle.desk.specs.Held.{waiting_with, desk_ledger, ledger_waiting, ledger_on};
+ghost use Rattle.sound_desk.specs.Sound.{few_sound, radios_sound, desk_sound, Shaped};
 
 use boxes::BOXES;
-use desk::{CutList, Desk, Parts};
+use desk::{CutList, Desk};
 use sound_grid::grid_sound;
 
 const MOST_IN_BOX: usize = Desk::FULL_BOX - 1;
@@ -18,26 +16,24 @@ const MOST_IN_BOX: usize = Desk::FULL_BOX - 1;
 // ---- fewer than 8 a memory cell
 
 // Whether fewer than 8 wait in each memory cell: each report counts in its own.
-fn few_sound<'a>(
+fn few_sound(
     easts: CutList,
     norths: CutList,
-    waiting: &'a [u16; Desk::WAITING_WORDS],
+    waiting: &[u16; Desk::WAITING_WORDS],
     n: usize,
 ) -> bool
-    requires { (easts.n ≤ max_cuts) × (norths.n ≤ max_cuts) × (n ≤ full_memory) × (length waiting.now ≡ report_fields * full_memory) }
+    requires { (easts.n ≤ max_cuts) × (norths.n ≤ max_cuts) × (n ≤ full_memory) }
     ensures { result ≡ few_sound easts norths (waiting_with n waiting.now) }
 {
     let at = boxes::boxes_of(easts, norths, waiting);
     let mut crowd: [usize; BOXES] = [0; BOXES];
-    let mut i: usize = 0;
-    while i < n {
+    for i in 0..n {
         let k = boxes::box_index(at.easts[i], at.norths[i]);
         let others = crowd[k];
         if MOST_IN_BOX <= others {
             return false;
         }
         crowd[k] = others + 1;
-        i += 1;
     }
     true
 }
@@ -45,47 +41,37 @@ fn few_sound<'a>(
 // ---- the desk
 
 // Whether waiting reports and radios on are sound, but for entries and for each other.
-fn radios_sound<'a>(
-    parts: Parts,
-    waiting: &'a [u16; Desk::WAITING_WORDS],
-    on: &'a [u16; Desk::MAX_ON],
-) -> bool
-    requires { (parts.frame.easts.n ≤ max_cuts) × (parts.frame.norths.n ≤ max_cuts) × (length waiting.now ≡ report_fields * full_memory)
-        × (length on.now ≡ max_on) }
+fn radios_sound(desk: &Desk) -> bool
+    requires { (desk.now.parts.frame.easts.n ≤ max_cuts) × (desk.now.parts.frame.norths.n ≤ max_cuts) }
     ensures { result
-        ≡ radios_sound parts.highest parts.frame.easts parts.frame.norths (waiting_with parts.waiting waiting.now)
-        (on_with parts.on on.now) }
+        ≡ radios_sound desk.now.parts.highest desk.now.parts.frame.easts desk.now.parts.frame.norths
+        (ledger_waiting (desk_ledger desk.now)) (ledger_on (desk_ledger desk.now)) }
 {
+    let parts = desk.parts;
     let n = parts.waiting as usize;
-    if !sound_rows::waiting_sound(waiting, n, parts.highest) {
+    if !sound_rows::waiting_sound(&desk.waiting, n, parts.highest) {
         return false;
     }
-    if !sound_rows::on_sound(on, parts.on as usize) {
+    if !sound_rows::on_sound(&desk.on, parts.on as usize) {
         return false;
     }
-    few_sound(parts.frame.easts, parts.frame.norths, waiting, n)
+    few_sound(parts.frame.easts, parts.frame.norths, &desk.waiting, n)
 }
 
-// Whether a desk in any condition is sound, as far as that shows without the pages. It comes in its parts and its arrays, for these are lent.
-pub fn desk_sound<'a>(
-    parts: Parts,
-    cells: &'a [u16; Desk::CELL_WORDS],
-    waiting: &'a [u16; Desk::WAITING_WORDS],
-    memo: &'a [u16; Desk::MEMO_WORDS],
-    on: &'a [u16; Desk::MAX_ON],
-) -> bool
-    requires { (length cells.now ≡ slot_fields * max_cells) × (length waiting.now ≡ report_fields * full_memory)
-        × (length memo.now ≡ line_fields * line_slots) × (length on.now ≡ max_on) }
-    ensures { result ≡ desk_sound (ledger_with parts cells.now waiting.now memo.now on.now) }
+// Whether a desk in any condition is sound, as far as that shows without the pages.
+pub fn desk_sound(desk: &Desk) -> bool
+    ensures test { result ≡ desk_sound (desk_ledger desk.now) }
+    ensures shape { result ≡ true → Shaped (desk_ledger desk.now) }
 {
-    let n = parts.frame.cells as usize;
-    if !grid_sound(parts.frame.easts, parts.frame.norths, cells, n) {
+    let parts = desk.parts;
+    let frame = parts.frame;
+    if !grid_sound(frame.easts, frame.norths, &desk.cells, frame.cells as usize) {
         return false;
     }
-    if !radios_sound(parts, waiting, on) {
+    if !radios_sound(desk) {
         return false;
     }
-    if !sound_rows::memo_sound(memo, parts.lines) {
+    if !sound_rows::memo_sound(&desk.memo, parts.lines) {
         return false;
     }
     parts.tally < Desk::SWEEP_EVERY

@@ -1,76 +1,80 @@
 -- Loops over the slots of a part of the desk: over those in use, that they rise, and over the others, that they are zero.
-use mathlib.Core.Path.{◌≡◌, refl, sym, ap, ◌∙◌}
+use mathlib.Core.Path.{◌≡◌, refl, sym, ap, ap₂, ◌∙◌}
 use mathlib.Core.Bool.{Bool, true, ◌&&◌}
-use mathlib.Core.List.{List, [], ◌∷◌, ◌++◌, map}
-use Prim.Native.Nat.{ℕ, zero, suc, ◌+◌, ◌*◌, ◌≤◌, ◌<◌}
-use native.Mathlib.Nat.{mul-zero, mul-suc}
+use mathlib.Core.List.{List, [], ◌∷◌}
+use Prim.Native.Nat.{ℕ, ◌+◌, ◌-◌, ◌≤◌, ◌<◌}
 use native.Mathlib.Omega.{arith}
 use native.Mathlib.Numerals.{add-one}
 use lib.Dec.{eqb, leb, ltb}
-use lib.ListN.{length, get_or, take, drop, drop_of_length-le}
-use lib.Seq.{drop-cons, drop-append-add}
-use borrow.Author.Tests.{eqb-true, eqb-false, eq-eqb, ne_eqb}
-use Rattle.lists.specs.Sums.{sum_by, concat}
-use Rattle.lists.specs.Tests.{both}
+use lib.ListN.{length, get_or, take, drop, length-drop, drop_of_length-le}
+use lib.Seq.{drop-cons, take_all}
+use borrow.Author.Tests.{eqb-true, eqb-false, ne_eqb}
+use Rattle.lists.specs.Sums.{sum_by}
+use Rattle.lists.specs.Tests.{both, all}
 use Rattle.lists.proofs.Cases.{by_cases}
-use Rattle.lists.proofs.SlotsLaws.{used_cons, used_none}
-use Rattle.lists.proofs.SumsLaws.{sum_ext, sum-concat-map}
-use Rattle.lists.proofs.TestsLaws.{both-true, and_both}
+use Rattle.lists.proofs.SlotsLaws.{all-nil}
+use Rattle.lists.proofs.TestsLaws.{both-true, and_both, all-cons}
 use Rattle.sound_clauses.specs.Loops.{rises_to}
 use Rattle.sound_clauses.proofs.LoopsLaws.{rises_nil, rises_cons}
-use Rattle.sound_directory.specs.Sound.{weighs, number}
+use Rattle.sound_directory.specs.Sound.{weighs}
 
 -- ---- numbers that rise
-
--- up to i they do if so, and end at last: with what is left to test it is the test
-pub record Rises (top : ℕ) (xs : List ℕ) (n : ℕ) (so : Bool) (last i : ℕ) : Type 0 where
-  pub fits : n ≤ length xs
-  pub same : both so (rises_to top last (drop i (take n xs))) ≡ rises_to top 0 (take n xs)
-
-pub rise_start : (top : ℕ) (xs : List ℕ) (n : ℕ) → n ≤ length xs → Rises top xs n true 0 0
-unfolding both
-rise_start top xs n h = record { fits = h; same = refl }
 
 pub both_then : (a b c : Bool) → both (both a b) c ≡ both a (both b c)
 unfolding both
 both_then a b c = by_cases a (λ t. rw t) (λ t. rw t)
 
-module _ {top : ℕ} {xs : List ℕ} {n : ℕ} {so : Bool} {last i : ℕ} (r : Rises top xs n so last i) where
-  pub rise_turn : {b : Bool} → i < n → b ≡ both (ltb last (get_or xs i 0)) (leb (get_or xs i 0) top) → Rises top xs n (so && b) (get_or xs i 0) (i + 1)
+-- up to i they do if so, and end at last: with what is left to test it is the test
+pub record Rises (top : ℕ) (xs : List ℕ) (so : Bool) (last i : ℕ) : Type 0 where
+  pub same : both so (rises_to top last (drop i xs)) ≡ rises_to top 0 xs
+
+pub rise_start : (top : ℕ) (xs : List ℕ) → Rises top xs true 0 0
+unfolding both
+rise_start top xs = record { same = refl }
+
+module _ {top : ℕ} {xs : List ℕ} {so : Bool} {last i : ℕ} (r : Rises top xs so last i) where
+  pub rise_turn : {b : Bool} → i < length xs → b ≡ both (ltb last (get_or xs i 0)) (leb (get_or xs i 0) top) → Rises top xs (so && b) (get_or xs i 0) (i + 1)
   rise_turn {b} more e =
       let x = get_or xs i 0 in
-      let tail = drop (i + 1) (take n xs) in
+      let tail = drop (i + 1) xs in
+      let opened : drop i xs ≡ x ∷ tail = drop-cons xs i 0 more ∙ ap (λ k. x ∷ drop k xs) (sym (add-one i)) in
       record {
-        fits = r.fits;
         same =
             ap (λ (y : Bool). both y (rises_to top x tail)) (and_both so b ∙ ap (both so) e)
             ∙ both_then so (both (ltb last x) (leb x top)) (rises_to top x tail)
-            ∙ ap (both so) (sym (rises_cons top last x tail) ∙ ap (rises_to top last) (sym (used_cons xs n i 0 r.fits more)))
+            ∙ ap (both so) (sym (rises_cons top last x tail) ∙ ap (rises_to top last) (sym opened))
             ∙ r.same;
       }
 
-  pub rise_end : n ≤ i → so ≡ rises_to top 0 (take n xs)
-  rise_end h = sym (both-true so) ∙ ap (both so) (sym (ap (rises_to top last) (used_none xs n i h) ∙ rises_nil top last)) ∙ r.same
+  pub rise_end : length xs ≤ i → so ≡ rises_to top 0 xs
+  rise_end h = sym (both-true so) ∙ ap (both so) (sym (ap (rises_to top last) (drop_of_length-le xs {i = i} h) ∙ rises_nil top last)) ∙ r.same
 
--- ---- what the slots that are not used weigh
+-- ---- whether the slots that are not used are as unused ones
 
-weigh_cons : (xs : List ℕ) (i : ℕ) → i < length xs → weighs number i xs ≡ get_or xs i 0 + weighs number (i + 1) xs
-unfolding weighs sum_by
-weigh_cons xs i h = rw (add-one, drop-cons xs i 0 h)
+-- those up to i pass if so: with the rest it is the test
+pub record Passed {A : Type 0} (p : A → Bool) (xs : List A) (so : Bool) (i : ℕ) : Type 0 where
+  pub same : both so (all p (drop i xs)) ≡ all p xs
 
-weigh_none : (xs : List ℕ) (i : ℕ) → length xs ≤ i → weighs number i xs ≡ 0
-unfolding weighs sum_by
-weigh_none xs i h = rw (drop_of_length-le xs {i = i} h)
+module _ {A : Type 0} (p : A → Bool) (xs : List A) where
+  pub pass_start : Passed p xs true 0
+  unfolding both
+  pass_start = record { same = refl }
 
--- ---- whether the slots that are not used are zero
+  pub pass_turn : {so b : Bool} {i : ℕ} (d : A) → Passed p xs so i → i < length xs → b ≡ p (get_or xs i d) → Passed p xs (so && b) (i + 1)
+  pass_turn {so} {b} {i} d r more e =
+      let x = p (get_or xs i d) in
+      let rest = all p (drop (i + 1) xs) in
+      let opened : drop i xs ≡ get_or xs i d ∷ drop (i + 1) xs = drop-cons xs i d more ∙ ap (λ k. get_or xs i d ∷ drop k xs) (sym (add-one i)) in
+      record {
+        same =
+            ap (λ (y : Bool). both y rest) (and_both so b ∙ ap (both so) e)
+            ∙ both_then so x rest
+            ∙ ap (both so) (sym (all-cons p (get_or xs i d) (drop (i + 1) xs)) ∙ ap (all p) (sym opened))
+            ∙ r.same;
+      }
 
--- those up to i are if so: with the rest it is the test
-pub record Clear (xs : List ℕ) (n : ℕ) (so : Bool) (i : ℕ) : Type 0 where
-  pub same : both so (eqb (weighs number i xs) 0) ≡ eqb (weighs number n xs) 0
-
-pub Clear_start : (xs : List ℕ) (n : ℕ) → Clear xs n true n
-unfolding both
-Clear_start xs n = record { same = refl }
+  pub pass_end : {so : Bool} {i : ℕ} → Passed p xs so i → length xs ≤ i → so ≡ all p xs
+  pass_end {so} {i} r h = sym (both-true so) ∙ ap (both so) (sym (ap (all p) (drop_of_length-le xs {i = i} h) ∙ all-nil p)) ∙ r.same
 
 -- a sum is 0 just if its parts are
 pub sum_Clear : (a b : ℕ) → eqb (a + b) 0 ≡ both (eqb a 0) (eqb b 0)
@@ -80,32 +84,19 @@ sum_Clear a b =
     (λ t. let e : a + b ≡ b = omega (arith, eqb-true a 0 t) in rw t (ap (λ (k : ℕ). eqb k 0) e))
     (λ t. rw t (ne_eqb (a + b) 0 (omega (arith, eqb-false a 0 t))))
 
-module _ {xs : List ℕ} {n : ℕ} {so : Bool} {i : ℕ} (r : Clear xs n so i) where
-  pub Clear_turn : i < length xs → Clear xs n (so && eqb (get_or xs i 0) 0) (i + 1)
-  Clear_turn more =
-      let x = eqb (get_or xs i 0) 0 in
-      let rest = eqb (weighs number (i + 1) xs) 0 in
-      record {
-        same =
-            ap (λ (y : Bool). both y rest) (and_both so x)
-            ∙ both_then so x rest
-            ∙ ap (both so) (sym (sum_Clear (get_or xs i 0) (weighs number (i + 1) xs)) ∙ ap (λ (k : ℕ). eqb k 0) (sym (weigh_cons xs i more)))
-            ∙ r.same;
-      }
+-- slots are as unused ones just if they weigh nothing, where each is so just if it weighs nothing
+pub unused_weigh : {A : Type 0} (w : A → ℕ) (p : A → Bool) → ((x : A) → p x ≡ eqb (w x) 0) → (xs : List A) → all p xs ≡ eqb (sum_by w xs) 0
+unfolding sum_by all
+unused_weigh w p h [] = refl
+unused_weigh w p h (x ∷ xs) = ap₂ both (h x) (unused_weigh w p h xs) ∙ sym (sum_Clear (w x) (sum_by w xs))
 
-  pub Clear_end : length xs ≤ i → so ≡ eqb (weighs number n xs) 0
-  Clear_end h = sym (both-true so) ∙ ap (both so) (sym (eq-eqb (weighs number i xs) 0 (weigh_none xs i h))) ∙ r.same
+-- so it is with the slots past the n-th
+pub unused_rest : {A : Type 0} (w : A → ℕ) (p : A → Bool) → ((x : A) → p x ≡ eqb (w x) 0) → (n size : ℕ) (xs : List A) → length xs ≡ size
+    → {b : Bool} → b ≡ all p (take (size - n) (drop n xs)) → b ≡ eqb (weighs w n xs) 0
+unfolding weighs
+unused_rest w p h n size xs l e =
+    e ∙ ap (all p) (take_all (size - n) (drop n xs) (omega (arith, length-drop n xs))) ∙ unused_weigh w p h (drop n xs)
 
--- ---- an array that has the fields of one slot after the other
-
--- its numbers from a slot's first field on weigh what the slots from there on weigh
-module _ {A : Type 0} (fields : A → List ℕ) (w : A → ℕ) (size : ℕ) (long : (x : A) → length (fields x) ≡ size) (heavy : (x : A) → sum_by number (fields x) ≡ w x) where
-  pub fields_rest : (i : ℕ) (l : List A) → weighs number (size * i) (concat (map fields l)) ≡ weighs w i l
-  unfolding weighs sum_by concat
-  fields_rest zero l = rw (mul-zero size) (sum-concat-map number fields l ∙ sum_ext (λ x. sum_by number (fields x)) w l heavy)
-  fields_rest (suc i) [] = ap (sum_by number) (drop_of_length-le [] {i = size * suc i} (omega arith))
-  fields_rest (suc i) (x ∷ l) =
-      let e : size * suc i ≡ length (fields x) + size * i = omega (arith, long x, mul-suc size i) in
-      ap (λ (k : ℕ). sum_by number (drop k (fields x ++ concat (map fields l)))) e
-      ∙ ap (sum_by number) (drop-append-add (fields x) (concat (map fields l)) (size * i))
-      ∙ fields_rest i l
+-- a struct is as an unused one just if its fields are zero: one field, and the others
+pub field_unused : (a b : ℕ) {q : Bool} → q ≡ eqb b 0 → (eqb a 0 && q) ≡ eqb (a + b) 0
+field_unused a b {q} e = and_both (eqb a 0) q ∙ ap (both (eqb a 0)) e ∙ sym (sum_Clear a b)

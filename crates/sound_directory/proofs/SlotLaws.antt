@@ -1,6 +1,6 @@
 -- What the test of a part's slots says: they hold what is in use, and zero past it.
 use mathlib.Core.Path.{◌≡◌, refl, sym, ap, ap₂, ◌∙◌}
-use mathlib.Core.Bool.{Bool, true, false, not}
+use mathlib.Core.Bool.{Bool, true, false}
 use mathlib.Core.List.{List, [], ◌∷◌, ◌++◌}
 use Prim.Native.Nat.{ℕ, zero, suc, ◌-◌, ◌≤◌, ◌<◌}
 use native.Mathlib.Omega.{arith}
@@ -9,7 +9,7 @@ use lib.ListN.{length, take, drop, replicate, length-drop, take-append-drop}
 use lib.Seq.{drop-append_seam, length-take-le}
 use borrow.Author.Tests.{le-leb, lt-leb, leb-true, eqb-true, eq-eqb}
 use Rattle.lists.specs.Sums.{sum_by}
-use Rattle.lists.proofs.TestsLaws.{both_left, both_right, both_intro, both_left_false, both_right_false, not-true, not-false}
+use Rattle.lists.proofs.TestsLaws.{both_left, both_right, both_intro, both_left_false, both_right_false}
 use Rattle.desk.specs.Layout.{slotted}
 use Rattle.sound_directory.specs.Sound.{weighs, slots_test}
 
@@ -33,13 +33,13 @@ module _ {A : Type 0} (w : A → ℕ) (most n : ℕ) (xs : List A) where
   unfolding slots_test
   slots_long h = both_left_false (eqb (weighs w n xs) 0) (lt-leb n most h)
 
-  pub slots_unclear : {b : Bool} → b ≡ eqb (weighs w n xs) 0 → not b ≡ true → slots_test w most n xs ≡ false
+  pub slots_unclear : {b : Bool} → b ≡ eqb (weighs w n xs) 0 → b ≡ false → slots_test w most n xs ≡ false
   unfolding slots_test
-  slots_unclear {b} e f = both_right_false (leb n most) (sym e ∙ not-true b f)
+  slots_unclear {b} e f = both_right_false (leb n most) (sym e ∙ f)
 
-  pub slots_clear : {b : Bool} → n ≤ most → b ≡ eqb (weighs w n xs) 0 → not b ≡ false → slots_test w most n xs ≡ true
+  pub slots_clear : {b : Bool} → n ≤ most → b ≡ eqb (weighs w n xs) 0 → b ≡ true → slots_test w most n xs ≡ true
   unfolding slots_test
-  slots_clear {b} h e f = both_intro (le-leb n most h) (sym e ∙ not-false b f)
+  slots_clear {b} h e f = both_intro (le-leb n most h) (sym e ∙ f)
 
   module _ (t : slots_test w most n xs ≡ true) where
     pub slots_count : n ≤ most

@@ -2,15 +2,14 @@
 // before a slot is looked at.
 #![tactic(auto)]
 
-ghost use Rattle.std.specs.Prelude.{true, ◌≡◌, ◌*◌, ◌≤◌, eqb, leb, ltb, length, take};
-ghost use Rattle.lists.specs.Tests.{both};
-ghost use Rattle.rules.specs.Limits.{max_cells};
-ghost use Rattle.desk.specs.Layout.{slot_fields};
+ghost use Rattle.std.specs.Prelude.{◌≡◌, eqb, leb, ltb, length, take};
+ghost use Rattle.lists.specs.Tests.{both, all};
 ghost use Rattle.desk.specs.Held.{directory_in};
 ghost use Rattle.sound_clauses.specs.Loops.{rises_to};
-ghost use Rattle.sound_directory.specs.Sound.{weighs, number, cuts_sound, names_sound, directory_sound};
+ghost use Rattle.sound_directory.specs.Views.{slot_numbers};
+ghost use Rattle.sound_directory.specs.Sound.{row_sound, cuts_sound, names_test, directory_sound};
 
-use desk::{CutList, Desk};
+use desk::{CutList, Desk, Slot};
 
 // ---- numbers in slots
 
@@ -21,35 +20,41 @@ pub fn goes_on(last: u16, x: u16, top: u16) -> bool
     (last < x) & (x <= top)
 }
 
-// Whether the first n rise, from above 0 to at most `top`. It never leaves early, so that many numbers are looked at at a time.
-pub fn rises(slots: &[u16], n: usize, top: u16) -> bool
-    requires { n ≤ length slots.now }
-    ensures { result ≡ rises_to top 0 (take n slots.now) }
+// Whether the numbers rise, from above 0 to at most `top`. It never leaves early, so that many numbers are looked at at a time.
+pub fn rises(numbers: &[u16], top: u16) -> bool
+    ensures { result ≡ rises_to top 0 numbers.now }
 {
     let mut so = true;
     let mut last: u16 = 0;
-    let mut i: usize = 0;
-    while i < n {
-        let x = slots[i];
+    for &x in numbers {
         so = so & goes_on(last, x, top);
         last = x;
-        i += 1;
     }
     so
 }
 
-// Whether each slot from n on is zero. It never leaves early, so that many are looked at at a time.
-pub fn is_clear(slots: &[u16], n: usize) -> bool
-    requires { n ≤ length slots.now }
-    ensures { result ≡ eqb (weighs number n slots.now) 0 }
+// Whether each slot is as an unused one. It never leaves early, so that many are looked at at a time.
+pub fn is_unused<T: Copy + PartialEq>(slots: &[T], unused: T) -> bool
+    ensures { result ≡ all (λ x. T.eq x unused) slots.now }
 {
     let mut so = true;
-    let mut i = n;
-    while i < slots.len() {
-        so = so & (slots[i] == 0);
-        i += 1;
+    for slot in slots {
+        so = so & (*slot == unused);
     }
     so
+}
+
+// Whether the first n rise, from above 0 to at most `top`, and are all that the slots hold.
+pub fn row_sound(slots: &[u16], n: usize, top: u16) -> bool
+    ensures { result ≡ row_sound top (length slots.now) n slots.now }
+{
+    if slots.len() < n {
+        return false;
+    }
+    if !is_unused(&slots[n..], 0) {
+        return false;
+    }
+    rises(&slots[..n], top)
 }
 
 // ---- cuts
@@ -58,33 +63,18 @@ pub fn is_clear(slots: &[u16], n: usize) -> bool
 pub fn cuts_sound(c: CutList) -> bool
     ensures { result ≡ cuts_sound c }
 {
-    if Desk::MAX_CUTS < c.n as usize {
-        return false;
-    }
-    if !is_clear(&c.at, c.n as usize) {
-        return false;
-    }
-    rises(&c.at, c.n as usize, Desk::LAST_METRE)
+    row_sound(&c.at, c.n as usize, Desk::LAST_METRE)
 }
 
 // ---- the directory
 
-fn index(x: u16) -> usize
-    ensures { result ≡ x }
-{
-    x as usize
-}
-
 // Whether the cells have numbers from 0 to 63, each once: each marks its own.
-fn names_sound<'a>(cells: &'a [u16; Desk::CELL_WORDS], n: usize) -> bool
-    requires { (n ≤ max_cells) × (length cells.now ≡ slot_fields * max_cells) }
-    ensures { result ≡ names_sound (directory_in n cells.now) }
+fn names_sound(cells: &[Slot]) -> bool
+    ensures { result ≡ names_test (slot_numbers cells.now) }
 {
     let mut marks = [false; Desk::MAX_CELLS];
-    let mut i: usize = 0;
-    while i < n {
-        let x = desk::slot_at(cells, i);
-        let k = index(x.number);
+    for cell in cells {
+        let k = cell.number as usize;
         if Desk::MAX_CELLS <= k {
             return false;
         }
@@ -92,21 +82,19 @@ fn names_sound<'a>(cells: &'a [u16; Desk::CELL_WORDS], n: usize) -> bool
             return false;
         }
         marks[k] = true;
-        i += 1;
     }
     true
 }
 
 // Whether the directory is sound, but for edges and pages.
-pub fn directory_sound<'a>(cells: &'a [u16; Desk::CELL_WORDS], n: usize) -> bool
-    requires { length cells.now ≡ slot_fields * max_cells }
+pub fn directory_sound(cells: &[Slot; Desk::MAX_CELLS], n: usize) -> bool
     ensures { result ≡ directory_sound (directory_in n cells.now) }
 {
     if Desk::MAX_CELLS < n {
         return false;
     }
-    if !is_clear(cells, Desk::CELL_FIELDS * n) {
+    if !is_unused(&cells[n..], Slot::UNUSED) {
         return false;
     }
-    names_sound(cells, n)
+    names_sound(&cells[..n])
 }

@@ -1,2 +1,1 @@
-pub mod SeekLaws
 pub mod EdgeLaws

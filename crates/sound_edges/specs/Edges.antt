@@ -1,23 +1,13 @@
 -- Which stripe an edge bounds, and which stripes lie between two edges.
-use Rattle.std.specs.Prelude.{Bool, true, false, ℕ}
-use Rattle.std.proofs.Math.Option.{Option, none, some}
-use Rattle.rules.specs.Grid.{Span}
-use Rattle.sound_edges.specs.declared.Edge.{Edge}
-use Rattle.sound_edges.specs.declared.Edge.TheVariants.{Bounds, Loose}
-use Rattle.sound_edges.specs.declared.Extent.{Extent}
-use Rattle.sound_edges.specs.declared.Extent.TheVariants.{Whole, Broken}
-
--- the value of each case of an edge: the stripe that it bounds, or none
-abbrev pub edge_of : Edge → Option ℕ
-edge_of (Bounds stripe) = some stripe
-edge_of Loose = none
-
--- the values of each case of an extent: the first and the last of the stripes, or none
-abbrev pub extent_of : Extent → Option Span
-extent_of (Whole first last) = some (record { low = first; high = last })
-extent_of Broken = none
+use Rattle.std.specs.Prelude.{Bool, true, false, List, ℕ, Option, None, Some}
+use Rattle.rules.specs.Grid.{stripe}
+use Rattle.sound_clauses.specs.Grid.{span_test}
 
 -- a value, where a test passes
 abbrev pub passing : {A : Type 0} → Bool → A → Option A
-passing true a = some a
-passing false a = none
+passing true a = Some a
+passing false a = None
+
+-- the first and the last stripe between two edges on cuts
+abbrev pub extent : List ℕ → ℕ → ℕ → Option (ℕ × ℕ)
+extent cuts low high = passing (span_test cuts (record { low = low; high = high })) (stripe cuts low, stripe cuts high)

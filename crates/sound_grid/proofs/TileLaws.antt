@@ -1,6 +1,6 @@
 -- Tiling by stripes: each cell adds 1 in its memory cells in a table of 16 by 16, and each memory cell of the cuts comes to 1.
 use mathlib.Core.Path.{◌≡◌, refl, sym, ap, ap₂, ◌∙◌}
-use mathlib.Core.Bool.{Bool, true, false, not}
+use mathlib.Core.Bool.{Bool, true, false}
 use mathlib.Core.List.{List, [], ◌∷◌}
 use mathlib.Core.Logic.{◌≢◌}
 use Prim.Native.Nat.{ℕ, suc, ◌+◌, ◌*◌, ◌≤◌, ◌<◌, min, max}
@@ -8,7 +8,7 @@ use native.Mathlib.Omega.{arith}
 use native.Mathlib.Numerals.{add-one}
 use lib.Dec.{eqb, leb, ltb}
 use lib.ListN.{length, get_or, set, take, replicate, length-map, length-set, get_or-map}
-use lib.Seq.{take-suc, take_all, get_or-take, get_or-set_same, get_or-set_other, length-take-le}
+use lib.Seq.{take-suc, take_all, get_or-set_same, get_or-set_other, length-take-le}
 use borrow.Author.Tests.{ltb-true, ltb-false, leb-true, leb-false, lt-ltb, le-ltb, eqb-true, eqb-false, eq-eqb, ne_eqb}
 use Rattle.lists.specs.Parts.{tab}
 use Rattle.lists.specs.Sums.{sum_by, concat}
@@ -16,29 +16,25 @@ use Rattle.lists.specs.Tests.{one_if, both, Each, all}
 use Rattle.lists.proofs.Cases.{by_cases}
 use Rattle.lists.proofs.PartsLaws.{length-tab, get_or-tab}
 use Rattle.lists.proofs.SumsLaws.{sum-nil, sum-append}
-use Rattle.lists.proofs.TestsLaws.{both_right, both_intro, both_right_false, all-append, not-true, not-false, all-Each}
-use Rattle.rules.specs.Limits.{last_metre, max_cells, max_cuts}
-use Rattle.rules.specs.Grid.{Rect, Cuts, cuts_of, Box, boxes}
+use Rattle.lists.proofs.TestsLaws.{both_right, both_intro, both_left_false, both_right_false, all-append, all-Each}
+use Rattle.std.specs.Prelude.{Option, Some}
+use Rattle.rules.specs.Limits.{last_metre, max_cuts}
+use Rattle.rules.specs.Grid.{stripe, Rect, Cuts, cuts_of, Box, boxes}
 use Rattle.rules.specs.WellFormed.{RisingCuts}
 use Rattle.desk.specs.declared.CutList.{CutList}
 use Rattle.desk.specs.declared.Slot.{Slot}
-use Rattle.desk.specs.Held.{Directory}
-use Rattle.desk.specs.Layout.{no_slot, slot_fields}
-use Rattle.desk.proofs.SlotsLaws.{length_slots}
-use Rattle.desk.specs.Views.{every_slot, cuts_in, cuts_by, slots_in, edges_of as rect_of}
+use Rattle.desk.specs.Layout.{no_slot}
+use Rattle.desk.specs.Views.{cuts_in, cuts_by, edges_of as rect_of}
 use Rattle.sound_clauses.specs.Loops.{all_to}
-use Rattle.sound_clauses.specs.Grid.{cuts_test, span_test, edges_test, stripes, holds_box, holding_box, tile_boxes_test}
+use Rattle.sound_clauses.specs.Grid.{cuts_test, span_test, edges_test, tile_test, holds_box, holding_box, tile_boxes_test}
 use Rattle.sound_clauses.proofs.LoopsLaws.{all_to_zero, all_to-suc, all_to-false, all_to_ext, all-all_to}
 use Rattle.sound_clauses.proofs.GridLaws.{WholeBoxes, by_axis, cuts_true, edges_true, tile_boxes}
-use Rattle.sound_edges.specs.declared.Extent.{Extent}
-use Rattle.sound_edges.specs.declared.Extent.TheVariants.{Whole}
-use Rattle.sound_edges.specs.Edges.{extent_of}
-use Rattle.sound_grid.specs.Views.{rects_in}
+use Rattle.sound_grid.specs.Views.{rects_of}
 use Rattle.boxes.specs.Boxes.{max_stripes, table_size, box_at}
-use Rattle.sound_grid.specs.Sound.{edges_sound, several, Raised, RaisedIf, in_row, in_stripes, holders, row_once, rows_once, tile_sound}
+use Rattle.sound_grid.specs.Sound.{several, Raised, RaisedIf, in_row, in_stripes, holders, row_once, rows_once}
 use Rattle.sound_directory.specs.Sound.{slots_test, number, cuts_sound}
-use Rattle.lists.proofs.SlotsLaws.{same_at, goes, passed_true}
-use Rattle.sound_grid.proofs.ExtentLaws.{means_whole, extent_in}
+use Rattle.lists.proofs.SlotsLaws.{same_at, true-both}
+use Rattle.sound_grid.proofs.ExtentLaws.{means_whole, extent_in, cuts_count}
 
 -- ---- lists
 
@@ -111,8 +107,8 @@ Raised_then h r s e = record { size = s.size; held = λ m a b. omega (arith, r.h
 pub raised_not : (t u : List ℕ) (f : Box → ℕ) → RaisedIf false t u f
 raised_not t u f = record { raised = λ e. let z : false ≡ true = e in absurd (omega (arith, ap one_if z)) }
 
-pub raised_size : {b : Bool} {t u : List ℕ} {f : Box → ℕ} → RaisedIf b t u f → not b ≡ false → length u ≡ table_size
-raised_size {b} r e = (r.raised (not-false b e)).size
+pub raised_size : {b : Bool} {t u : List ℕ} {f : Box → ℕ} → RaisedIf b t u f → b ≡ true → length u ≡ table_size
+raised_size {b} r e = (r.raised e).size
 
 -- one memory cell more
 Raised-set : (u : List ℕ) (i row x : ℕ) → length u ≡ table_size → i < max_stripes → row < max_stripes → x ≡ min (get_or u (max_stripes * row + i) 0 + 1) several → Raised u (set u (max_stripes * row + i) x) (λ m. one_if (both (eqb m.east i) (eqb m.north row)))
@@ -147,16 +143,16 @@ unfolding row_to both
 row_start west row l = record { raised = Raised_same (row_to west west row) l (λ m. ap (λ (b : Bool). one_if (both b (eqb m.north row))) (before_none west m.east)) }
 
 module _ {west row : ℕ} {t : List ℕ} {i : ℕ} {u : List ℕ} (r : RowMarked west row t i u) where
-  pub row_turn : {x east : ℕ} → west ≤ i → i ≤ east → east < max_stripes → row < max_stripes → x ≡ min (get_or u (max_stripes * row + i) 0 + 1) several → RowMarked west row t (i + 1) (set u (max_stripes * row + i) x)
+  pub row_turn : {x east : ℕ} → west ≤ i → i < east + 1 → east < max_stripes → row < max_stripes → x ≡ min (get_or u (max_stripes * row + i) 0 + 1) several → RowMarked west row t (i + 1) (set u (max_stripes * row + i) x)
   unfolding row_to
   row_turn {x} w h e k q = record {
     raised = Raised_then (row_to west (i + 1) row) r.raised (Raised-set u i row x r.raised.size (omega arith) k q)
         (λ m. sum_left (before west (i + 1) m.east) (before west i m.east) (eqb m.east i) (eqb m.north row) (before_next west i m.east w));
   }
 
-  pub row_end : {east : ℕ} → east < i → i ≤ max west (east + 1) → Raised t u (in_row west east row)
+  pub row_end : (east : ℕ) → east + 1 ≤ i → i ≤ max west (east + 1) → Raised t u (in_row west east row)
   unfolding row_to in_row
-  row_end {east} h k = Raised_ext (in_row west east row) r.raised (λ m. ap (λ (b : Bool). one_if (both b (eqb m.north row))) (before_end west east i m.east h k))
+  row_end east h k = Raised_ext (in_row west east row) r.raised (λ m. ap (λ (b : Bool). one_if (both b (eqb m.north row))) (before_end west east i m.east (omega (arith, h)) k))
 
 -- ---- a rectangle of stripes
 
@@ -182,40 +178,30 @@ module _ {west east south : ℕ} {t : List ℕ} {j : ℕ} {u : List ℕ} (r : Ce
         (λ m. sum_right (both (leb west m.east) (leb m.east east)) (before south (j + 1) m.north) (before south j m.north) (eqb m.north j) (before_next south j m.north w));
   }
 
-  pub cell_end : {north : ℕ} → north < j → j ≤ max south (north + 1) → Raised t u (in_stripes west east south north)
+  pub cell_end : (north : ℕ) → north + 1 ≤ j → j ≤ max south (north + 1) → Raised t u (in_stripes west east south north)
   unfolding cell_to in_stripes
-  cell_end {north} h k = Raised_ext (in_stripes west east south north) r.raised (λ m. ap (λ (b : Bool). one_if (both (both (leb west m.east) (leb m.east east)) b)) (before_end south north j m.north h k))
+  cell_end north h k = Raised_ext (in_stripes west east south north) r.raised (λ m. ap (λ (b : Bool). one_if (both (both (leb west m.east) (leb m.east east)) b)) (before_end south north j m.north (omega (arith, h)) k))
 
 -- ---- the cells
 
 -- those up to i have added theirs
-pub record Marked (easts norths : CutList) (d : Directory) (t : List ℕ) (i : ℕ) (u : List ℕ) : Type 0 where
-  pub fits : d.n ≤ length (every_slot d.words)
-  pub raised : Raised t u (holders (cuts_by easts norths) (take i (rects_in d)))
+pub record Marked (easts norths : CutList) (slots : List Slot) (t : List ℕ) (i : ℕ) (u : List ℕ) : Type 0 where
+  pub raised : Raised t u (holders (cuts_by easts norths) (take i (rects_of slots)))
 
-pub Marked_start : {t : List ℕ} (easts norths : CutList) (d : Directory) → length d.words ≡ slot_fields * max_cells → d.n ≤ max_cells → length t ≡ table_size → Marked easts norths d t 0 t
+pub Marked_start : {t : List ℕ} (easts norths : CutList) (slots : List Slot) → length t ≡ table_size → Marked easts norths slots t 0 t
 unfolding holders holding_box
-Marked_start easts norths d l h k = record {
-  fits = omega (arith, length_slots d.words l);
+Marked_start easts norths slots k = record {
   raised = Raised_same (holders (cuts_by easts norths) []) k (λ m. sum-nil (λ (r : Rect). one_if (holds_box (cuts_by easts norths) m r)));
 }
 
-length_rects : (d : Directory) → d.n ≤ length (every_slot d.words) → length (rects_in d) ≡ d.n
-unfolding slots_in
-length_rects d h = length-map (take d.n (every_slot d.words)) rect_of ∙ length-take-le d.n (every_slot d.words) h
-
-rect_at : (d : Directory) (i : ℕ) → i < d.n → get_or (rects_in d) i (rect_of no_slot) ≡ rect_of (get_or (every_slot d.words) i no_slot)
-unfolding slots_in
-rect_at d i h = get_or-map rect_of (take d.n (every_slot d.words)) i no_slot ∙ ap rect_of (get_or-take d.n (every_slot d.words) i no_slot h)
-
 -- a cell's memory cells are those of its stripes
-pub slot_held : (easts norths : CutList) (x : Slot) {t u : List ℕ} {o p : Extent} {west east south north : ℕ}
-    → extent_of o ≡ extent_in easts x.west x.east → o ≡ Whole west east → extent_of p ≡ extent_in norths x.south x.north → p ≡ Whole south north
+pub slot_held : (easts norths : CutList) (x : Slot) {t u : List ℕ} {o p : Option (ℕ × ℕ)} {west east south north : ℕ}
+    → o ≡ extent_in easts x.west x.east → o ≡ Some (west, east) → p ≡ extent_in norths x.south x.north → p ≡ Some (south, north)
     → Raised t u (in_stripes west east south north) → RaisedIf true t u (holders (cuts_by easts norths) (rect_of x ∷ []))
 unfolding in_stripes holders holding_box sum_by holds_box cuts_in
 slot_held easts norths x {west = west} {east = east} {south = south} {north = north} f g h k q =
-    let w = means_whole (span_test (cuts_in easts) (rect_of x).easts) (stripes (cuts_in easts) (rect_of x).easts) f g in
-    let s = means_whole (span_test (cuts_in norths) (rect_of x).norths) (stripes (cuts_in norths) (rect_of x).norths) h k in
+    let w = means_whole (span_test (cuts_in easts) (rect_of x).easts) (stripe (cuts_in easts) x.west) (stripe (cuts_in easts) x.east) f g in
+    let s = means_whole (span_test (cuts_in norths) (rect_of x).norths) (stripe (cuts_in norths) x.south) (stripe (cuts_in norths) x.north) h k in
     record {
       raised = λ _. Raised_ext (holders (cuts_by easts norths) (rect_of x ∷ [])) q
           (λ m. let same : in_stripes west east south north m ≡ one_if (holds_box (cuts_by easts norths) m (rect_of x)) =
@@ -229,20 +215,18 @@ holders_last : (cuts : Cuts) (rects : List Rect) (i : ℕ) (m : Box) (x : Rect) 
 unfolding holders holding_box
 holders_last cuts rects i m x h = rw (add-one, take-suc rects i x h) (sum-append (λ (r : Rect). one_if (holds_box cuts m r)) (take i rects) (get_or rects i x ∷ []))
 
-module _ {easts norths : CutList} {d : Directory} {t u : List ℕ} {i : ℕ} (r : Marked easts norths d t i u) where
-  pub Marked_turn : {v : List ℕ} {b : Bool} (x : Slot) → i < d.n → x ≡ get_or (every_slot d.words) i no_slot
-      → RaisedIf b u v (holders (cuts_by easts norths) (rect_of x ∷ [])) → not b ≡ false → Marked easts norths d t (i + 1) v
-  Marked_turn {b = b} x more read q f = record {
-    fits = r.fits;
-    raised = Raised_then (holders (cuts_by easts norths) (take (i + 1) (rects_in d))) r.raised (q.raised (not-false b f))
-        (λ m. holders_last (cuts_by easts norths) (rects_in d) i m (rect_of no_slot) (omega (arith, length_rects d r.fits))
-        ∙ ap (λ (y : Rect). holders (cuts_by easts norths) (take i (rects_in d)) m + holders (cuts_by easts norths) (y ∷ []) m) (rect_at d i more ∙ sym (ap rect_of read)));
+module _ {easts norths : CutList} {slots : List Slot} {t u : List ℕ} {i : ℕ} (r : Marked easts norths slots t i u) where
+  pub Marked_turn : {v : List ℕ} {b : Bool} → i < length slots → RaisedIf b u v (holders (cuts_by easts norths) (rect_of (get_or slots i no_slot) ∷ [])) → b ≡ true → Marked easts norths slots t (i + 1) v
+  Marked_turn more q f = record {
+    raised = Raised_then (holders (cuts_by easts norths) (take (i + 1) (rects_of slots))) r.raised (q.raised f)
+        (λ m. holders_last (cuts_by easts norths) (rects_of slots) i m (rect_of no_slot) (omega (arith, length-map slots rect_of))
+        ∙ ap (λ (y : Rect). holders (cuts_by easts norths) (take i (rects_of slots)) m + holders (cuts_by easts norths) (y ∷ []) m) (get_or-map rect_of slots i no_slot));
   }
 
-  pub Marked_end : d.n ≤ i → RaisedIf true t u (holders (cuts_by easts norths) (rects_in d))
+  pub Marked_end : length slots ≤ i → RaisedIf true t u (holders (cuts_by easts norths) (rects_of slots))
   Marked_end h =
-      let a : take i (rects_in d) ≡ rects_in d = take_all i (rects_in d) (omega (arith, length_rects d r.fits)) in
-      record { raised = λ _. Raised_ext (holders (cuts_by easts norths) (rects_in d)) r.raised (λ m. ap (λ (l : List Rect). holders (cuts_by easts norths) l m) a) }
+      let a : take i (rects_of slots) ≡ rects_of slots = take_all i (rects_of slots) (omega (arith, length-map slots rect_of)) in
+      record { raised = λ _. Raised_ext (holders (cuts_by easts norths) (rects_of slots)) r.raised (λ m. ap (λ (l : List Rect). holders (cuts_by easts norths) l m) a) }
 
 -- ---- held once
 
@@ -277,12 +261,12 @@ rows_start table columns = record { done = all_to_zero (row_once table columns) 
 
 module _ {table : List ℕ} {columns j : ℕ} (r : RowsTo table columns j) where
   module _ {b : Bool} (said : b ≡ row_once table columns j) where
-    pub rows_fail : {rows : ℕ} → j < rows → not b ≡ true → false ≡ rows_once table columns rows
+    pub rows_fail : {rows : ℕ} → j < rows → b ≡ false → false ≡ rows_once table columns rows
     unfolding rows_once
-    rows_fail {rows} h f = sym (all_to-false rows (row_once table columns) j h (sym said ∙ not-true b f))
+    rows_fail {rows} h f = sym (all_to-false rows (row_once table columns) j h (sym said ∙ f))
 
-    pub rows_turn : not b ≡ false → RowsTo table columns (j + 1)
-    rows_turn f = record { done = rw add-one (all_to-suc j (row_once table columns) ∙ both_intro r.done (sym said ∙ not-false b f)) }
+    pub rows_turn : b ≡ true → RowsTo table columns (j + 1)
+    rows_turn f = record { done = rw add-one (all_to-suc j (row_once table columns) ∙ both_intro r.done (sym said ∙ f)) }
 
   pub rows_end : {rows : ℕ} → rows ≤ j → j ≤ rows → true ≡ rows_once table columns rows
   unfolding rows_once
@@ -324,27 +308,36 @@ cuts_pass : (c : CutList) → cuts_sound c ≡ true → RisingCuts 0 (cuts_in c)
 unfolding cuts_sound
 cuts_pass c t = let h = cuts_true (cuts_in c) (both_right (slots_test number max_cuts c.n c.at) (cuts_test (cuts_in c)) t) in (h.1, h.2)
 
-edges_pass : (easts norths : CutList) (d : Directory) → edges_sound easts norths d ≡ true → Each (WholeBoxes (cuts_by easts norths)) (rects_in d)
-unfolding edges_sound
-edges_pass easts norths d t = all-Each (edges_test (cuts_by easts norths)) (WholeBoxes (cuts_by easts norths)) (rects_in d) (edges_true (cuts_by easts norths)) t
+edges_pass : (easts norths : CutList) (rects : List Rect) → all (edges_test (cuts_by easts norths)) rects ≡ true → Each (WholeBoxes (cuts_by easts norths)) rects
+edges_pass easts norths rects t = all-Each (edges_test (cuts_by easts norths)) (WholeBoxes (cuts_by easts norths)) rects (edges_true (cuts_by easts norths)) t
 
-module _ (easts norths : CutList) (d : Directory) (east : cuts_sound easts ≡ true) (north : cuts_sound norths ≡ true) where
-  stripes_tile : edges_sound easts norths d ≡ true → tile_boxes_test (cuts_by easts norths) (rects_in d) ≡ tile_sound easts norths d
-  unfolding tile_sound
+module _ (easts norths : CutList) (slots : List Slot) (east : cuts_sound easts ≡ true) (north : cuts_sound norths ≡ true) where
+  abbrev rects : List Rect
+  rects = rects_of slots
+
+  abbrev cuts : Cuts
+  cuts = cuts_by easts norths
+
+  stripes_tile : all (edges_test cuts) rects ≡ true → tile_boxes_test cuts rects ≡ tile_test cuts rects
   stripes_tile edged =
-      tile_boxes (cuts_by easts norths) (rects_in d)
-      (by_axis (λ a. Each (λ x. x ≤ last_metre) (cuts_of a (cuts_by easts norths))) (cuts_pass easts east).1 (cuts_pass norths north).1)
-      (by_axis (λ a. RisingCuts 0 (cuts_of a (cuts_by easts norths))) (cuts_pass easts east).0 (cuts_pass norths north).0)
-      (edges_pass easts norths d edged)
+      tile_boxes cuts rects
+      (by_axis (λ a. Each (λ x. x ≤ last_metre) (cuts_of a cuts)) (cuts_pass easts east).1 (cuts_pass norths north).1)
+      (by_axis (λ a. RisingCuts 0 (cuts_of a cuts)) (cuts_pass easts east).0 (cuts_pass norths north).0)
+      (edges_pass easts norths rects edged)
 
-  pub tile_end : {t : List ℕ} {a b : Bool} → length easts.at ≡ max_cuts → length norths.at ≡ max_cuts → easts.n ≤ max_cuts → norths.n ≤ max_cuts
-      → a ≡ edges_sound easts norths d → not a ≡ false → RaisedIf a (replicate table_size 0) t (holders (cuts_by easts norths) (rects_in d))
-      → b ≡ rows_once t (easts.n + 1) (norths.n + 1) → b ≡ both (edges_sound easts norths d) (tile_sound easts norths d)
-  tile_end {t} {a} k l h g edged f r q =
+  pub tile_not : {a : Bool} → a ≡ all (edges_test cuts) rects → a ≡ false → false ≡ both (all (edges_test cuts) rects) (tile_test cuts rects)
+  tile_not edged f = sym (both_left_false (tile_test cuts rects) (sym edged ∙ f))
+
+  pub tile_end : {t : List ℕ} {a b : Bool} → length easts.at ≡ max_cuts → length norths.at ≡ max_cuts
+      → a ≡ all (edges_test cuts) rects → a ≡ true → RaisedIf a (replicate table_size 0) t (holders cuts rects)
+      → b ≡ rows_once t (easts.n + 1) (norths.n + 1) → b ≡ both (all (edges_test cuts) rects) (tile_test cuts rects)
+  tile_end {t} {a} k l edged f r q =
+      let h = cuts_count easts east in
+      let g = cuts_count norths north in
       let columns : suc (length (cuts_in easts)) ≡ easts.n + 1 = omega (arith, length_cuts easts k h) in
       let rows : suc (length (cuts_in norths)) ≡ norths.n + 1 = omega (arith, length_cuts norths l g) in
-      goes edged f
-      (q ∙ rows_held (easts.n + 1) (norths.n + 1) (omega arith) (omega arith) (r.raised (not-false a f))
-      ∙ ap₂ (λ (a b : ℕ). all_to b (λ j. all_to a (λ i. eqb (holders (cuts_by easts norths) (rects_in d) (record { east = i; north = j })) 1))) (sym columns) (sym rows)
-      ∙ sym (boxes_rows (cuts_by easts norths) (rects_in d))
-      ∙ stripes_tile (passed_true edged f))
+      q ∙ rows_held (easts.n + 1) (norths.n + 1) (omega arith) (omega arith) (r.raised f)
+      ∙ ap₂ (λ (a b : ℕ). all_to b (λ j. all_to a (λ i. eqb (holders cuts rects (record { east = i; north = j })) 1))) (sym columns) (sym rows)
+      ∙ sym (boxes_rows cuts rects)
+      ∙ stripes_tile (sym edged ∙ f)
+      ∙ sym (true-both (tile_test cuts rects) (sym edged ∙ f))

@@ -63,18 +63,18 @@ module _ (b : List ℕ) (h : Header) (head : h ≡ header_of b) where
   pub free_has_entry : (h.used ≡ head_bytes → ⊥) → false ≡ is_page kind_free no_cell b
   free_has_entry f = by_cases (is_page kind_free no_cell b) (λ t. absurd (f (ap (λ (x : Header). x.used) head ∙ free_used b t))) sym
 
-  pub free_other_kind : (h.kind ≡ kind_free → ⊥) → false ≡ is_page kind_free no_cell b
+  pub free_other_kind : {n : ℕ} → n ≡ kind_free → (h.kind ≡ n → ⊥) → false ≡ is_page kind_free no_cell b
   unfolding is_page
-  free_other_kind f = sym (both_right_false _ (both_left_false _ (ne_eqb (kind b) kind_free (λ z. f (ap (λ (x : Header). x.kind) head ∙ z)))))
+  free_other_kind e f = sym (both_right_false _ (both_left_false _ (ne_eqb (kind b) kind_free (λ z. f (ap (λ (x : Header). x.kind) head ∙ z ∙ sym e)))))
 
   pub free_of_cell : (h.cell ≡ no_cell → ⊥) → false ≡ is_page kind_free no_cell b
   unfolding is_page
   free_of_cell f = sym (both_right_false _ (both_right_false _ (ne_eqb (cell b) no_cell (λ z. f (ap (λ (x : Header). x.cell) head ∙ z)))))
 
-  pub free_tested : length b ≡ page_bytes → h.used ≡ head_bytes → h.kind ≡ kind_free → h.cell ≡ no_cell → {s : ℕ} → s ≡ top (drop head_bytes b) → eqb s 0 ≡ is_page kind_free no_cell b
-  free_tested l u k c e =
+  pub free_tested : length b ≡ page_bytes → h.used ≡ head_bytes → {n : ℕ} → n ≡ kind_free → h.kind ≡ n → h.cell ≡ no_cell → {s : ℕ} → s ≡ top (drop head_bytes b) → eqb s 0 ≡ is_page kind_free no_cell b
+  free_tested l u f k c e =
       ap (λ (x : ℕ). eqb x 0) e
-      ∙ free_zeros b l (sym (ap (λ (x : Header). x.used) head) ∙ u) (sym (ap (λ (x : Header). x.kind) head) ∙ k) (sym (ap (λ (x : Header). x.cell) head) ∙ c)
+      ∙ free_zeros b l (sym (ap (λ (x : Header). x.used) head) ∙ u) (sym (ap (λ (x : Header). x.kind) head) ∙ k ∙ f) (sym (ap (λ (x : Header). x.cell) head) ∙ c)
 
 -- ---- full_or_last
 

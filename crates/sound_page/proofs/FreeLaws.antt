@@ -1,7 +1,7 @@
 -- A free page: it has room for no entry, so that the zero bytes are all that is left to test.
 use mathlib.Core.Bool.{true}
 use mathlib.Core.List.{List}
-use mathlib.Core.Path.{◌≡◌, ap, ◌∙◌}
+use mathlib.Core.Path.{◌≡◌, sym, ap, ◌∙◌}
 use Prim.Native.Nat.{ℕ, ◌+◌, ◌*◌}
 use native.Mathlib.Omega.{arith}
 use lib.Dec.{eqb}
@@ -12,10 +12,13 @@ use Rattle.lists.specs.Parts.{tab}
 use Rattle.lists.specs.Tests.{is_some}
 use Rattle.lists.proofs.TestsLaws.{both_left, both_right, both-true, true-both}
 use Rattle.page.specs.Page.{page_bytes, head_bytes, entry_bytes, kind_free, room_of, used, kind, cell, count, entries}
-use Rattle.page_layout.specs.Layout.{climb, top, laid_out}
+use Rattle.page_layout.specs.Layout.{kind_fits, climb, top, laid_out}
 use Rattle.page_layout.proofs.LayoutLaws.{climb_none}
-use Rattle.page_layout.proofs.TestLaws.{fits_free}
+use Rattle.page_layout.proofs.TestLaws.{fits_numbered}
 use Rattle.sound_page.specs.PageTest.{is_page}
+
+fits_free : (k n : ℕ) → k ≡ kind_free → eqb n 0 ≡ kind_fits k n
+fits_free k n e = fits_numbered kind_free n ∙ ap (λ (x : ℕ). kind_fits x n) (sym e)
 
 -- of kind free it has room for no entry
 pub free_used : (b : List ℕ) → is_page kind_free no_cell b ≡ true → used b ≡ head_bytes

@@ -1,5 +1,4 @@
 pub mod ChainLaws
-pub mod CodeLaws
 pub mod MarksLaws
 pub mod PageLaws
 pub mod SoundLaws

@@ -1,20 +1,22 @@
 -- Marks on pages: what is marked, counted page by page, so that walks after one another are sums.
-use mathlib.Core.Bool.{Bool, true, false, not}
+use mathlib.Core.Bool.{Bool, true, false, not, beq}
 use mathlib.Core.List.{List, [], ◌∷◌}
-use mathlib.Core.Path.{◌≡◌, refl, ap, ◌∙◌}
+use mathlib.Core.Path.{◌≡◌, refl, sym, ap, ◌∙◌}
 use Prim.Native.Nat.{ℕ, ◌+◌, ◌≤◌, ◌<◌}
 use native.Mathlib.Nat.{add-zero}
 use native.Mathlib.Omega.{arith}
 use lib.Dec.{eqb, ltb}
-use lib.ListN.{length, get_or, set, length-set, length-replicate, get_or-replicate, get_or-eq_default}
+use lib.Pointwise.{pointwise}
+use lib.ListN.{length, replicate, get_or, set, length-set, length-replicate, get_or-replicate, get_or-eq_default}
 use lib.Seq.{get_or-set_same, get_or-set_other}
-use borrow.Author.Tests.{eqb-true, eqb-false, eq-eqb, lt-ltb, ltb-true, ltb-false}
+use borrow.Author.Tests.{eqb-true, eqb-false, eq-eqb, le-ltb, lt-ltb, ltb-true, ltb-false}
 use Rattle.terms.specs.Terms.{pages}
 use Rattle.lists.specs.Sums.{count}
-use Rattle.lists.specs.Tests.{one_if, all}
+use Rattle.lists.specs.Tests.{one_if, both, all}
 use Rattle.lists.proofs.Cases.{by_cases}
 use Rattle.lists.proofs.SumsLaws.{sum-nil, sum-cons, count_head, length_below}
 use Rattle.lists.proofs.TestsLaws.{not-true, both_left, both_right, both_intro, all-Each, Each-all, Each-get_or, get_or-Each}
+use Rattle.sound_page.proofs.CodeLaws.{both_no, both_next}
 use Rattle.sound_pages.specs.Walks.{Walk, no_marks, unmarked}
 
 -- m' has the marks of m, and f q marks more on each q; a page past the last counts as unmarked, so f is 0 there
@@ -25,6 +27,14 @@ pub record Marked (m : List Bool) (f : ℕ → ℕ) (m' : List Bool) : Type 0 wh
 pub unmarked_bounds : (m : List Bool) (p : ℕ) → unmarked m p ≡ true → (p < pages) × (get_or m p false ≡ false)
 unfolding unmarked
 unmarked_bounds m p t = (ltb-true p pages (both_left _ _ t), not-true _ (both_right _ _ t))
+
+pub past_pages : (m : List Bool) (p : ℕ) → pages ≤ p → ltb p pages ≡ unmarked m p
+unfolding unmarked
+past_pages m p h = le-ltb p pages h ∙ both_no _ (le-ltb p pages h)
+
+pub in_pages : (m : List Bool) (p : ℕ) → p < pages → not (get_or m p false) ≡ unmarked m p
+unfolding unmarked
+in_pages m p h = both_next _ (lt-ltb p pages h)
 
 pub bounds_unmarked : (m : List Bool) (p : ℕ) → p < pages → get_or m p false ≡ false → unmarked m p ≡ true
 unfolding unmarked
@@ -95,6 +105,16 @@ all_marked m q l t =
     by_cases (ltb q pages)
     (λ u. rw (u, Each-get_or (λ x. x ≡ true) m q false (all-Each (λ x. x) (λ x. x ≡ true) m (λ x e. e) t) (omega (arith, ltb-true q pages u))))
     (λ u. rw (u, get_or-eq_default m false {n = q} (omega (arith, ltb-false q pages u))))
+
+-- the list is one of so many marks
+all_same_as : (m : List Bool) → pointwise beq m (replicate (length m) true) ≡ all (λ x. x) m
+unfolding all both
+all_same_as [] = refl
+all_same_as (true ∷ m) = all_same_as m
+all_same_as (false ∷ m) = refl
+
+pub all_same : (m : List Bool) → length m ≡ pages → pointwise beq m (replicate pages true) ≡ all (λ x. x) m
+all_same m l = ap (λ n. pointwise beq m (replicate n true)) (sym l) ∙ all_same_as m
 
 one_true : (a : Bool) → one_if a ≡ 1 → a ≡ true
 one_true true e = refl

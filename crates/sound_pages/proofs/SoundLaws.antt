@@ -23,7 +23,7 @@ use Rattle.rules.specs.Store.{Cell, pages_for}
 use Rattle.desk.specs.declared.Slot.{Slot}
 use Rattle.desk.specs.Held.{Directory}
 use Rattle.desk.specs.Layout.{slot_of, At, cell_leaves, cells_leaves}
-use Rattle.desk.specs.Views.{every_slot, edges_of}
+use Rattle.desk.specs.Views.{edges_of}
 use Rattle.sound_pages.specs.PagesSound.{CellSound, PagesSound}
 use Rattle.sound_pages.specs.Walks.{Walk, no_marks, passed, failed, slot_test, slots_test, front_test, rest_test, pages_test}
 use Rattle.sound_pages.proofs.MarksLaws.{Marked, Room, Passes, mark_none, mark_then, Room-length, length-no_marks, no_mark, all_marked, marked_all}
@@ -118,10 +118,10 @@ module _ (highest : ℕ) (b : List ℕ) where
 -- ---- the theorem
 
 -- the first slots are no more than there are
-pub sound_few : (highest : ℕ) (b : List ℕ) (d : Directory) (free : ℕ) → length (every_slot d.words) ≡ max_cells → PagesSound highest b d free → d.n ≤ max_cells
-sound_few highest b d free l s = omega (arith, s.number, length-take d.n (every_slot d.words), ap length s.shown, length-map s.cells slot_of)
+pub sound_few : (highest : ℕ) (b : List ℕ) (d : Directory) (free : ℕ) → length d.slots ≡ max_cells → PagesSound highest b d free → d.n ≤ max_cells
+sound_few highest b d free l s = omega (arith, s.number, length-take d.n d.slots, ap length s.shown, length-map s.cells slot_of)
 
-module _ (highest : ℕ) (b : List ℕ) (d : Directory) (free : ℕ) (small : Bytes b) (slots : length (every_slot d.words) ≡ max_cells) where
+module _ (highest : ℕ) (b : List ℕ) (d : Directory) (free : ℕ) (small : Bytes b) (slots : length d.slots ≡ max_cells) where
   pub test_sound : pages_test highest b d free ≡ true → PagesSound highest b d free
   unfolding pages_test rest_test front_test
   test_sound t =
@@ -136,7 +136,7 @@ module _ (highest : ℕ) (b : List ℕ) (d : Directory) (free : ℕ) (small : By
         cells = c.cells;
         free_chain = f.chain;
         size = whole;
-        number = omega (arith, length-take d.n (every_slot d.words), ap length c.shown, length-map c.cells slot_of);
+        number = omega (arith, length-take d.n d.slots, ap length c.shown, length-map c.cells slot_of);
         shown = c.shown;
         front = f.front;
         leaf = c.laid;

@@ -9,8 +9,7 @@ use Rattle.lists.specs.Tests.{Each}
 use Rattle.lists.proofs.TestsLaws.{Each_zip, Each-append, Each_split}
 use Rattle.rules.specs.Store.{Cell, Store}
 use Rattle.rules.specs.WellFormed.{chains, GoodCell, WellFormed, PagesOnce}
-use Rattle.desk.specs.Held.{Directory, ledger_grid}
-use Rattle.desk.specs.Held.{Ledger}
+use Rattle.desk.specs.Held.{Directory, ledger_grid, Ledger}
 use Rattle.desk.specs.Layout.{directory_of, grid_of, ledger_of, At, cells_leaves, free_leaves, store_leaves, Laid}
 use Rattle.desk.specs.Sound.{SoundLedger}
 use Rattle.desk.proofs.UniqueLaws.{take_slots}

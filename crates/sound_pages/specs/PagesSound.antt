@@ -3,7 +3,6 @@
 use Rattle.std.specs.Prelude.{true, List, ◌++◌, map, ◌≡◌, ℕ, ◌≤◌, ltb, length, take}
 use Rattle.terms.specs.Terms.{max_radio, pages, no_page}
 use Rattle.lists.specs.Chains.{chain_head}
-use Rattle.desk.specs.Views.{every_slot}
 use Rattle.lists.specs.Rows.{Rising, UpTo}
 use Rattle.lists.specs.Sums.{concat, count}
 use Rattle.lists.specs.Tests.{Each, one_if}
@@ -32,7 +31,7 @@ pub record PagesSound (highest : ℕ) (bytes : List ℕ) (directory : Directory)
   pub size : length bytes ≡ buffer_bytes
   -- the directory's slots are those of the cells, and the front is that of the free chain
   pub number : directory.n ≡ length cells
-  pub shown : take directory.n (every_slot directory.words) ≡ map slot_of cells
+  pub shown : take directory.n directory.slots ≡ map slot_of cells
   pub front : free ≡ chain_head no_page free_chain
   -- "laid out as above"
   pub leaf : Each (At bytes) (cells_leaves cells)

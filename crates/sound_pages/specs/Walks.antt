@@ -1,16 +1,13 @@
 -- The test as the program runs it: chains followed by next page, with a mark on each page met.
-use Rattle.std.specs.Prelude.{Bool, true, false, not, cond, List, [], ◌∷◌, ℕ, zero, suc, eqb, leb, ltb, length, get_or, set, take, replicate}
+use Rattle.std.specs.Prelude.{Bool, true, false, not, cond, List, [], ◌∷◌, ℕ, zero, suc, eqb, leb, ltb, length, get_or, set, take, replicate, Option, None, Some}
 use Rattle.terms.specs.Terms.{pages, no_page, no_cell}
 use Rattle.lists.specs.Tests.{both, all}
-use Rattle.desk.specs.Views.{every_slot}
 use Rattle.page.specs.Page.{kind_free, kind_first, kind_further, next, entries}
 use Rattle.page.specs.Buffer.{buffer_bytes, page_at}
 use Rattle.rules.specs.Limits.{max_cells}
 use Rattle.desk.specs.declared.Slot.{Slot}
 use Rattle.desk.specs.Held.{Directory}
 use Rattle.sound_page.specs.PageTest.{is_page, last_radio, page_ok}
-use Rattle.sound_pages.specs.declared.Run.{Run}
-use Rattle.sound_pages.specs.declared.Run.TheVariants.{To, Broken}
 
 -- ---- marks
 
@@ -64,14 +61,14 @@ free_test (suc fuel) b m p =
     (cond (is_page kind_free no_cell (page_at b p)) (free_test fuel b (set m p true) (next (page_at b p))) (failed m))
     (failed m))
 
--- what is still to be tested after a run of the free chain, and how many pages the walk may still meet
-abbrev pub after_run : List ℕ → List Bool → Run → Walk
-after_run b m (To p fuel) = free_test fuel b m p
-after_run b m Broken = failed m
+-- what is still to be tested after a run of the free chain, which ends at a page or fails, and how many pages the walk may still meet
+abbrev pub after_run : List ℕ → List Bool → Option (ℕ × ℕ) → Walk
+after_run b m (Some (p, fuel)) = free_test fuel b m p
+after_run b m None = failed m
 
-abbrev pub left_by : Run → ℕ
-left_by (To p fuel) = fuel
-left_by Broken = 0
+abbrev pub left_by : Option (ℕ × ℕ) → ℕ
+left_by (Some (p, fuel)) = fuel
+left_by None = 0
 
 -- the free chain from its front
 unfoldable pub front_test : List ℕ → List Bool → ℕ → Walk
@@ -83,4 +80,4 @@ rest_test b free w = both w.ok (both (front_test b w.marks free).ok (all (λ x. 
 
 unfoldable pub pages_test : ℕ → List ℕ → Directory → ℕ → Bool
 pages_test highest b d free =
-    both (eqb (length b) buffer_bytes) (both (leb d.n max_cells) (rest_test b free (slots_test highest b no_marks (take d.n (every_slot d.words)))))
+    both (eqb (length b) buffer_bytes) (both (leb d.n max_cells) (rest_test b free (slots_test highest b no_marks (take d.n d.slots))))

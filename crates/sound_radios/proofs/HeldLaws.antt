@@ -2,7 +2,7 @@
 use mathlib.Core.Path.{◌≡◌, refl, sym, ap, ◌∙◌, subst}
 use mathlib.Core.Bool.{cond}
 use mathlib.Core.List.{List, [], ◌∷◌}
-use mathlib.Core.Option.{Option, none, some}
+use Rattle.std.specs.Prelude.{Option, None, Some}
 use Prim.Native.Nat.{ℕ, ◌+◌, ◌%◌, ◌<◌}
 use native.Mathlib.Omega.{arith}
 use lib.Dec.{eqb}
@@ -68,8 +68,8 @@ module _ {Val : Type 0} where
 
   -- the number of the row found, or what was there
   abbrev pub found_or : (Row Val → ℕ) → ℕ → ℕ → Option Val → ℕ
-  found_or v q n none = n
-  found_or v q n (some x) = v (record { key = q; val = x })
+  found_or v q n None = n
+  found_or v q n (Some x) = v (record { key = q; val = x })
 
   pub written_found : (v : Row Val → ℕ) (t : List ℕ) (b : ℕ) (l : Rows Val) (q : ℕ) → Rising b l → Each (λ x. x.key < length t) l
       → get_or (written v t l) q 0 ≡ found_or v q (get_or t q 0) (find l q)

@@ -15,9 +15,7 @@ use Rattle.lists.proofs.TestsLaws.{all-Each}
 use Rattle.rules.specs.Limits.{max_cells, full_memory}
 use Rattle.desk.specs.Held.{Ledger, ledger_grid, ledger_waiting, ledger_memo, ledger_on}
 use Rattle.desk.specs.Layout.{line_slots, directory_of, grid_of, waiting_of, memo_of, on_of, ledger_of}
-use Rattle.desk.specs.Views.{every_report, every_slot, lines_in, radios_of, slots_in}
-use Rattle.desk.proofs.SlotsLaws.{length_slots}
-use Rattle.desk.proofs.LinesLaws.{length-lines_in}
+use Rattle.desk.specs.Views.{every_report, radios_of, slots_in}
 use Rattle.memo.specs.Memo.{lines_of}
 use Rattle.sound_clauses.proofs.RadiosLaws.{on_true, memo_true}
 use Rattle.sound_clauses.proofs.WaitingLaws.{waiting_true}
@@ -68,8 +66,8 @@ module _ (b : List â„•) (d : Ledger) (shape : Shaped d) (sound : desk_sound d â‰
       let o = on_true (radios_of (ledger_on d)) t.on in
       let w = waiting_true (reports_of (ledger_waiting d)) t.waiting in
       record {
-        few_cells = within cell_of (ledger_grid d).cells.n max_cells (every_slot d.cells) (length_slots d.cells shape.cells) counts.0;
-        few_lines = within _ (ledger_memo d).n line_slots (lines_in d.memo) (length-lines_in line_slots d.memo shape.memo) counts.1;
+        few_cells = within cell_of (ledger_grid d).cells.n max_cells d.cells shape.cells counts.0;
+        few_lines = within _ (ledger_memo d).n line_slots d.memo shape.memo counts.1;
         few_on = within _ (ledger_on d).n max_on d.on shape.on counts.2;
         few_waiting = within _ (ledger_waiting d).n full_memory (every_report d.waiting) (every_size d.waiting shape.waiting) counts.3;
         waits = sym counts.3;
@@ -82,5 +80,5 @@ module _ (b : List â„•) (d : Ledger) (shape : Shaped d) (sound : desk_sound d â‰
         radios_rise = o.1;
         on_once = Î» q. one_row q (radios_of (ledger_on d)) o.1;
         entries = radios_read sheets;
-        once = once_read sheets (within cell_of (ledger_grid d).cells.n max_cells (every_slot d.cells) (length_slots d.cells shape.cells) counts.0);
+        once = once_read sheets (within cell_of (ledger_grid d).cells.n max_cells d.cells shape.cells counts.0);
       }

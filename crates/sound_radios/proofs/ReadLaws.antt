@@ -2,7 +2,7 @@
 use mathlib.Core.Path.{◌≡◌, refl, sym, ap, ap₂, ◌∙◌}
 use mathlib.Core.Bool.{true}
 use mathlib.Core.List.{List, [], ◌∷◌, map}
-use mathlib.Core.Option.{Option, none, some}
+use Rattle.std.specs.Prelude.{Option, None, Some}
 use Prim.Native.Nat.{ℕ, ◌≤◌}
 use native.Mathlib.Omega.{arith}
 use Rattle.terms.specs.Terms.{max_radio, no_page}
@@ -41,8 +41,8 @@ pub one_row : {Val : Type 0} (q : ℕ) (l : Rows Val) → Rising 0 l → keyed q
 one_row {Val} q l r = rw (passing_found (λ _. true) 0 q l r) (few (find l q))
   where
     few : (o : Option Val) → count_found (λ _ _. 1) q o ≤ 1
-    few none = omega arith
-    few (some v) = omega arith
+    few None = omega arith
+    few (Some v) = omega arith
 
 module _ {highest : ℕ} {b : List ℕ} {d : Directory} {free : ℕ} (x : PagesSound highest b d free) where
   -- a store of these cells and this free chain alone

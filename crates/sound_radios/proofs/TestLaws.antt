@@ -3,7 +3,7 @@ use mathlib.Core.Path.{◌≡◌, refl, sym, ap, ◌∙◌, fun_ext}
 use mathlib.Core.Bool.{Bool, true, not, cond}
 use mathlib.Core.List.{List}
 use mathlib.Core.Logic.{◌≢◌}
-use mathlib.Core.Option.{Option, none, some}
+use Rattle.std.specs.Prelude.{Option, None, Some}
 use Prim.Native.Nat.{ℕ, ◌+◌, ◌-◌, ◌*◌, ◌%◌, ◌≤◌, ◌<◌, min}
 use native.Mathlib.Omega.{arith}
 use lib.Dec.{eqb, ltb}
@@ -71,8 +71,8 @@ unfolding on_at
 on_off on rise heard {z} blank q = rw (written_found one_off z 0 on q rise (in_table z on blank.size heard), blank.zeros q, passing_found (λ _. true) 0 q on rise) (here (find on q))
   where
     here : (o : Option (Unit {0})) → found_or one_off q 0 o ≡ (field_end - 1) * count_found (λ _ _. 1) q o
-    here none = refl
-    here (some x) = refl
+    here None = refl
+    here (Some x) = refl
 
 -- what goes round to 0 with c takes it off
 round_off : (a c s : ℕ) → (s + c) % field_end ≡ 0 → (a + c + s) % field_end ≡ a % field_end
@@ -84,13 +84,13 @@ module _ (memo : Rows Line) (rise : Rising 0 memo) (ends : UpTo max_radio memo) 
   missed_found q = sum_at_key (λ l. cond (eqb q l.key) l.val.missed 0) 0 q memo (λ l h. rw (ne_eqb q l.key (λ e. h (sym e)))) rise ∙ here (find memo q)
     where
       here : (o : Option Line) → count_found (λ k l. cond (eqb q k) l.missed 0) q o ≡ count_found (λ _ l. l.missed) q o
-      here none = refl
-      here (some l) = rw (eq-eqb q q refl)
+      here None = refl
+      here (Some l) = rw (eq-eqb q q refl)
 
   -- a line's missed count is taken off
   off_found : (q : ℕ) (o : Option Line) → (count_found (λ k l. share missed_off q (record { key = k; val = l })) q o + half * min (count_found (λ _ l. l.missed) q o) (half - 1)) % field_end ≡ 0
-  off_found q none = refl
-  off_found q (some l) = rw (eq-eqb q q refl) (omega arith)
+  off_found q None = refl
+  off_found q (Some l) = rw (eq-eqb q q refl) (omega arith)
 
   off_missed : (q : ℕ) → (sum_by (share missed_off q) memo + half * min (missed_at q memo) (half - 1)) % field_end ≡ 0
   off_missed q =
@@ -146,9 +146,9 @@ module _ (memo : Rows Line) (rise : Rising 0 memo) (ends : UpTo max_radio memo) 
         Each-all (line_test memo es) (λ l. (0 < l.val.missed) × (stale_at memo l.key es ≡ l.val.missed)) memo
         (λ l c. both_intro (lt-ltb 0 l.val.missed c.0) (eq-eqb (stale_at memo l.key es) l.val.missed c.1))
         (Each_zip (λ l. 0 < l.val.missed) (λ l. stale_at memo l.key es ≡ l.val.missed) _ memo (λ l a b. (a, b)) counted
-        (Each_zip (λ l. l.key ≤ max_radio) (λ l. find memo l.key ≡ some l.val) (λ l. stale_at memo l.key es ≡ l.val.missed) memo
+        (Each_zip (λ l. l.key ≤ max_radio) (λ l. find memo l.key ≡ Some l.val) (λ l. stale_at memo l.key es ≡ l.val.missed) memo
         (λ l a f. h l.key (omega arith) ∙ missed_found l.key ∙ ap (count_found (λ _ k. k.missed) l.key) f) ends
-        (find-Each (λ r l. find memo r ≡ some l) 0 memo rise (λ r l f. f))))
+        (find-Each (λ r l. find memo r ≡ Some l) 0 memo rise (λ r l f. f))))
 
 -- ---- the table is settled exactly if both tests pass
 

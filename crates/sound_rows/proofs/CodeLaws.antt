@@ -1,37 +1,36 @@
 -- Radios on, waiting reports and memo lines: what the code's tests come to.
 use mathlib.Core.Path.{◌≡◌, refl, sym, ap, ap₂, ◌∙◌}
-use mathlib.Core.Bool.{Bool, true, false, not, cond}
+use mathlib.Core.Bool.{Bool, true, false, cond, ◌&&◌}
 use mathlib.Core.List.{List, map}
 use mathlib.Core.Logic.{◌≢◌}
-use Prim.Native.Nat.{ℕ, ◌-◌, ◌*◌, ◌≤◌, ◌<◌}
+use Prim.Native.Nat.{ℕ, ◌+◌, ◌-◌, ◌≤◌, ◌<◌}
 use native.Mathlib.Omega.{arith}
 use lib.Dec.{eqb, ltb}
-use lib.ListN.{length, take, length-map}
+use lib.ListN.{length, take, drop, length-map}
 use borrow.Author.Tests.{lt-ltb, le-ltb, le-leb, eq-eqb, ne_eqb}
 use Rattle.terms.specs.Terms.{max_radio, max_on}
 use Rattle.lists.specs.Rows.{Row}
-use Rattle.lists.specs.Sums.{sum_by}
 use Rattle.lists.specs.Tests.{both, either, all}
+use Rattle.lists.proofs.Cases.{by_cases}
 use Rattle.lists.proofs.TestsLaws.{both_left_false, both_right_false}
 use Rattle.rules.specs.Limits.{last_metre, full_memory}
 use Rattle.rules.specs.Store.{Line as StoreLine}
 use Rattle.desk.specs.declared.Report.{Report}
 use Rattle.desk.specs.Held.{Memo, On, Waiting}
 use Rattle.desk.specs.declared.Line.{Line}
-use Rattle.desk.specs.Layout.{line_slots, line_fields, fields_of}
-use Rattle.desk.specs.Views.{every_report, lines_in, radio_row, radios_of}
-use Rattle.desk.proofs.LinesLaws.{words_lines}
-use Rattle.memo.specs.Memo.{last_of, row_of, lines_of}
+use Rattle.desk.specs.Layout.{line_slots}
+use Rattle.desk.specs.Views.{every_report, radio_row, radios_of, last_of}
+use Rattle.memo.specs.Memo.{row_of, lines_of}
 use Rattle.sound_clauses.specs.Loops.{rises_to, keys}
 use Rattle.sound_clauses.specs.Grid.{place_test}
 use Rattle.sound_clauses.specs.Radios.{on_test, memo_test, last_test, lasts_test}
 use Rattle.sound_clauses.proofs.LoopsLaws.{all-both}
-use Rattle.sound_directory.specs.Sound.{weighs, number}
+use Rattle.sound_directory.specs.Sound.{weighs, slots_test, number, row_sound}
 use Rattle.lists.proofs.MapLaws.{map-map, map_same}
 use Rattle.lists.proofs.SlotsLaws.{true-both, all-map, few_used}
-use Rattle.sound_directory.proofs.LoopLaws.{fields_rest}
-use Rattle.sound_directory.proofs.SlotLaws.{slots_long, slots_unclear, slots_clear}
-use Rattle.sound_rows.specs.Sound.{on_sound, report_weight, reports_test, waiting_sound, line_weight, line_marked, missed_test, line_test, memo_sound}
+use Rattle.sound_directory.proofs.LoopLaws.{unused_rest, field_unused}
+use Rattle.sound_directory.proofs.SlotLaws.{slots_long, slots_unclear, slots_clear, slots_count}
+use Rattle.sound_rows.specs.Sound.{on_sound, report_weight, reports_test, waiting_sound, line_weight, line_marked, missed_test, line_test, lines_test, memo_sound}
 use Rattle.sound_rows.proofs.ClimbLaws.{climbs}
 
 -- ---- who is on
@@ -43,23 +42,21 @@ module _ (on : On) where
   abbrev pub heard : List ℕ
   heard = take on.n on.radios
 
-  pub on_long : max_on < on.n → false ≡ on_sound on
-  unfolding on_sound
-  on_long h = sym (both_left_false (on_test (radios_of on)) (slots_long number max_on on.n on.radios h))
-
-  pub on_unclear : {b : Bool} → b ≡ eqb (weighs number on.n on.radios) 0 → not b ≡ true → false ≡ on_sound on
-  unfolding on_sound
-  on_unclear e f = sym (both_left_false (on_test (radios_of on)) (slots_unclear number max_on on.n on.radios e f))
-
+  -- what is tested of the radios in use, where the others are zero
   on_used : on.n ≤ max_on → on_test (radios_of on) ≡ rises_to max_radio 0 heard
   unfolding on_test radios_of
   on_used h =
       true-both (rises_to max_radio 0 (keys (map radio_row heard))) (le-leb (length (map radio_row heard)) max_on (rw (length-map heard radio_row) (few_used on.n max_on on.radios h)))
       ∙ ap (rises_to max_radio 0) (keys_radios heard)
 
-  pub on_rise : {b r : Bool} → on.n ≤ max_on → b ≡ eqb (weighs number on.n on.radios) 0 → not b ≡ false → r ≡ rises_to max_radio 0 (take on.n on.radios) → r ≡ on_sound on
-  unfolding on_sound
-  on_rise h e f q = q ∙ sym (on_used h) ∙ sym (true-both (on_test (radios_of on)) (slots_clear number max_on on.n on.radios h e f))
+  pub on_row : length on.radios ≡ max_on → {r : Bool} → r ≡ row_sound max_radio (length on.radios) on.n on.radios → r ≡ on_sound on
+  unfolding row_sound on_sound
+  on_row l e =
+      e
+      ∙ ap (λ (k : ℕ). row_sound max_radio k on.n on.radios) l
+      ∙ by_cases (slots_test number max_on on.n on.radios)
+      (λ t. ap (both (slots_test number max_on on.n on.radios)) (sym (on_used (slots_count number max_on on.n on.radios t))))
+      (λ t. both_left_false _ t ∙ sym (both_left_false _ t))
 
 -- ---- waiting reports
 
@@ -72,11 +69,11 @@ module _ (highest : ℕ) (w : Waiting) where
   waiting_long h = sym (both_left_false (reports_test highest w) (slots_long report_weight (full_memory - 1) w.n (every_report w.words) h))
 
   module _ {b : Bool} (said : b ≡ eqb (weighs report_weight w.n (every_report w.words)) 0) where
-    pub waiting_unclear : not b ≡ true → false ≡ waiting_sound highest w
+    pub waiting_unclear : b ≡ false → false ≡ waiting_sound highest w
     unfolding waiting_sound
     waiting_unclear f = sym (both_left_false (reports_test highest w) (slots_unclear report_weight (full_memory - 1) w.n (every_report w.words) said f))
 
-    pub waiting_tested : {r : Bool} → w.n ≤ full_memory - 1 → not b ≡ false → r ≡ reports_test highest w → r ≡ waiting_sound highest w
+    pub waiting_tested : {r : Bool} → w.n ≤ full_memory - 1 → b ≡ true → r ≡ reports_test highest w → r ≡ waiting_sound highest w
     unfolding waiting_sound
     waiting_tested h f q = q ∙ sym (true-both (reports_test highest w) (slots_clear report_weight (full_memory - 1) w.n (every_report w.words) h said f))
 
@@ -95,7 +92,7 @@ module _ (x : Line) where
   unfolding both either
   line_unmarked e f = rw (ne_eqb x.placed 1 e, ne_eqb x.placed 0 f)
 
-  pub line_east : x.placed ≡ 0 → x.east ≢ 0 → false ≡ line_test x
+  pub line_east : x.placed ≡ 0 → x.east ≢ 0 → eqb x.east 0 ≡ line_test x
   unfolding both either
   line_east e f = rw (ne_eqb x.placed 1 (omega arith), eq-eqb x.placed 0 e, ne_eqb x.east 0 f)
 
@@ -107,18 +104,19 @@ module _ (x : Line) where
       same true = refl
       same false = refl
 
-line_heavy : (x : Line) → sum_by number (fields_of x) ≡ line_weight x
-unfolding sum_by
-line_heavy x = omega arith
+-- a line is as an unused one just if it weighs nothing
+pub line_unused : (x : Line) → (eqb x.radio 0 && (eqb x.missed 0 && (eqb x.placed 0 && (eqb x.east 0 && eqb x.north 0)))) ≡ eqb (line_weight x) 0
+line_unused x =
+    let same : x.radio + (x.missed + (x.placed + (x.east + x.north))) ≡ line_weight x = omega arith in
+    field_unused x.radio _ (field_unused x.missed _ (field_unused x.placed _ (field_unused x.east x.north refl))) ∙ ap (λ (k : ℕ). eqb k 0) same
 
--- the array's numbers from a line on weigh what its lines from there on weigh
-rest_weighs : (i : ℕ) (ws : List ℕ) → length ws ≡ line_fields * line_slots → weighs number (line_fields * i) ws ≡ weighs line_weight i (lines_in ws)
-rest_weighs i ws h =
-    ap (weighs number (line_fields * i)) (sym (words_lines line_slots ws h)) ∙ fields_rest fields_of line_weight line_fields (λ x. refl) line_heavy i (lines_in ws)
+pub lines_climb : (lines : List Line) {r : Bool} → r ≡ climbs (λ x. x.radio) line_test 0 lines → r ≡ lines_test lines
+unfolding climbs lines_test
+lines_climb lines e = e
 
 module _ (m : Memo) where
   abbrev pub noted : List Line
-  noted = take m.n (lines_in m.words)
+  noted = take m.n m.lines
 
   abbrev pub lines_rest : Bool
   lines_rest = both (all line_marked noted) (both (missed_test (lines_of m)) (lasts_test (lines_of m)))
@@ -128,10 +126,10 @@ module _ (m : Memo) where
 
   pub memo_long : line_slots < m.n → false ≡ memo_sound m
   unfolding memo_sound
-  memo_long h = sym (both_left_false lines_ok (slots_long line_weight line_slots m.n (lines_in m.words) h))
+  memo_long h = sym (both_left_false lines_ok (slots_long line_weight line_slots m.n m.lines h))
 
-  memo_used : climbs (λ x. x.radio) line_test 0 noted ≡ lines_ok
-  unfolding climbs memo_test missed_test lasts_test lines_of
+  memo_used : lines_test noted ≡ lines_ok
+  unfolding lines_test memo_test missed_test lasts_test lines_of
   memo_used =
       ap₂ both
       (ap (rises_to max_radio 0) (sym (map-map (λ x. x.key) row_of noted)))
@@ -139,14 +137,14 @@ module _ (m : Memo) where
       ∙ ap (both (all line_marked noted)) (all-both (λ x. ltb 0 x.missed) (λ x. last_test (last_of x)) noted
       ∙ ap₂ both (sym (all-map (λ (x : Row StoreLine). ltb 0 x.val.missed) row_of noted)) (sym (all-map (λ (x : Row StoreLine). last_test x.val.last) row_of noted))))
 
-  module _ (size : length m.words ≡ line_fields * line_slots) {k : ℕ} (from : k ≡ line_fields * m.n) {b : Bool} (said : b ≡ eqb (weighs number k m.words) 0) where
-    cleared : b ≡ eqb (weighs line_weight m.n (lines_in m.words)) 0
-    cleared = said ∙ ap (λ (w : ℕ). eqb w 0) (ap (λ (j : ℕ). weighs number j m.words) from ∙ rest_weighs m.n m.words size)
+  module _ (size : length m.lines ≡ line_slots) (p : Line → Bool) (same : (x : Line) → p x ≡ eqb (line_weight x) 0) {b : Bool} (said : b ≡ all p (take (line_slots - m.n) (drop m.n m.lines))) where
+    cleared : b ≡ eqb (weighs line_weight m.n m.lines) 0
+    cleared = unused_rest line_weight p same m.n line_slots m.lines size said
 
-    pub memo_unclear : not b ≡ true → false ≡ memo_sound m
+    pub memo_unclear : b ≡ false → false ≡ memo_sound m
     unfolding memo_sound
-    memo_unclear f = sym (both_left_false lines_ok (slots_unclear line_weight line_slots m.n (lines_in m.words) cleared f))
+    memo_unclear f = sym (both_left_false lines_ok (slots_unclear line_weight line_slots m.n m.lines cleared f))
 
-    pub memo_climb : {r : Bool} → m.n ≤ line_slots → not b ≡ false → r ≡ climbs (λ x. x.radio) line_test 0 (take m.n (lines_in m.words)) → r ≡ memo_sound m
+    pub memo_lines : {r : Bool} → m.n ≤ line_slots → b ≡ true → r ≡ lines_test (take m.n m.lines) → r ≡ memo_sound m
     unfolding memo_sound
-    memo_climb h f q = q ∙ memo_used ∙ sym (true-both lines_ok (slots_clear line_weight line_slots m.n (lines_in m.words) h cleared f))
+    memo_lines h f q = q ∙ memo_used ∙ sym (true-both lines_ok (slots_clear line_weight line_slots m.n m.lines h cleared f))

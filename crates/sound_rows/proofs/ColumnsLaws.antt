@@ -1,6 +1,6 @@
 -- The array of the waiting reports by its columns: what the code's tests of a column say of the reports.
 use mathlib.Core.Path.{◌≡◌, refl, sym, ap, ap₂, ◌∙◌}
-use mathlib.Core.Bool.{Bool, true, false, not, ◌&&◌}
+use mathlib.Core.Bool.{Bool, true, false, ◌&&◌}
 use mathlib.Core.List.{List, ◌++◌, map}
 use Prim.Native.Nat.{ℕ, ◌+◌, ◌-◌, ◌*◌, ◌≤◌, ◌<◌}
 use native.Mathlib.Numerals.{add-one}
@@ -16,9 +16,9 @@ use Rattle.lists.specs.Tests.{both, all}
 use Rattle.lists.specs.Words.{wide}
 use Rattle.lists.proofs.MapLaws.{map-map, map-take, map-drop}
 use Rattle.lists.proofs.PartsLaws.{length-part}
-use Rattle.lists.proofs.SlotsLaws.{true-both, all-nil, all-map, few_used, used_cons, used_none, stops, goes}
+use Rattle.lists.proofs.SlotsLaws.{true-both, all-map, few_used, stops, goes}
 use Rattle.lists.proofs.SumsLaws.{sum-add, sum-map}
-use Rattle.lists.proofs.TestsLaws.{both-true, both_intro, both_tell, and_both, all-cons, get_or-Each, Each-all}
+use Rattle.lists.proofs.TestsLaws.{both-true, both_intro, both_tell, get_or-Each, Each-all}
 use Rattle.rules.specs.Limits.{last_metre, full_memory}
 use Rattle.rules.specs.Store.{Report as StoreReport}
 use Rattle.lists.specs.Rows.{Row}
@@ -32,7 +32,7 @@ use Rattle.sound_clauses.specs.Grid.{place_test}
 use Rattle.sound_clauses.specs.Waiting.{waiting_test, places_test, dated_test}
 use Rattle.sound_clauses.proofs.LoopsLaws.{all_to_zero, all_to-suc, all_to_ext, all-all_to, all-both}
 use Rattle.sound_directory.specs.Sound.{weighs, number}
-use Rattle.sound_directory.proofs.LoopLaws.{both_then, sum_Clear}
+use Rattle.sound_directory.proofs.LoopLaws.{sum_Clear, unused_rest}
 use Rattle.waiting.specs.Waiting.{row_of as report_row, reports_of}
 use Rattle.waiting.proofs.WaitingLaws.{every_size}
 use Rattle.sound_rows.specs.Sound.{report_weight, is_mark, is_dated, reports_test}
@@ -158,8 +158,9 @@ weigh_fields n l =
 abbrev pub column_clear : List ℕ → ℕ → ℕ → Bool
 column_clear ws k n = eqb (weighs number n (part ws (full_memory * k) full_memory)) 0
 
-pub column_clears : (ws : List ℕ) (k n : ℕ) {xs : List ℕ} {r : Bool} → xs ≡ part ws (full_memory * k) full_memory → r ≡ eqb (weighs number n xs) 0 → r ≡ column_clear ws k n
-column_clears ws k n e q = q ∙ ap (λ (l : List ℕ). eqb (weighs number n l) 0) e
+pub column_clears : (ws : List ℕ) (k n : ℕ) {xs : List ℕ} {r : Bool} → xs ≡ part ws (full_memory * k) full_memory
+    → (p : ℕ → Bool) → ((x : ℕ) → p x ≡ eqb x 0) → r ≡ all p (take (length xs - n) (drop n xs)) → r ≡ column_clear ws k n
+column_clears ws k n {xs} e p same q = unused_rest number p same n (length xs) xs refl q ∙ ap (λ (l : List ℕ). eqb (weighs number n l) 0) e
 
 module _ (ws : List ℕ) (size : length ws ≡ report_fields * full_memory) (n : ℕ) where
   in_column : (k : ℕ) (f : Report → ℕ) → part ws (full_memory * k) full_memory ≡ map f (every_report ws) → eqb (weighs f n (every_report ws)) 0 ≡ column_clear ws k n
@@ -191,58 +192,30 @@ module _ (ws : List ℕ) (size : length ws ≡ report_fields * full_memory) (n :
       (sum_Clear e f ∙ ap₂ both (in_column 4 (λ w. w.low) (column_lows ws size)) (in_column 5 (λ w. w.high) (column_highs ws size))))))
 
   module _ {a : Bool} (radio : a ≡ column_clear ws 0 n) where
-    pub radios_unclear : not a ≡ true → false ≡ all_clear
+    pub radios_unclear : a ≡ false → false ≡ all_clear
     radios_unclear f = stops _ radio f ∙ sym clear_columns
 
-    module _ (passed : not a ≡ false) {b : Bool} (east : b ≡ column_clear ws 1 n) where
-      pub easts_unclear : not b ≡ true → false ≡ all_clear
+    module _ (passed : a ≡ true) {b : Bool} (east : b ≡ column_clear ws 1 n) where
+      pub easts_unclear : b ≡ false → false ≡ all_clear
       easts_unclear f = goes radio passed (stops _ east f) ∙ sym clear_columns
 
-      module _ (passed' : not b ≡ false) {c : Bool} (north : c ≡ column_clear ws 2 n) where
+      module _ (passed' : b ≡ true) {c : Bool} (north : c ≡ column_clear ws 2 n) where
         places_clear : {r rest : Bool} → r ≡ rest → r ≡ both (column_clear ws 0 n) (both (column_clear ws 1 n) rest)
         places_clear q = goes radio passed (goes east passed' q)
 
-        pub norths_unclear : not c ≡ true → false ≡ all_clear
+        pub norths_unclear : c ≡ false → false ≡ all_clear
         norths_unclear f = places_clear (stops _ north f) ∙ sym clear_columns
 
-        module _ (passed'' : not c ≡ false) {d : Bool} (mark : d ≡ column_clear ws 3 n) where
-          pub marks_unclear : not d ≡ true → false ≡ all_clear
+        module _ (passed'' : c ≡ true) {d : Bool} (mark : d ≡ column_clear ws 3 n) where
+          pub marks_unclear : d ≡ false → false ≡ all_clear
           marks_unclear f = places_clear (goes north passed'' (stops _ mark f)) ∙ sym clear_columns
 
-          module _ (passed''' : not d ≡ false) {e : Bool} (low : e ≡ column_clear ws 4 n) where
-            pub lows_unclear : not e ≡ true → false ≡ all_clear
+          module _ (passed''' : d ≡ true) {e : Bool} (low : e ≡ column_clear ws 4 n) where
+            pub lows_unclear : e ≡ false → false ≡ all_clear
             lows_unclear f = places_clear (goes north passed'' (goes mark passed''' (stops _ low f))) ∙ sym clear_columns
 
-            pub highs_clear : {r : Bool} → not e ≡ false → r ≡ column_clear ws 5 n → r ≡ all_clear
+            pub highs_clear : {r : Bool} → e ≡ true → r ≡ column_clear ws 5 n → r ≡ all_clear
             highs_clear f q = places_clear (goes north passed'' (goes mark passed''' (goes low f q))) ∙ sym clear_columns
-
--- ---- marks
-
--- those up to i are marks if so: with the rest it is the test
-pub record Marks (xs : List ℕ) (n : ℕ) (so : Bool) (i : ℕ) : Type 0 where
-  pub fits : n ≤ length xs
-  pub same : both so (all is_mark (drop i (take n xs))) ≡ all is_mark (take n xs)
-
-pub Marks_start : (xs : List ℕ) (n : ℕ) → n ≤ length xs → Marks xs n true 0
-unfolding both
-Marks_start xs n h = record { fits = h; same = refl }
-
-module _ {xs : List ℕ} {n : ℕ} {so : Bool} {i : ℕ} (r : Marks xs n so i) where
-  pub Marks_turn : i < n → Marks xs n (so && leb (get_or xs i 0) 1) (i + 1)
-  Marks_turn more =
-      let x = is_mark (get_or xs i 0) in
-      let rest = all is_mark (drop (i + 1) (take n xs)) in
-      record {
-        fits = r.fits;
-        same =
-            ap (λ (y : Bool). both y rest) (and_both so x)
-            ∙ both_then so x rest
-            ∙ ap (both so) (sym (all-cons is_mark (get_or xs i 0) (drop (i + 1) (take n xs))) ∙ ap (all is_mark) (sym (used_cons xs n i 0 r.fits more)))
-            ∙ r.same;
-      }
-
-  pub marks_end : n ≤ i → so ≡ all is_mark (take n xs)
-  marks_end h = sym (both-true so) ∙ ap (both so) (sym (ap (all is_mark) (used_none xs n i h) ∙ all-nil is_mark)) ∙ r.same
 
 -- ---- minutes
 
@@ -332,17 +305,17 @@ module _ (ws : List ℕ) (size : length ws ≡ report_fields * full_memory) (sho
     rises_so : a ≡ in_order
     rises_so = rise ∙ ap (λ (l : List ℕ). rises_to max_radio 0 (take n l)) (radios ∙ column_radios ws size)
 
-    pub reports_fall : not a ≡ true → false ≡ reports_test highest (waiting_with n ws)
+    pub reports_fall : a ≡ false → false ≡ reports_test highest (waiting_with n ws)
     reports_fall f = stops _ rises_so f ∙ sym tested
 
-    module _ (passed : not a ≡ false) {ys : List ℕ} (marks : ys ≡ part ws (full_memory * 3) full_memory) {b : Bool} (mark : b ≡ all is_mark (take n ys)) where
+    module _ (passed : a ≡ true) {ys : List ℕ} (marks : ys ≡ part ws (full_memory * 3) full_memory) {b : Bool} (mark : b ≡ all is_mark (take n ys)) where
       marks_so : b ≡ marked
       marks_so = mark ∙ ap (λ (l : List ℕ). all is_mark (take n l)) (marks ∙ column_marks ws size)
 
-      pub reports_unmarked : not b ≡ true → false ≡ reports_test highest (waiting_with n ws)
+      pub reports_unmarked : b ≡ false → false ≡ reports_test highest (waiting_with n ws)
       reports_unmarked f = goes rises_so passed (stops _ marks_so f) ∙ sym tested
 
-      pub reports_dated : {ls hs : List ℕ} {r : Bool} → not b ≡ false → ls ≡ part ws (full_memory * 4) full_memory → hs ≡ part ws (full_memory * 5) full_memory
+      pub reports_dated : {ls hs : List ℕ} {r : Bool} → b ≡ true → ls ≡ part ws (full_memory * 4) full_memory → hs ≡ part ws (full_memory * 5) full_memory
           → r ≡ all_to n (is_dated highest ls hs) → r ≡ reports_test highest (waiting_with n ws)
       reports_dated f l h q =
           goes rises_so passed (goes marks_so f

@@ -1,7 +1,7 @@
 -- The test of soundness as far as it looks at radios on, at waiting reports or at memo lines, each by itself (01, "A sound store"). They may be in any
 -- condition, with a count beyond their slots or anything in the slots that are not used.
-use Rattle.std.specs.Prelude.{Bool, List, ℕ, ◌+◌, ◌-◌, eqb, leb, ltb, get_or, take}
-use Rattle.terms.specs.Terms.{max_on}
+use Rattle.std.specs.Prelude.{Bool, List, ℕ, ◌+◌, ◌-◌, eqb, leb, ltb, get_or, map, take}
+use Rattle.terms.specs.Terms.{max_radio, max_on}
 use Rattle.lists.specs.Rows.{Rows}
 use Rattle.lists.specs.Tests.{both, either, all}
 use Rattle.lists.specs.Words.{wide}
@@ -11,8 +11,9 @@ use Rattle.desk.specs.declared.Report.{Report}
 use Rattle.desk.specs.Held.{Memo, On, Waiting}
 use Rattle.desk.specs.declared.Line.{Line}
 use Rattle.desk.specs.Layout.{line_slots}
-use Rattle.desk.specs.Views.{every_report, lines_in, radios_of}
-use Rattle.memo.specs.Memo.{last_of, lines_of}
+use Rattle.desk.specs.Views.{every_report, radios_of, last_of}
+use Rattle.memo.specs.Memo.{lines_of}
+use Rattle.sound_clauses.specs.Loops.{rises_to}
 use Rattle.sound_clauses.specs.Radios.{on_test, memo_test, last_test, lasts_test}
 use Rattle.sound_clauses.specs.Waiting.{waiting_test, places_test, dated_test}
 use Rattle.sound_directory.specs.Sound.{slots_test, number}
@@ -65,7 +66,11 @@ missed_test memo = all (λ l. ltb 0 l.val.missed) memo
 abbrev pub line_test : Line → Bool
 line_test x = both (line_marked x) (both (ltb 0 x.missed) (last_test (last_of x)))
 
+-- the lines' radios rise, and each line is one
+unfoldable pub lines_test : List Line → Bool
+lines_test lines = both (rises_to max_radio 0 (map (λ x. x.radio) lines)) (all line_test lines)
+
 unfoldable pub memo_sound : Memo → Bool
 memo_sound m =
-    both (slots_test line_weight line_slots m.n (lines_in m.words))
-    (both (memo_test (lines_of m)) (both (all line_marked (take m.n (lines_in m.words))) (both (missed_test (lines_of m)) (lasts_test (lines_of m)))))
+    both (slots_test line_weight line_slots m.n m.lines)
+    (both (memo_test (lines_of m)) (both (all line_marked (take m.n m.lines)) (both (missed_test (lines_of m)) (lasts_test (lines_of m)))))

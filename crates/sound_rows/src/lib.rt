@@ -2,22 +2,21 @@
 // before a slot is looked at.
 #![tactic(auto)]
 
-ghost use Rattle.std.specs.Prelude.{◌≡◌, ◌*◌, ◌<◌, ◌≤◌, eqb, length, take};
-ghost use Rattle.terms.specs.Terms.{max_on};
+ghost use Rattle.std.specs.Prelude.{◌≡◌, ◌*◌, ◌<◌, ◌≤◌, eqb, length};
 ghost use Rattle.lists.specs.Parts.{part};
 ghost use Rattle.lists.specs.Tests.{all};
 ghost use Rattle.rules.specs.Limits.{full_memory};
-ghost use Rattle.desk.specs.Layout.{report_fields, line_slots, line_fields};
+ghost use Rattle.desk.specs.Layout.{report_fields, line_slots};
 ghost use Rattle.desk.specs.Held.{waiting_with, memo_in, on_with};
 ghost use Rattle.desk.specs.Views.{every_report};
 ghost use Rattle.sound_clauses.specs.Loops.{all_to};
 ghost use Rattle.sound_directory.specs.Sound.{weighs, number};
-ghost use Rattle.sound_rows.specs.Sound.{on_sound, report_weight, is_mark, is_dated, reports_test, waiting_sound, line_test, memo_sound};
+ghost use Rattle.sound_rows.specs.Sound.{on_sound, report_weight, is_mark, is_dated, reports_test, waiting_sound, line_test, lines_test, memo_sound};
 
 use desk::{Desk, Line};
-use sound_directory::{goes_on, is_clear, rises};
+use sound_directory::{goes_on, is_unused, rises, row_sound};
 
-// The columns of the waiting reports' array.
+// The columns of the waiting reports' array, by their places in the desk, which C sees.
 const RADIOS: usize = 0;
 
 const EASTS: usize = 1;
@@ -30,8 +29,7 @@ const LOWS: usize = 4;
 
 const HIGHS: usize = 5;
 
-const LINE_SLOTS: usize = Desk::LINE_SLOTS;
-
+// The marks in the desk's fields, which C sees: any number may stand there.
 const MARKED: u16 = 1;
 
 const UNMARKED: u16 = 0;
@@ -39,24 +37,17 @@ const UNMARKED: u16 = 0;
 // ---- who is on
 
 // Whether the radios on are sound.
-pub fn on_sound<'a>(radios: &'a [u16; Desk::MAX_ON], n: usize) -> bool
-    requires { length radios.now ≡ max_on }
+pub fn on_sound(radios: &[u16; Desk::MAX_ON], n: usize) -> bool
     ensures { result ≡ on_sound (on_with n radios.now) }
 {
-    if Desk::MAX_ON < n {
-        return false;
-    }
-    if !is_clear(radios, n) {
-        return false;
-    }
-    rises(radios, n, terms::MAX_RADIO)
+    row_sound(radios, n, terms::MAX_RADIO)
 }
 
 // ---- waiting reports
 
 // A column of the waiting reports' array: one field of every slot.
-fn column(waiting: &[u16], k: usize) -> &[u16]
-    requires { (k < report_fields) × (length waiting.now ≡ report_fields * full_memory) }
+fn column(waiting: &[u16; Desk::WAITING_WORDS], k: usize) -> &[u16]
+    requires { k < report_fields }
     ensures { (result.now ≡ part waiting.now (full_memory * k) full_memory) × (length result.now ≡ full_memory) }
 {
     let start = Desk::WAITING_SLOTS * k;
@@ -65,16 +56,16 @@ fn column(waiting: &[u16], k: usize) -> &[u16]
 }
 
 // Whether each slot from n on is zero in a column.
-fn column_clear(waiting: &[u16], k: usize, n: usize) -> bool
-    requires { (k < report_fields) × (n ≤ full_memory) × (length waiting.now ≡ report_fields * full_memory) }
+fn column_clear(waiting: &[u16; Desk::WAITING_WORDS], k: usize, n: usize) -> bool
+    requires { (k < report_fields) × (n ≤ full_memory) }
     ensures { result ≡ eqb (weighs number n (part waiting.now (full_memory * k) full_memory)) 0 }
 {
-    is_clear(column(waiting, k), n)
+    is_unused(&column(waiting, k)[n..], 0)
 }
 
 // Whether each slot from n on is zero, column after column.
-fn reports_clear(waiting: &[u16], n: usize) -> bool
-    requires { (n ≤ full_memory) × (length waiting.now ≡ report_fields * full_memory) }
+fn reports_clear(waiting: &[u16; Desk::WAITING_WORDS], n: usize) -> bool
+    requires { n ≤ full_memory }
     ensures { result ≡ eqb (weighs report_weight n (every_report waiting.now)) 0 }
 {
     if !column_clear(waiting, RADIOS, n) {
@@ -95,16 +86,13 @@ fn reports_clear(waiting: &[u16], n: usize) -> bool
     column_clear(waiting, HIGHS, n)
 }
 
-// Whether each of the first n is 1 or 0. It never leaves early, so that many marks are looked at at a time.
-fn are_marks(marks: &[u16], n: usize) -> bool
-    requires { n ≤ length marks.now }
-    ensures { result ≡ all is_mark (take n marks.now) }
+// Whether each is 1 or 0. It never leaves early, so that many marks are looked at at a time.
+fn are_marks(marks: &[u16]) -> bool
+    ensures { result ≡ all is_mark marks.now }
 {
     let mut so = true;
-    let mut i: usize = 0;
-    while i < n {
-        so = so & (marks[i] <= MARKED);
-        i += 1;
+    for &mark in marks {
+        so = so & (mark <= MARKED);
     }
     so
 }
@@ -115,32 +103,30 @@ fn are_dated(lows: &[u16], highs: &[u16], n: usize, highest: u32) -> bool
     ensures { result ≡ all_to n (is_dated highest lows.now highs.now) }
 {
     let mut so = true;
-    let mut i: usize = 0;
-    while i < n {
+    // Two columns side by side, by index, so that many are looked at at a time.
+    for i in 0..n {
         so = so & (fields::wide_of(lows[i], highs[i]) <= highest);
-        i += 1;
     }
     so
 }
 
 // Whether the radios of the first n rise, each is marked, and none is above the highest minute; their places are some, and their minutes' lower halves are such,
 // for fields have 16 bits.
-fn reports_ok(waiting: &[u16], n: usize, highest: u32) -> bool
-    requires { (n < full_memory) × (length waiting.now ≡ report_fields * full_memory) }
+fn reports_ok(waiting: &[u16; Desk::WAITING_WORDS], n: usize, highest: u32) -> bool
+    requires { n < full_memory }
     ensures { result ≡ reports_test highest (waiting_with n waiting.now) }
 {
-    if !rises(column(waiting, RADIOS), n, terms::MAX_RADIO) {
+    if !rises(&column(waiting, RADIOS)[..n], terms::MAX_RADIO) {
         return false;
     }
-    if !are_marks(column(waiting, MARKS), n) {
+    if !are_marks(&column(waiting, MARKS)[..n]) {
         return false;
     }
     are_dated(column(waiting, LOWS), column(waiting, HIGHS), n, highest)
 }
 
 // Whether the waiting reports are sound: the slots past them are zero, their radios rise, each is marked, and none is above the highest minute.
-pub fn waiting_sound<'a>(waiting: &'a [u16; Desk::WAITING_WORDS], n: usize, highest: u32) -> bool
-    requires { length waiting.now ≡ report_fields * full_memory }
+pub fn waiting_sound(waiting: &[u16; Desk::WAITING_WORDS], n: usize, highest: u32) -> bool
     ensures { result ≡ waiting_sound highest (waiting_with n waiting.now) }
 {
     if Desk::MAX_WAITING < n {
@@ -161,41 +147,41 @@ fn line_ok(x: Line) -> bool
     if x.missed == 0 {
         return false;
     }
-    if x.placed == MARKED {
-        return true;
+    match x.placed {
+        MARKED => true,
+        UNMARKED => x.east == 0 && x.north == 0,
+        _ => false,
     }
-    if x.placed != UNMARKED {
-        return false;
-    }
-    if x.east != 0 {
-        return false;
-    }
-    x.north == 0
 }
 
-// Whether the memo is sound: its unused fields are zero, its lines' radios rise and each line is one.
-pub fn memo_sound<'a>(words: &'a [u16; Desk::MEMO_WORDS], n: u16) -> bool
-    requires { length words.now ≡ line_fields * line_slots }
-    ensures { result ≡ memo_sound (memo_in n words.now) }
+// Whether the lines' radios rise and each line is one.
+fn lines_ok(lines: &[Line]) -> bool
+    ensures { result ≡ lines_test lines.now }
 {
-    if LINE_SLOTS < n as usize {
-        return false;
-    }
-    if !is_clear(words, Desk::LINE_FIELDS * n as usize) {
-        return false;
-    }
     let mut last: u16 = 0;
-    let mut i: usize = 0;
-    while i < n as usize {
-        let x = desk::line_at(words, i);
-        if !goes_on(last, x.radio, terms::MAX_RADIO) {
+    for &line in lines {
+        if !goes_on(last, line.radio, terms::MAX_RADIO) {
             return false;
         }
-        if !line_ok(x) {
+        if !line_ok(line) {
             return false;
         }
-        last = x.radio;
-        i += 1;
+        last = line.radio;
     }
     true
+}
+
+// Whether the memo is sound: its unused lines are as unused ones, its lines' radios rise and each line is one.
+pub fn memo_sound(lines: &[Line; Desk::LINE_SLOTS], n: u16) -> bool
+    ensures test { result ≡ memo_sound (memo_in n lines.now) }
+    ensures shape { length lines.now ≡ line_slots }
+{
+    let n = n as usize;
+    if Desk::LINE_SLOTS < n {
+        return false;
+    }
+    if !is_unused(&lines[n..], Line::UNUSED) {
+        return false;
+    }
+    lines_ok(&lines[..n])
 }

@@ -1,7 +1,7 @@
 -- A file that was written is read back (02, Job 6): its lines are of different radios, so that no check stops one, and each radio is given what its line tells.
 use mathlib.Core.Bool.{Bool, true, false}
 use mathlib.Core.List.{List, [], ◌∷◌}
-use mathlib.Core.Option.{Option, none, some}
+use Rattle.std.specs.Prelude.{Option, None, Some}
 use mathlib.Core.Path.{◌≡◌, refl, sym, ap, ◌∙◌}
 use Prim.Native.Nat.{ℕ, suc, ◌+◌, ◌≤◌}
 use native.Mathlib.Omega.{arith}
@@ -40,7 +40,7 @@ one_zero true e = absurd (omega (arith, e))
 one_zero false e = refl
 
 none_stops : (ls : List Listed) (on : ℕ → Bool) (how_many : ℕ) → Each (λ l. HasFix l.row) ls → ((q : ℕ) → sum_by (of_radio q) ls + one_if (on q) ≤ 1) → how_many + length ls ≤ max_on
-    → first_stop on how_many ls ≡ none
+    → first_stop on how_many ls ≡ None
 unfolding first_stop stop_of sum_by
 none_stops [] on how_many fix once room = refl
 none_stops (l ∷ ls) on how_many fix once room =
@@ -57,20 +57,20 @@ unfolding latest_all sum_by
 latest_kept [] f r e = refl
 latest_kept (l ∷ ls) f r e =
     let other = one_zero (eqb r l.row.key) (omega (arith, e)) in
-    latest_kept ls (put_at l.row.key (some l.row.val) f) r (omega (arith, e)) ∙ rw other refl
+    latest_kept ls (put_at l.row.key (Some l.row.val) f) r (omega (arith, e)) ∙ rw other refl
 
-latest_given : (ls : List Listed) (f : ℕ → Option Fix) (r : ℕ) (o : Option Fix) → Each (λ l. eqb r l.row.key ≡ true → some l.row.val ≡ o) ls → 1 ≤ sum_by (of_radio r) ls → latest_all ls f r ≡ o
+latest_given : (ls : List Listed) (f : ℕ → Option Fix) (r : ℕ) (o : Option Fix) → Each (λ l. eqb r l.row.key ≡ true → Some l.row.val ≡ o) ls → 1 ≤ sum_by (of_radio r) ls → latest_all ls f r ≡ o
 unfolding latest_all sum_by
 latest_given [] f r o tells e = absurd (omega arith)
 latest_given (l ∷ ls) f r o tells e =
     by_cases (eqb (sum_by (of_radio r) ls) 0)
     (λ t. let z = eqb-true (sum_by (of_radio r) ls) 0 t in
-    latest_kept ls (put_at l.row.key (some l.row.val) f) r z ∙ by_cases (eqb r l.row.key) (λ u. rw u (tells.0 u)) (λ u. absurd (omega (arith, ap one_if u))))
-    (λ t. latest_given ls (put_at l.row.key (some l.row.val) f) r o tells.1 (omega (arith, eqb-false (sum_by (of_radio r) ls) 0 t)))
+    latest_kept ls (put_at l.row.key (Some l.row.val) f) r z ∙ by_cases (eqb r l.row.key) (λ u. rw u (tells.0 u)) (λ u. absurd (omega (arith, ap one_if u))))
+    (λ t. latest_given ls (put_at l.row.key (Some l.row.val) f) r o tells.1 (omega (arith, eqb-false (sum_by (of_radio r) ls) 0 t)))
 
 -- ---- the lines of rising rows
 
-found_own : (b : ℕ) (rows : Rows Fix) → Rising b rows → Each (λ x. find rows x.key ≡ some x.val) rows
+found_own : (b : ℕ) (rows : Rows Fix) → Rising b rows → Each (λ x. find rows x.key ≡ Some x.val) rows
 found_own b [] a = tt
 found_own b (x ∷ xs) a = (find_head x xs, Each_map _ _ xs (λ y e. find_tail x xs y.key y.val a.1 e) (found_own x.key xs a.1))
 
@@ -100,8 +100,8 @@ module _ (rows : Rows Fix) (rising : Rising 0 rows) (fits : Each Fits rows) (fix
       ∙ sum_at_key (λ x. one_if (eqb q x.key)) 0 q rows (λ x n. ap one_if (ne_eqb q x.key (λ z. n (sym z)))) rising ∙ own (find rows q)
     where
       own : (o : Option Fix) → count_found (λ k v. one_if (eqb q k)) q o ≡ one_if (is_some o)
-      own none = refl
-      own (some v) = ap one_if (eq-eqb q q refl)
+      own None = refl
+      own (Some v) = ap one_if (eq-eqb q q refl)
 
   taken-Fits : Each (λ l. Fits l.row) taken
   taken-Fits = Each-in_order (λ l. Fits l.row) (numbered 2 rows) (Each-numbered Fits 2 rows fits)
@@ -110,7 +110,7 @@ module _ (rows : Rows Fix) (rising : Rising 0 rows) (fits : Each Fits rows) (fix
   one_at_most true = omega arith
   one_at_most false = omega arith
 
-  none_stopped : first_stop (λ _. false) 0 taken ≡ none
+  none_stopped : first_stop (λ _. false) 0 taken ≡ None
   none_stopped =
       none_stops taken (λ _. false) 0 (Each-in_order (λ l. HasFix l.row) (numbered 2 rows) (Each-numbered HasFix 2 rows fixes))
       (λ q. rw (count_taken q) (one_at_most (is_some (find rows q))))
@@ -122,12 +122,12 @@ module _ (rows : Rows Fix) (rising : Rising 0 rows) (fits : Each Fits rows) (fix
       rw (read_written rows fits) (sign_ons-verdict taken fresh_watched plain_fresh (λ _. false) 0 fresh_Beside taken-Fits (unfold plain_fresh in minutes_rise (numbered 2 rows))
       ∙ ap (λ (o : Option _). verdict o (signed_all taken fresh_watched)) none_stopped)
 
-  latest_found : (q : ℕ) → latest_all taken (λ _. none) q ≡ find rows q
+  latest_found : (q : ℕ) → latest_all taken (λ _. None) q ≡ find rows q
   latest_found q =
       option_cases (find rows q)
-      (λ e. rw e (latest_kept taken (λ _. none) q (count_taken q ∙ ap (λ (o : Option Fix). one_if (is_some o)) e)))
-      (λ v e. latest_given taken (λ _. none) q (find rows q)
-      (Each-in_order (λ l. eqb q l.row.key ≡ true → some l.row.val ≡ find rows q) (numbered 2 rows) (Each-numbered (λ x. eqb q x.key ≡ true → some x.val ≡ find rows q) 2 rows
+      (λ e. rw e (latest_kept taken (λ _. None) q (count_taken q ∙ ap (λ (o : Option Fix). one_if (is_some o)) e)))
+      (λ v e. latest_given taken (λ _. None) q (find rows q)
+      (Each-in_order (λ l. eqb q l.row.key ≡ true → Some l.row.val ≡ find rows q) (numbered 2 rows) (Each-numbered (λ x. eqb q x.key ≡ true → Some x.val ≡ find rows q) 2 rows
       (Each_map _ _ rows (λ x f t. sym (ap (find rows) (eqb-true q x.key t) ∙ f)) (found_own 0 rows rising))))
       (omega (arith, count_taken q, ap (λ (o : Option Fix). one_if (is_some o)) e)))
 

@@ -1,7 +1,7 @@
 -- All radios on are the same by the store and by the plain rule beside it.
 use mathlib.Core.Bool.{Bool, true, false, cond}
 use mathlib.Core.List.{[], ◌∷◌}
-use mathlib.Core.Option.{Option, none, some}
+use Rattle.std.specs.Prelude.{Option, None, Some}
 use mathlib.Core.Path.{◌≡◌, refl, sym, ap, ◌∙◌, fun_ext}
 use Prim.Native.Nat.{ℕ, suc, ◌<◌, ◌≤◌}
 use native.Mathlib.Omega.{arith}
@@ -23,8 +23,8 @@ use Rattle.rules.proofs.LinkLaws.{Link, latest_same}
 
 module _ (f : ℕ → Option Fix) where
   Rising_row : (b r : ℕ) (o : Option Fix) (l : Rows Fix) → b < r → Rising r l → Rising b (put_row r o l)
-  Rising_row b r none l h a = Rising_less b r l (omega arith) a
-  Rising_row b r (some g) l h a = (h, a)
+  Rising_row b r None l h a = Rising_less b r l (omega arith) a
+  Rising_row b r (Some g) l h a = (h, a)
 
   pub Rising-rows_of : (b : ℕ) (l : Rows (Unit {0})) → Rising b l → Rising b (rows_of f l)
   unfolding rows_of
@@ -33,15 +33,15 @@ module _ (f : ℕ → Option Fix) where
 
   find_row_same : (r : ℕ) (o : Option Fix) (l : Rows Fix) → Rising r l → find (put_row r o l) r ≡ o
   unfolding find
-  find_row_same r none l a = find_below r r l (omega arith) a
-  find_row_same r (some g) l a = rw (eq-eqb r r refl)
+  find_row_same r None l a = find_below r r l (omega arith) a
+  find_row_same r (Some g) l a = rw (eq-eqb r r refl)
 
   find_row_other : (r q : ℕ) (o : Option Fix) (l : Rows Fix) → eqb q r ≡ false → find (put_row r o l) q ≡ find l q
   unfolding find
-  find_row_other r q none l e = refl
-  find_row_other r q (some g) l e = rw e
+  find_row_other r q None l e = refl
+  find_row_other r q (Some g) l e = rw e
 
-  pub find-rows_of : (b q : ℕ) (l : Rows (Unit {0})) → Rising b l → find (rows_of f l) q ≡ cond (is_some (find l q)) (f q) none
+  pub find-rows_of : (b q : ℕ) (l : Rows (Unit {0})) → Rising b l → find (rows_of f l) q ≡ cond (is_some (find l q)) (f q) None
   unfolding rows_of find
   find-rows_of b q [] a = refl
   find-rows_of b q (x ∷ xs) a =
@@ -62,13 +62,13 @@ everyone_same s x k g =
     let w = find_within 0 max_radio r s.on g.rising_on g.radios_on o in
     rw o (sym (rw (find-rows_of x.latest 0 r all rises, find-tab max_radio 0 r suc (λ _. tt {0}) (λ i. omega arith) w.0 w.1)))))
   where
-    never : (b : Bool) → ◌≡◌ {A = Option Fix} (cond b none none) none
+    never : (b : Bool) → ◌≡◌ {A = Option Fix} (cond b None None) None
     never true = refl
     never false = refl
 
 -- ---- what each row says
 
-pub Each-rows_of : (P : Row Fix → Type 0) (f : ℕ → Option Fix) (l : Rows (Unit {0})) → Each (λ x. (g : Fix) → f x.key ≡ some g → P (record { key = x.key; val = g })) l → Each P (rows_of f l)
+pub Each-rows_of : (P : Row Fix → Type 0) (f : ℕ → Option Fix) (l : Rows (Unit {0})) → Each (λ x. (g : Fix) → f x.key ≡ Some g → P (record { key = x.key; val = g })) l → Each P (rows_of f l)
 unfolding rows_of
 Each-rows_of P f [] h = tt
 Each-rows_of P f (x ∷ xs) h = option_cases (f x.key) (λ e. rw e (Each-rows_of P f xs h.1)) (λ g e. rw e (h.0 g e, Each-rows_of P f xs h.1))

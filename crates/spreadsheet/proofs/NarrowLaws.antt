@@ -1,7 +1,7 @@
 -- What reports tell fits into a line of a file: each came in a record's 16 and 32 bits, and a well-formed store holds places in the square and no minute above its highest.
 use mathlib.Core.Bool.{not}
 use mathlib.Core.List.{List, [], ◌∷◌}
-use mathlib.Core.Option.{Option, none, some}
+use Rattle.std.specs.Prelude.{Option, None, Some}
 use mathlib.Core.Path.{◌≡◌, sym, ◌∙◌, subst}
 use Prim.Native.Nat.{ℕ, ◌+◌, ◌≤◌}
 use native.Mathlib.Omega.{arith}
@@ -31,8 +31,8 @@ pub record Narrow (f : Fix) : Type 0 where
   pub minute : f.minute ≤ max_minute
 
 abbrev pub NarrowIf : Option Fix → Type 0
-NarrowIf none = Unit {0}
-NarrowIf (some f) = Narrow f
+NarrowIf None = Unit {0}
+NarrowIf (Some f) = Narrow f
 
 -- ---- a record's
 
@@ -70,13 +70,13 @@ module _ (cuts : Cuts) (x : Plain) (narrow : (q : ℕ) → NarrowIf (x.latest q)
   placed : (r : ℕ) (f : Fix) → Narrow f → (q : ℕ) → NarrowIf ((plain_done cuts (sign_on r f) x).latest q)
   unfolding plain_done plain_place
   placed r f h q =
-      subst (λ (g : ℕ → Option Fix). NarrowIf (g q)) (sym (after_latest cuts f.place (plain_place r f (plain_at f.minute x)))) (put_Narrow r q (some f) x.latest h (narrow q))
+      subst (λ (g : ℕ → Option Fix). NarrowIf (g q)) (sym (after_latest cuts f.place (plain_place r f (plain_at f.minute x)))) (put_Narrow r q (Some f) x.latest h (narrow q))
 
   done_Narrow : (k : Request) → NarrowTold k → (q : ℕ) → NarrowIf ((plain_done cuts k x).latest q)
   unfolding plain_done plain_off
   done_Narrow (sign_on r f) h q = placed r f h q
   done_Narrow (report r f) h q = placed r f h q
-  done_Narrow (sign_off r minute) h q = put_Narrow r q none x.latest tt (narrow q)
+  done_Narrow (sign_off r minute) h q = put_Narrow r q None x.latest tt (narrow q)
   done_Narrow (range rect minute) h q = narrow q
 
   pub step_Narrow : (bytes : List ℕ) → Bytes bytes → (q : ℕ) → NarrowIf ((plain_step cuts bytes x).latest q)
@@ -86,12 +86,12 @@ module _ (cuts : Cuts) (x : Plain) (narrow : (q : ℕ) → NarrowIf (x.latest q)
 -- ---- a well-formed store's
 
 module _ (P : Fix → Type 0) (memo : Rows Line) (r : ℕ) (f : Fix) where
-  live_Each : (c : Cell) → Each (λ e. P e.val) c.entries → live_in memo r c ≡ some f → P f
+  live_Each : (c : Cell) → Each (λ e. P e.val) c.entries → live_in memo r c ≡ Some f → P f
   unfolding live_in
   live_Each c a e = Each-find (λ _. P) r f c.entries a (passed-true (λ v. not (stale memo v)) r (find c.entries r) f e).0
 
   -- what holds of every entry holds of the one that is stored of a radio
-  stored_Each : (cells : List Cell) → Each (λ c. Each (λ e. P e.val) c.entries) cells → stored_in memo r cells ≡ some f → P f
+  stored_Each : (cells : List Cell) → Each (λ c. Each (λ e. P e.val) c.entries) cells → stored_in memo r cells ≡ Some f → P f
   unfolding stored_in
   stored_Each [] a = none-some
   stored_Each (c ∷ cs) a =
@@ -99,7 +99,7 @@ module _ (P : Fix → Type 0) (memo : Rows Line) (r : ℕ) (f : Fix) where
       (λ n. rw n (λ e. stored_Each cs a.1 e))
       (λ g t. rw t (λ e. live_Each c a.0 (t ∙ e)))
 
-pub well_Narrow : (s : Store) → WellFormed s → s.highest ≤ max_minute → (r : ℕ) (f : Fix) → latest s r ≡ some f → Narrow f
+pub well_Narrow : (s : Store) → WellFormed s → s.highest ≤ max_minute → (r : ℕ) (f : Fix) → latest s r ≡ Some f → Narrow f
 unfolding latest
 well_Narrow s w high r f =
     option_cases (find s.waiting r)
@@ -115,7 +115,7 @@ well_Narrow s w high r f =
     stored : Each (λ c. Each (λ e. Narrow e.val) c.entries) s.cells
     stored = Each_zip _ _ _ s.cells cell w.cells w.entries_dated
 
-    waits : (v : _) → find s.waiting r ≡ some v → Narrow v.fix
+    waits : (v : _) → find s.waiting r ≡ Some v → Narrow v.fix
     waits v t =
         let q = w.waiting_placed r v t in
         let m = Each-find (λ _ x. x.fix.minute ≤ s.highest) r v s.waiting w.waiting_dated t in

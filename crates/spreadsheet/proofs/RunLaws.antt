@@ -1,7 +1,7 @@
 -- A run of sign-ons (02, Job 6): beside it goes the plain rule, which says of each line whether a check stops it and which radios are on after it.
 use mathlib.Core.Bool.{Bool, false}
 use mathlib.Core.List.{List, [], ◌∷◌}
-use mathlib.Core.Option.{Option, none, some}
+use Rattle.std.specs.Prelude.{Option, None, Some}
 use mathlib.Core.Path.{◌≡◌, refl, sym, ap, ap₂, ◌∙◌, subst, fun_ext}
 use Prim.Native.Nat.{ℕ, zero, suc, ◌+◌, ◌<◌, ◌≤◌}
 use native.Mathlib.Nat.{not-suc-le-zero}
@@ -95,7 +95,7 @@ module _ (s : Store) (x : Plain) (on : ℕ → Bool) (how_many : ℕ) (k : Besid
     unfolding plain_place
     then-highest = ap (λ (z : Plain). z.highest) then_is ∙ after_highest s.cuts l.row.val.place (plain_place l.row.key l.row.val (plain_at l.row.val.minute x))
 
-    pub then-latest : then.latest ≡ put_at l.row.key (some l.row.val) x.latest
+    pub then-latest : then.latest ≡ put_at l.row.key (Some l.row.val) x.latest
     unfolding plain_place
     then-latest = ap (λ (z : Plain). z.latest) then_is ∙ after_latest s.cuts l.row.val.place (plain_place l.row.key l.row.val (plain_at l.row.val.minute x))
 
@@ -173,7 +173,7 @@ first_stop-take (l ∷ ls) on how_many (suc more) h e =
     (λ t. rw t)
 
 -- lines that none stops are no more than there is room for
-pub first_stop_few : (ls : List Listed) (on : ℕ → Bool) (how_many : ℕ) → how_many ≤ max_on → first_stop on how_many ls ≡ none → how_many + length ls ≤ max_on
+pub first_stop_few : (ls : List Listed) (on : ℕ → Bool) (how_many : ℕ) → how_many ≤ max_on → first_stop on how_many ls ≡ None → how_many + length ls ≤ max_on
 unfolding first_stop
 first_stop_few [] on how_many h e = omega arith
 first_stop_few (l ∷ ls) on how_many h e =
@@ -213,10 +213,10 @@ stopped_not_0 (l ∷ ls) w number line e =
 -- each line gives its radio what it tells
 unfoldable pub latest_all : List Listed → (ℕ → Option Fix) → ℕ → Option Fix
 latest_all [] f = f
-latest_all (l ∷ ls) f = latest_all ls (put_at l.row.key (some l.row.val) f)
+latest_all (l ∷ ls) f = latest_all ls (put_at l.row.key (Some l.row.val) f)
 
 pub run_latest : (ls : List Listed) (w : Watched) (x : Plain) (on : ℕ → Bool) (how_many : ℕ) → Beside w.store x on how_many → Each (λ l. Fits l.row) ls → MinutesRise x.highest ls
-    → first_stop on how_many ls ≡ none → (plain_sign_ons ls w x).latest ≡ latest_all ls x.latest
+    → first_stop on how_many ls ≡ None → (plain_sign_ons ls w x).latest ≡ latest_all ls x.latest
 unfolding first_stop plain_sign_ons latest_all
 run_latest [] w x on how_many k fit rise none_stopped = refl
 run_latest (l ∷ ls) w x on how_many k fit rise none_stopped =

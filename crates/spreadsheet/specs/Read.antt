@@ -1,12 +1,11 @@
 -- Spreadsheet in (02, Job 6): "Read such a file .. as a run of sign-ons".
-use Rattle.std.specs.Prelude.{cond, List, [], ◌∷◌, ◌++◌, ℕ, eqb}
-use Rattle.std.proofs.Math.Option.{Option, none, some}
+use Rattle.std.specs.Prelude.{cond, List, [], ◌∷◌, ◌++◌, ℕ, eqb, Option, None, Some}
 use Rattle.terms.specs.Terms.{Fix, field_bytes, minute_bytes}
 use Rattle.lists.specs.Rows.{Row}
 use Rattle.lists.specs.Words.{le}
 use Rattle.csv_grammar.specs.Csv.{Listed, File, lines, bad, file_read}
 use Rattle.csv_grammar.specs.Order.{in_order}
-use Rattle.csv_order.specs.declared.Stop.{Stop}
+use Rattle.csv_order.specs.Checks.{Stop}
 use Rattle.rules.specs.Records.{kind_sign_on}
 use Rattle.rules.specs.Plain.{Plain, plain_fresh, plain_step}
 use Rattle.rules.specs.Watches.{Watched, fresh_watched}
@@ -38,8 +37,8 @@ signed_all (l ∷ ls) x = signed_all ls (carry_record (sign_on_of l.row) x []).w
 
 -- the line that is stopped, or else the store
 abbrev pub verdict : Option Stop → Watched → Read
-verdict none x = made x
-verdict (some s) x = stopped s.number s.line
+verdict None x = made x
+verdict (Some s) x = stopped s.number s.line
 
 -- 15, "checked over the whole file .. before 12"; "the read starts from a fresh store of its own making"
 abbrev pub read_lines : File → Read

@@ -1,37 +1,28 @@
 -- What a file comes to, by the lines of it that may be taken: of 513 one is stopped, so those behind them are never looked at.
-use mathlib.Core.Bool.{Bool, false}
-use mathlib.Core.List.{List, [], ◌∷◌}
-use mathlib.Core.Option.{Option, none, some}
-use mathlib.Core.Path.{◌≡◌, refl, sym, ap, ap₂, ◌∙◌, subst}
-use Prim.Native.Nat.{ℕ, suc}
+use mathlib.Core.Bool.{false}
+use mathlib.Core.List.{List, []}
+use Rattle.std.specs.Prelude.{Option, None, Some}
+use mathlib.Core.Path.{◌≡◌, refl, sym, ap, ap₂, ◌∙◌}
+use Prim.Native.Nat.{ℕ}
 use native.Mathlib.Omega.{arith}
-use lib.Dec.{eqb}
 use lib.ListN.{length, take}
 use lib.Seq.{take_all}
-use borrow.Author.Tests.{eqb-false}
 use Rattle.lists.specs.Tests.{Each}
-use Rattle.lists.proofs.Cases.{by_cases, option_cases, none-some}
+use Rattle.lists.proofs.Cases.{option_cases}
 use Rattle.csv_grammar.specs.Csv.{Listed, File, lines, bad, file_read, Fits}
 use Rattle.csv_grammar.specs.Order.{in_order, sort_all}
 use Rattle.csv_grammar.proofs.OrderLaws.{Each-in_order, minutes_rise}
 use Rattle.csv_grammar.proofs.RangeLaws.{read_Fits}
-use Rattle.csv_order.specs.declared.Stop.{Stop}
-use Rattle.csv_order.specs.Checks.{also_on, stop_of, first_stop, stop_in, answered}
-use Rattle.csv_order.specs.Table.{table_lines, listed_in, Table}
-use Rattle.csv_gather.specs.declared.Gathered.{Gathered}
-use Rattle.csv_gather.specs.declared.Gathered.TheVariants.{Lines, Bad}
-use Rattle.csv_gather.specs.Gather.{least, wrong, gather, gather_file, HasGathered}
+use Rattle.csv_order.specs.Checks.{Stop, first_stop, stop_in}
+use Rattle.csv_order.specs.Table.{table_lines}
+use Rattle.csv_gather.specs.Gather.{least, wrong, gather, gather_file}
 use Rattle.rules.specs.Plain.{plain_fresh}
 use Rattle.rules.specs.Watches.{fresh_watched}
 use Rattle.page.specs.Buffer.{buffer_bytes}
-use Rattle.desk.specs.declared.Answer.{Answer}
 use Rattle.desk.specs.declared.Desk.{Desk}
-use Rattle.desk.specs.declared.Parts.{Parts}
-use Rattle.desk.specs.Held.{desk_with}
 use Rattle.desk.specs.Layout.{desk_of, pages_of}
 use Rattle.desk.proofs.FreshLaws.{fresh_well, fresh_right}
 use Rattle.rules.specs.Store.{fresh}
-use Rattle.carry.specs.declared.Told.{Told}
 use Rattle.desk.specs.Making.{Found, Made, counted, made as makes}
 use Rattle.spreadsheet.specs.Read.{Read, stopped, sign_ons, signed_all, verdict, read_lines, read_file}
 use Rattle.spreadsheet.specs.Call.{laid_out, Reads}
@@ -80,39 +71,17 @@ pub read_wrong : (file : List ℕ) (n : ℕ) → gather_file file ≡ wrong n �
 unfolding gather_file read_file
 read_wrong file n g = from_bad (file_read file) n g
 
--- ---- the line that is stopped
-
-stop_some : (on : ℕ → Bool) (how_many : ℕ) (ls : List Listed) (s : Stop) → first_stop on how_many ls ≡ some s → s.number ≡ 0 → ⊥
-unfolding first_stop
-stop_some on how_many [] s e = none-some e
-stop_some on how_many (l ∷ ls) s e =
-    by_cases (eqb (stop_of on how_many l) 0)
-    (λ t. stop_some (also_on l.row.key on) (suc how_many) ls s (rw t at e))
-    (λ t z. let c : stop_of on how_many l ≡ s.number = some-number (rw t at e) in eqb-false (stop_of on how_many l) 0 t (c ∙ z))
-  where
-    some-number : {a : Stop} → some a ≡ some s → a.number ≡ s.number
-    some-number q = cc
-
--- number 0 is answered where none is
-pub none_stopped : (ls : List Listed) → (answered (stop_in ls)).number ≡ 0 → stop_in ls ≡ none
-unfolding stop_in
-none_stopped ls e = option_cases (first_stop (λ _. false) 0 ls) (λ n. n) (λ s q. absurd (stop_some (λ _. false) 0 ls s q (sym (ap (λ (o : Option Stop). (answered o).number) q) ∙ e)))
-
 -- ---- what is answered and left
 
 module _ (ls : List Listed) (x : Found) where
   -- a line is stopped: every byte is kept
-  pub stopped_laid : {stop : Stop} → stop ≡ answered (stop_in ls) → (stop.number ≡ 0 → ⊥)
-      → makes (counted stop.number stop.line) x.desk x.pages ≡ laid_out (verdict (stop_in ls) (signed_all ls fresh_watched)) x
-  stopped_laid {stop} e n = option_cases (stop_in ls)
-      (λ q. absurd (n (ap (λ (s : Stop). s.number) e ∙ ap (λ (o : Option Stop). (answered o).number) q)))
-      (λ s q. rw (e, q) refl)
+  pub stopped_laid : {stop : Stop} → Some stop ≡ stop_in ls → makes (counted stop.number stop.line) x.desk x.pages ≡ laid_out (verdict (stop_in ls) (signed_all ls fresh_watched)) x
+  stopped_laid e = rw (← e) refl
 
   -- none is
-  pub signed_laid : {stop : Stop} → stop ≡ answered (stop_in ls) → stop.number ≡ 0 → {d : Desk} {b : List ℕ} → Holds (signed_all ls fresh_watched) d b
+  pub signed_laid : None ≡ stop_in ls → {d : Desk} {b : List ℕ} → Holds (signed_all ls fresh_watched) d b
       → makes (counted 0 0) d b ≡ laid_out (verdict (stop_in ls) (signed_all ls fresh_watched)) x
-  signed_laid {stop} e n {d} {b} h =
-      rw (none_stopped ls (sym (ap (λ (s : Stop). s.number) e) ∙ n)) (λ i. makes (counted 0 0) (h.held i) (h.pages i))
+  signed_laid e h = rw (← e) (λ i. makes (counted 0 0) (h.held i) (h.pages i))
 
 -- ---- the contract
 
@@ -127,25 +96,7 @@ pub Reads_lines : (file : List ℕ) (x : Found) (taken : List Listed) {y : Made}
     → y ≡ laid_out (verdict (stop_in taken) (signed_all taken fresh_watched)) x → Reads file x y
 Reads_lines file x taken {y} e g q = record { size = λ k. absurd (k e); read = λ _. q ∙ sym (ap (λ (r : Read). laid_out r x) (read_least file taken g)) }
 
--- what is returned, in its parts
-pub told_made : (t : Told) {parts : Parts} {a : Answer} {cells waiting memo on watches pages : List ℕ} {y : Made} → t ≡ record { parts = parts; answer = a }
-    → makes a (desk_with parts cells waiting memo on watches) pages ≡ y → makes t.answer (desk_with t.parts cells waiting memo on watches) pages ≡ y
-told_made t {cells = cells} {waiting = waiting} {memo = memo} {on = on} {watches = watches} {pages = pages} e q =
-    ap (λ (s : Told). makes s.answer (desk_with s.parts cells waiting memo on watches) pages) e ∙ q
-
 -- a fresh store
 pub fresh-Holds : {d : Desk} {b : List ℕ} → d ≡ desk_of fresh_watched → b ≡ pages_of fresh → Holds fresh_watched d b
 unfolding fresh_watched
 fresh-Holds d b = record { well = fresh_well; right = fresh_right; held = d; pages = b }
-
-pub Reads_told : (file : List ℕ) (x : Found) (t : Told) {parts : Parts} {a : Answer} {cells waiting memo on watches pages : List ℕ} → t ≡ record { parts = parts; answer = a }
-    → Reads file x (makes a (desk_with parts cells waiting memo on watches) pages) → Reads file x (makes t.answer (desk_with t.parts cells waiting memo on watches) pages)
-Reads_told file x t e r = subst (Reads file x) (sym (told_made t e refl)) r
-
--- ---- what the lines were gathered to
-
-pub gathered_bad : (file words : List ℕ) (r : Gathered) (line : ℕ) → HasGathered (gather_file file) words r → r ≡ Bad line → gather_file file ≡ wrong line
-gathered_bad file words r line h e = subst (HasGathered (gather_file file) words) e h
-
-pub gathered_lines : (file words : List ℕ) (r : Gathered) (n : ℕ) → HasGathered (gather_file file) words r → r ≡ Lines n → Table n words × (gather_file file ≡ least (listed_in n words))
-gathered_lines file words r n h e = subst (HasGathered (gather_file file) words) e h

@@ -1,38 +1,28 @@
 -- Desk and pages of a store, sign-on after sign-on: each is carried out on a sound store, and leaves one.
-use mathlib.Core.List.{List, [], ◌∷◌, ◌++◌, map}
+use mathlib.Core.List.{List, [], ◌∷◌, ◌++◌}
 use mathlib.Core.Path.{◌≡◌, refl, sym, ap, ap₂, ◌∙◌, subst}
-use Prim.Native.Nat.{ℕ, suc, ◌+◌, ◌*◌, ◌≤◌, ◌<◌}
+use Prim.Native.Nat.{ℕ, ◌+◌, ◌≤◌, ◌<◌}
 use native.Mathlib.Omega.{arith}
-use lib.ListN.{length, get_or, take, length-map}
+use lib.ListN.{length, get_or, take}
 use lib.Seq.{take_all, take-suc}
-use Rattle.terms.specs.Terms.{field_bytes, minute_bytes, max_on}
+use Rattle.terms.specs.Terms.{field_bytes, minute_bytes}
 use Rattle.lists.specs.Parts.{put}
-use Rattle.lists.specs.Sums.{concat}
 use Rattle.lists.specs.Words.{le}
 use Rattle.lists.proofs.PartsLaws.{put_then, put_whole}
 use Rattle.csv_grammar.specs.Csv.{Listed, Fits}
-use Rattle.csv_order.specs.Table.{no_listed, every_line, listed_in, Table, Stands}
-use Rattle.csv_order.proofs.TableLaws.{length_listed, get_or_listed, range_at, Table_Stands}
-use Rattle.rules.specs.Limits.{max_cells, full_memory}
+use native.Mathlib.Numerals.{add-one}
+use Rattle.csv_order.specs.Table.{no_listed}
 use Rattle.rules.specs.Records.{kind_sign_on}
-use Rattle.rules.specs.Store.{Store}
 use Rattle.rules.specs.Calls.{hands, carry_record, carry_call}
-use Rattle.rules.specs.Watches.{Watched, RightWatches, latest_place}
+use Rattle.rules.specs.Watches.{Watched, RightWatches}
 use Rattle.rules.specs.WellFormed.{WellFormed}
 use Rattle.rules.proofs.StepLaws.{step_well}
 use Rattle.desk.specs.declared.Answer.{Answer}
 use Rattle.desk.specs.declared.Desk.{Desk}
-use Rattle.desk.specs.declared.Line.{Line}
 use Rattle.desk.specs.Call.{After, handed, left, CarriedOut, laid_out}
-use Rattle.desk.specs.Layout.{slot_fields, slotted, no_slot, slot_of, directory_of, grid_of, report_fields, no_report, report_of, waiting_of, line_fields, line_slots, line_of, fields_of, memo_of, on_of, ledger_of, watch_fields, desk_of, Laid}
-use Rattle.desk.specs.Sizes.{DeskArrays}
+use Rattle.desk.specs.Layout.{Laid}
 use Rattle.desk.specs.Sound.{Sound}
 use Rattle.desk.proofs.PagesLaws.{Laid_pages, pages_Laid}
-use Rattle.desk.proofs.ReportsLaws.{length-report_words}
-use Rattle.desk.proofs.SlotsLaws.{length-slot_words}
-use Rattle.desk.proofs.WatchesLaws.{length_watches}
-use Rattle.memo.proofs.MemoLaws.{well_memo}
-use Rattle.waiting.proofs.SlotsLaws.{length-slotted}
 use Rattle.spreadsheet.specs.Read.{sign_on_of, signed_all}
 use Rattle.spreadsheet.proofs.SignOnLaws.{sign_on_Bytes}
 use Rattle.spreadsheet_read.specs.Signing.{Holds, signed}
@@ -50,45 +40,6 @@ Sound_of {w} h = record {
 
 pub Holds_of : {d : Desk} {b : List ℕ} (s : Sound d b) → Holds s.watched d b
 Holds_of {d} {b} s = record { well = s.well; right = s.right; held = s.held; pages = pages_Laid s.watched.store s.well.once b s.laid }
-
--- its arrays are as long as they must be
-fields_long : (l : List Line) → length (concat (map fields_of l)) ≡ line_fields * length l
-unfolding concat
-fields_long [] = refl
-fields_long (x ∷ xs) = omega (arith, fields_long xs)
-
-module _ (s : Store) (well : WellFormed s) where
-  cells_long : length (ledger_of s).cells ≡ slot_fields * max_cells
-  unfolding ledger_of grid_of directory_of
-  cells_long =
-      length-slot_words (slotted max_cells no_slot (map slot_of s.cells))
-      ∙ ap (λ (k : ℕ). slot_fields * k) (length-slotted max_cells no_slot (map slot_of s.cells) (omega (arith, length-map s.cells slot_of, well.few_cells)))
-
-  waiting_long : length (ledger_of s).waiting ≡ report_fields * full_memory
-  unfolding ledger_of waiting_of
-  waiting_long =
-      length-report_words (slotted full_memory no_report (map report_of s.waiting))
-      ∙ ap (λ (k : ℕ). report_fields * k) (length-slotted full_memory no_report (map report_of s.waiting) (omega (arith, length-map s.waiting report_of, well.few_wait)))
-
-  memo_long : length (ledger_of s).memo ≡ line_fields * line_slots
-  unfolding ledger_of memo_of
-  memo_long = length-slotted (line_fields * line_slots) 0 _ (omega (arith, fields_long (map line_of s.memo), length-map s.memo line_of, well_memo s well))
-
-  on_long : length (ledger_of s).on ≡ max_on
-  unfolding ledger_of on_of
-  on_long = length-slotted max_on 0 (map (λ x. x.key) s.on) (omega (arith, length-map s.on (λ x. x.key), well.few_on))
-
-pub desk_arrays : {w : Watched} {d : Desk} {b : List ℕ} → Holds w d b → DeskArrays d.cells d.waiting d.memo d.on d.watches
-unfolding desk_of
-desk_arrays {w} {d} h = (
-  (
-    ap (λ (x : Desk). length x.cells) h.held ∙ cells_long w.store h.well,
-    ap (λ (x : Desk). length x.waiting) h.held ∙ waiting_long w.store h.well,
-    ap (λ (x : Desk). length x.memo) h.held ∙ memo_long w.store h.well,
-    ap (λ (x : Desk). length x.on) h.held ∙ on_long w.store h.well,
-  ),
-  ap (λ (x : Desk). length x.watches) h.held ∙ length_watches (latest_place w.store) w.watches ∙ ap (λ (n : ℕ). watch_fields * n) h.right.sixteen,
-)
 
 -- ---- one line
 
@@ -121,45 +72,28 @@ unfolding signed_all
 signed_last [] l w = refl
 signed_last (x ∷ xs) l w = signed_last xs l (signed x w)
 
+-- the first i lines are signed on
 pub record Signing (ls : List Listed) (d₀ : Desk) (b₀ : List ℕ) (d : Desk) (b : List ℕ) (i : ℕ) : Type 0 where
   pub sound : Sound d b
-  pub arrays : DeskArrays d.cells d.waiting d.memo d.on d.watches
   pub holds : (w : Watched) → Holds w d₀ b₀ → Holds (signed_all (take i ls) w) d b
 
-pub Signing_start : (ls : List Listed) (d : Desk) (b : List ℕ) → DeskArrays d.cells d.waiting d.memo d.on d.watches → Sound d b → Signing ls d b d b 0
+pub Signing_start : (ls : List Listed) (d : Desk) (b : List ℕ) → Sound d b → Signing ls d b d b 0
 unfolding signed_all
-Signing_start ls d b a s = record { sound = s; arrays = a; holds = λ w h. h }
+Signing_start ls d b s = record { sound = s; holds = λ w h. h }
 
--- the line at i
-module _ {n : ℕ} {words : List ℕ} (t : Table n words) {i : ℕ} (h : i < n) where
-  pub asks_line : Stands i words
-  asks_line = Table_Stands t i h
-
+module _ {ls : List Listed} {d₀ : Desk} {b₀ : List ℕ} {d : Desk} {b : List ℕ} {i : ℕ} (k : Signing ls d₀ b₀ d b i) where
   -- one line more is signed on
-  one_more : take (i + 1) (listed_in n words) ≡ take i (listed_in n words) ++ (get_or (every_line words) i no_listed ∷ [])
-  one_more =
-      ap (λ (k : ℕ). take k (listed_in n words)) next
-      ∙ take-suc (listed_in n words) i no_listed (omega (arith, length_listed words t.few t.size))
-      ∙ ap (λ (x : Listed). take i (listed_in n words) ++ (x ∷ [])) (get_or_listed words i h)
-    where
-      next : i + 1 ≡ suc i
-      next = omega arith
-
-  pub Signing_turn : {d₀ : Desk} {b₀ : List ℕ} {d : Desk} {b : List ℕ} → Signing (listed_in n words) d₀ b₀ d b i → (d' : Desk) (b' : List ℕ) {x : Listed} → x ≡ get_or (every_line words) i no_listed
-      → ((w : Watched) → Fits x.row → Holds w d b → Holds (signed x w) d' b') → Signing (listed_in n words) d₀ b₀ d' b' (i + 1)
-  Signing_turn {d₀} {b₀} k d' b' {x} e f =
-      let fits : Fits x.row = subst (λ (y : Listed). Fits y.row) (sym e) (range_at t i h) in
-      let now = f k.sound.watched fits (Holds_of k.sound) in
+  pub Signing_turn : i < length ls → (d' : Desk) (b' : List ℕ) {x : Listed} → x ≡ get_or ls i no_listed → Fits x.row
+      → ((w : Watched) → Fits x.row → Holds w d b → Holds (signed x w) d' b') → Signing ls d₀ b₀ d' b' (i + 1)
+  Signing_turn h d' b' {x} e fits f =
+      let one_more : take (i + 1) ls ≡ take i ls ++ (x ∷ []) = ap (λ (j : ℕ). take j ls) (add-one i) ∙ take-suc ls i no_listed h ∙ ap (λ (y : Listed). take i ls ++ (y ∷ [])) (sym e) in
       record {
-        sound = Sound_of now;
-        arrays = desk_arrays now;
-        holds = λ w held. subst (λ (v : Watched). Holds v d' b') (sym (ap (λ (ls : List Listed). signed_all ls w) (one_more ∙ ap (λ (y : Listed). take i (listed_in n words) ++ (y ∷ [])) (sym e)) ∙ signed_last (take i (listed_in n words)) x w)) (f (signed_all (take i (listed_in n words)) w) fits (k.holds w held));
+        sound = Sound_of (f k.sound.watched fits (Holds_of k.sound));
+        holds = λ w held. subst (λ (v : Watched). Holds v d' b') (sym (ap (λ (l : List Listed). signed_all l w) one_more ∙ signed_last (take i ls) x w)) (f (signed_all (take i ls) w) fits (k.holds w held));
       }
 
-pub Signing_end : {n : ℕ} {words : List ℕ} (t : Table n words) {i : ℕ} {d₀ : Desk} {b₀ : List ℕ} {d : Desk} {b : List ℕ} → Signing (listed_in n words) d₀ b₀ d b i → n ≤ i
-    → (w : Watched) → Holds w d₀ b₀ → Holds (signed_all (listed_in n words) w) d b
-Signing_end {n} {words} t {i} {d = d} {b = b} k h w held =
-    subst (λ (ls : List Listed). Holds (signed_all ls w) d b) (take_all i (listed_in n words) (omega (arith, length_listed words t.few t.size))) (k.holds w held)
+  pub Signing_end : length ls ≤ i → (w : Watched) → Holds w d₀ b₀ → Holds (signed_all ls w) d b
+  Signing_end h w held = subst (λ (l : List Listed). Holds (signed_all l w) d b) (take_all i ls h) (k.holds w held)
 
 -- ---- the record of a line
 

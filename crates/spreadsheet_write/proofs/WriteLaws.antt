@@ -1,15 +1,19 @@
 -- Writing all radios on: the rows that are laid out beside the radios on are those of the store, and so is the file.
 use mathlib.Core.List.{List}
-use mathlib.Core.Path.{◌≡◌, sym, subst}
+use mathlib.Core.Path.{◌≡◌, sym, ap, subst, ◌∙◌}
 use Prim.Native.Nat.{ℕ, ◌≤◌, ◌<◌}
 use native.Mathlib.Omega.{arith}
-use lib.ListN.{length}
+use lib.ListN.{length, get_or, take}
+use lib.Seq.{length-take-le, get_or-take}
 use borrow.Author.Tests.{lt-ltb, le-ltb}
 use Rattle.terms.specs.Terms.{Fix}
-use Rattle.lists.specs.Parts.{put}
+use Rattle.lists.specs.Parts.{put, tab}
 use Rattle.lists.specs.Rows.{Rows}
 use Rattle.csv_grammar.specs.Csv.{file_of}
-use Rattle.csv_text.specs.Text.{rows_in}
+use Rattle.terms.specs.Values.{fix_of}
+use Rattle.terms.specs.declared.Fix.{Fix as HeldFix}
+use Rattle.lists.proofs.PartsLaws.{tab_ext}
+use Rattle.csv_text.specs.Text.{no_fix, row_at, rows_in}
 use Rattle.rules.specs.Calls.{writes, carry_call}
 use Rattle.rules.specs.Everyone.{everyone}
 use Rattle.rules.specs.Store.{Store}
@@ -38,10 +42,14 @@ module _ (file buffer : List ℕ) {n : ℕ} {a : Answer} (l : n ≡ length file)
 
 -- ---- on a sound store
 
-pub everyone-Wrote : (s : Store) (n : ℕ) (radios easts norths minutes before : List ℕ) {after : List ℕ} {a : Answer} → FixesOn s n radios easts norths minutes
-    → Wrote (file_of (rows_in n radios easts norths minutes)) before a after → Wrote (file_of (everyone s)) before a after
+pub everyone-Wrote : (s : Store) (n : ℕ) (on : List ℕ) (fixes : List HeldFix) (before : List ℕ) {after : List ℕ} {a : Answer} → n ≤ length on → FixesOn s n on fixes
+    → Wrote (file_of (rows_in (length (take n on)) (take n on) fixes)) before a after → Wrote (file_of (everyone s)) before a after
 unfolding rows_in
-everyone-Wrote s n radios easts norths minutes before {after} {a} f w = subst (λ (r : Rows Fix). Wrote (file_of r) before a after) f.rows w
+everyone-Wrote s n on fixes before {after} {a} h f w =
+    let l : length (take n on) ≡ n = length-take-le n on h in
+    let same : tab n (row_at (take n on) fixes) ≡ tab n (row_at on fixes) =
+    tab_ext n (row_at (take n on) fixes) (row_at on fixes) (λ i b. ap (λ (r : ℕ). record { key = r; val = fix_of (get_or fixes i no_fix) }) (get_or-take n on i 0 b)) in
+    subst (λ (r : Rows Fix). Wrote (file_of r) before a after) (ap (λ (k : ℕ). tab k (row_at (take n on) fixes)) l ∙ (same ∙ f.rows)) w
 
 -- neither desk nor pages change
 pub Wrote_carried : (d : Desk) (b buffer : List ℕ) {a : Answer} {after : List ℕ} → ((s : SoundLedger (desk_ledger d) b) → Wrote (file_of (everyone s.store)) buffer a after)

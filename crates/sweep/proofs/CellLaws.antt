@@ -12,7 +12,6 @@ use Rattle.lists.specs.Sums.{sum_by}
 use Rattle.lists.specs.Tests.{Each}
 use Rattle.lists.proofs.SumsLaws.{sum-cons, sum-le, length-filter, length-filter-not}
 use Rattle.lists.proofs.TestsLaws.{Each_map, Each_zip}
-use Rattle.entries.specs.Entries.{table_with, table_words, rows_of}
 use Rattle.page.specs.declared.Chain.{Chain}
 use Rattle.page.specs.Buffer.{there, pages_of, chain_from, entries_on}
 use Rattle.rules.specs.Store.{Line, Cell, Store}
@@ -24,7 +23,8 @@ use Rattle.rules.proofs.WellLaws.{well_Core}
 use Rattle.desk.specs.Held.{Memo}
 use Rattle.desk.specs.Layout.{line_slots, memo_of, Laid}
 use Rattle.desk.proofs.ReadLaws.{CellRead, Paged, cells_read, pages_enough}
-use Rattle.memo.specs.Memo.{lines_of, Whole}
+use Rattle.memo.specs.Memo.{lines_of, GoodMemo}
+use Rattle.sweep.specs.Sweep.{ReadableChain}
 use Rattle.memo.proofs.MemoLaws.{lines_are, Whole_is, count_is}
 
 -- ---- lists
@@ -82,23 +82,16 @@ module _ {b : List ℕ} {memo : Rows Line} {c : Cell} (cell : Sweepable b memo c
   on_chain : entries_on b (pages_of chain) ≡ c.entries
   on_chain = ap (entries_on b) Whole_chain ∙ cell.entries
 
-  pub cell_asks : (table : List ℕ) → chain.n ≤ pages → length memo ≤ line_slots → Rising 0 memo → length table ≡ table_words
-      → (chain.n ≤ pages) × Each (λ p. there b p ≡ true) (pages_of chain) × Rising 0 (entries_on b (pages_of chain)) × Whole m × (m.n ≤ line_slots) × Rising 0 (lines_of m) × (length (swept_entries (lines_of m) (entries_on b (pages_of chain))) ≤ max_on)
-      × (length table ≡ table_words)
-  cell_asks table n f a t = (
-    n,
-    subst (λ (l : List ℕ). Each (λ p. there b p ≡ true) l) (sym Whole_chain) cell.all_there,
-    subst (λ (l : Rows Fix). Rising 0 l) (sym on_chain) cell.rising,
-    Whole_is memo held,
-    omega (arith, count_is memo held),
-    subst (λ (l : Rows Line). Rising 0 l) (sym (lines_are memo held)) a,
+  pub cell_asks : chain.n ≤ pages → length memo ≤ line_slots → Rising 0 memo
+      → ReadableChain b chain × GoodMemo m × (length (swept_entries (lines_of m) (entries_on b (pages_of chain))) ≤ max_on)
+  cell_asks n f a = (
+    (n, subst (λ (l : List ℕ). Each (λ p. there b p ≡ true) l) (sym Whole_chain) cell.all_there, subst (λ (l : Rows Fix). Rising 0 l) (sym on_chain) cell.rising),
+    (Whole_is memo held, omega (arith, count_is memo held), subst (λ (l : Rows Line). Rising 0 l) (sym (lines_are memo held)) a),
     rw (on_chain, lines_are memo held) cell.room,
-    t,
   )
 
-  pub cell_gives : (n : ℕ) (table : List ℕ) {after : Memo}
-      → (rows_of (table_with n table) ≡ swept_entries (lines_of m) (entries_on b (pages_of chain))) × (n ≡ length (swept_entries (lines_of m) (entries_on b (pages_of chain)))) × (after ≡ memo_of (swept_memo (lines_of m) (entries_on b (pages_of chain))))
-      × (length table ≡ table_words)
-      → (rows_of (table_with n table) ≡ (swept memo c).entries) × (n ≡ length (swept memo c).entries) × (after ≡ memo_of (swept_memo memo c.entries)) × (length table ≡ table_words)
+  pub cell_gives : {table : Rows Fix} {after : Memo}
+      → (table ≡ swept_entries (lines_of m) (entries_on b (pages_of chain))) × (after ≡ memo_of (swept_memo (lines_of m) (entries_on b (pages_of chain))))
+      → (table ≡ (swept memo c).entries) × (after ≡ memo_of (swept_memo memo c.entries))
   unfolding swept
-  cell_gives n table = rw (on_chain, lines_are memo held) (λ g. g)
+  cell_gives = rw (on_chain, lines_are memo held) (λ g. g)

@@ -1,13 +1,13 @@
 -- The walk along the memo's lines: the rank that it comes to, and what the line there says of an entry.
 use mathlib.Core.Path.{◌≡◌, sym, ap, ◌∙◌}
 use mathlib.Core.Bool.{Bool, true, false, not}
-use mathlib.Core.List.{[], ◌∷◌}
+use mathlib.Core.List.{List, [], ◌∷◌}
 use mathlib.Core.Logic.{◌≢◌}
-use mathlib.Core.Option.{Option, some}
+use Rattle.std.specs.Prelude.{Option, Some}
 use Prim.Native.Nat.{ℕ, ◌+◌, ◌≤◌, ◌<◌}
 use native.Mathlib.Omega.{arith}
 use lib.Dec.{eqb, ltb}
-use lib.ListN.{length, get_or}
+use lib.ListN.{length, get_or, length-map, get_or-map}
 use borrow.Author.Tests.{eqb-true, ltb-true, lt-ltb, le-ltb, eq-eqb, ne_eqb}
 use Rattle.terms.specs.Terms.{Place}
 use Rattle.lists.specs.Rows.{Row, Rows, Rising, find, rank}
@@ -16,15 +16,15 @@ use Rattle.lists.proofs.Cases.{by_cases, none-some}
 use Rattle.lists.proofs.SearchLaws.{rank-cons, rank-le, find-rank, find-rank-none}
 use Rattle.lists.proofs.SumsLaws.{sum-le}
 use Rattle.entries.specs.declared.Entry.{Entry}
-use Rattle.entries.specs.Entries.{row_of, place_of}
+use Rattle.entries.specs.Entries.{row_of as row_of_entry, place_of}
 use Rattle.rules.specs.Store.{Line as StoreLine}
 use Rattle.rules.specs.Sweep.{is_at, stale}
 use Rattle.desk.specs.declared.Line.{Line}
-use Rattle.desk.specs.Held.{Memo}
 use Rattle.desk.specs.Layout.{no_line}
-use Rattle.desk.specs.Views.{lines_in}
-use Rattle.memo.specs.Memo.{last_of, no_row, lines_of, Whole}
-use Rattle.memo_sweep.proofs.LowerLaws.{rank_at, in_Slots, row_at}
+use Rattle.memo.specs.Memo.{row_of, no_row}
+use Rattle.desk.specs.Views.{last_of}
+use Rattle.memo_sweep.proofs.LowerLaws.{rank_at}
+use Rattle.sweep.specs.Sweep.{rows_in}
 
 -- ---- ranks
 
@@ -37,7 +37,7 @@ module _ {Val : Type 0} where
   rank_rises q r l h = sum-le _ _ l (λ x. below_le q r x.key h)
 
   -- past a key that is there
-  pub rank_past : (q r : ℕ) (l : Rows Val) (v : Val) → q < r → find l q ≡ some v → rank q l < rank r l
+  pub rank_past : (q r : ℕ) (l : Rows Val) (v : Val) → q < r → find l q ≡ Some v → rank q l < rank r l
   unfolding find
   rank_past q r [] v h = none-some
   rank_past q r (x ∷ l) v h =
@@ -49,7 +49,7 @@ module _ {Val : Type 0} where
 
   -- the row at i lies before the rank of r where its key is below r, and else it does not
   module _ (l : Rows Val) (r i : ℕ) (d : Row Val) (rising : Rising 0 l) (inside : i < length l) where
-    key_there : find l (get_or l i d).key ≡ some (get_or l (rank (get_or l i d).key l) d).val
+    key_there : find l (get_or l i d).key ≡ Some (get_or l (rank (get_or l i d).key l) d).val
     key_there =
         let k = rank_at l i d rising inside in
         find-rank 0 (get_or l i d).key l d rising (omega arith) (ap (λ (j : ℕ). (get_or l j d).key) k)
@@ -62,61 +62,41 @@ module _ {Val : Type 0} where
 
 -- ---- from line to line
 
-module _ (m : Memo) (whole : Whole m) where
-  count : m.n ≡ length (lines_of m)
-  count = (in_Slots m whole).count
+module _ (ls : List Line) where
+  many : length (rows_in ls) ≡ length ls
+  many = length-map ls row_of
 
-  module _ (r : ℕ) {at : ℕ} (reached : at ≤ rank r (lines_of m)) where
-    pub walk_inside : at ≤ m.n
-    walk_inside = omega (arith, count, rank-le r (lines_of m))
+  row_at : (i : ℕ) → get_or (rows_in ls) i no_row ≡ row_of (get_or ls i no_line)
+  row_at i = get_or-map row_of ls i no_line
 
-    pub walk_past : m.n ≤ at → at ≡ rank r (lines_of m)
-    walk_past h = omega (arith, count, rank-le r (lines_of m))
+  module _ (r : ℕ) {at : ℕ} (reached : at ≤ rank r (rows_in ls)) where
+    pub walk_past : length ls ≤ at → length ls ≡ rank r (rows_in ls)
+    walk_past h = omega (arith, many, rank-le r (rows_in ls))
 
-    module _ (rising : Rising 0 (lines_of m)) {x : Line} (read : x ≡ get_or (lines_in m.words) at no_line) (more : at < m.n) where
-      radio-at : x.radio ≡ (get_or (lines_of m) at no_row).key
-      radio-at = ap (λ (y : Row StoreLine). y.key) (row_at m whole read more)
+    module _ (rising : Rising 0 (rows_in ls)) (more : at < length ls) where
+      radio-at : (get_or ls at no_line).radio ≡ (get_or (rows_in ls) at no_row).key
+      radio-at = ap (λ (y : Row StoreLine). y.key) (sym (row_at at))
 
-      pub walk_here : r ≤ x.radio → at ≡ rank r (lines_of m)
-      walk_here h = omega (arith, rank_below (lines_of m) r at no_row rising (omega (arith, count)) (omega (arith, radio-at)))
+      pub walk_here : r ≤ (get_or ls at no_line).radio → at ≡ rank r (rows_in ls)
+      walk_here h = omega (arith, rank_below (rows_in ls) r at no_row rising (omega (arith, many)) (omega (arith, radio-at)))
 
-      pub walk_on : x.radio < r → at + 1 ≤ rank r (lines_of m)
-      walk_on h = omega (arith, rank_above (lines_of m) r at no_row rising (omega (arith, count)) (omega (arith, radio-at)))
+      pub walk_on : (get_or ls at no_line).radio < r → at + 1 ≤ rank r (rows_in ls)
+      walk_on h = omega (arith, rank_above (rows_in ls) r at no_row rising (omega (arith, many)) (omega (arith, radio-at)))
 
   -- ---- the line at a radio's rank
 
-  module _ (e : Entry) {at : ℕ} (rising : Rising 0 (lines_of m)) (here : at ≡ rank e.radio (lines_of m)) where
-    pub stale_past : m.n ≤ at → false ≡ stale (lines_of m) (row_of e)
-    stale_past h = rw (find-rank-none 0 e.radio (lines_of m) no_row rising (λ k _. absurd (omega (arith, count))))
+  module _ (e : Entry) {at : ℕ} (rising : Rising 0 (rows_in ls)) (here : at ≡ rank e.radio (rows_in ls)) where
+    pub stale_past : length ls ≤ at → false ≡ stale (rows_in ls) (row_of_entry e)
+    stale_past h = rw (find-rank-none 0 e.radio (rows_in ls) no_row rising (λ k _. absurd (omega (arith, many))))
 
-    module _ {x : Line} (read : x ≡ get_or (lines_in m.words) at no_line) (more : at < m.n) where
-      row_here : get_or (lines_of m) (rank e.radio (lines_of m)) no_row ≡ get_or (lines_of m) at no_row
-      row_here = ap (λ (i : ℕ). get_or (lines_of m) i no_row) (sym here)
+    module _ {x : Line} (read : x ≡ get_or ls at no_line) (more : at < length ls) where
+      row_here : get_or (rows_in ls) (rank e.radio (rows_in ls)) no_row ≡ row_of x
+      row_here = ap (λ (i : ℕ). get_or (rows_in ls) i no_row) (sym here) ∙ row_at at ∙ ap row_of (sym read)
 
-      radio_here : (get_or (lines_of m) (rank e.radio (lines_of m)) no_row).key ≡ x.radio
-      radio_here = ap (λ (y : Row StoreLine). y.key) (row_here ∙ sym (row_at m whole read more))
+      pub stale_other : x.radio ≢ e.radio → eqb x.radio e.radio ≡ stale (rows_in ls) (row_of_entry e)
+      stale_other h = rw (ne_eqb x.radio e.radio h, find-rank-none 0 e.radio (rows_in ls) no_row rising (λ _ k. h (sym (ap (λ (y : Row StoreLine). y.key) row_here) ∙ k)))
 
-      last_here : (get_or (lines_of m) (rank e.radio (lines_of m)) no_row).val.last ≡ last_of x
-      last_here = ap (λ (y : Row StoreLine). y.val.last) (row_here ∙ sym (row_at m whole read more))
-
-      pub stale_other : x.radio ≢ e.radio → false ≡ stale (lines_of m) (row_of e)
-      stale_other h = rw (find-rank-none 0 e.radio (lines_of m) no_row rising (λ _ k. h (sym radio_here ∙ k)))
-
-      pub stale_here : {b : Bool} → x.radio ≡ e.radio → b ≡ not (is_at (last_of x) (place_of e)) → b ≡ stale (lines_of m) (row_of e)
+      pub stale_here : {b : Bool} → x.radio ≡ e.radio → b ≡ not (is_at (last_of x) (place_of e)) → b ≡ stale (rows_in ls) (row_of_entry e)
       stale_here {b} h s =
-          let f = find-rank 0 e.radio (lines_of m) no_row rising (omega (arith, count)) (radio_here ∙ h) in
-          rw f (s ∙ ap (λ (o : Option Place). not (is_at o (place_of e))) (sym last_here))
-
--- ---- "another place or none"
-
-module _ (x : Line) (e : Entry) where
-  pub elsewhere_none : x.placed ≡ 0 → true ≡ not (is_at (last_of x) (place_of e))
-  elsewhere_none h = rw (eq-eqb x.placed 0 h)
-
-  pub elsewhere_east : x.placed ≢ 0 → x.east ≢ e.east → true ≡ not (is_at (last_of x) (place_of e))
-  unfolding both
-  elsewhere_east h g = rw (ne_eqb x.placed 0 h, ne_eqb x.east e.east g)
-
-  pub elsewhere_north : x.placed ≢ 0 → x.east ≡ e.east → not (eqb x.north e.north) ≡ not (is_at (last_of x) (place_of e))
-  unfolding both
-  elsewhere_north h g = rw (ne_eqb x.placed 0 h, eq-eqb x.east e.east g)
+          let f = find-rank 0 e.radio (rows_in ls) no_row rising (omega (arith, many)) (ap (λ (y : Row StoreLine). y.key) row_here ∙ h) in
+          rw f (s ∙ ap (λ (o : Option Place). not (is_at o (place_of e))) (sym (ap (λ (y : Row StoreLine). y.val.last) row_here)))

@@ -2,7 +2,7 @@
 use mathlib.Core.Path.{◌≡◌, refl, sym, ap, ◌∙◌, subst}
 use mathlib.Core.Bool.{Bool, false, cond}
 use mathlib.Core.List.{List, [], ◌∷◌}
-use mathlib.Core.Option.{Option, none, some}
+use Rattle.std.specs.Prelude.{Option, None, Some}
 use Prim.Native.Nat.{ℕ, ◌≤◌, ◌<◌}
 use native.Mathlib.Omega.{arith}
 use lib.Dec.{eqb, ltb}
@@ -16,23 +16,21 @@ use Rattle.lists.specs.Tests.{is_some, or_else}
 use Rattle.lists.proofs.Cases.{by_cases, option_cases}
 use Rattle.lists.proofs.RowsLaws.{Rising_less, Rising-alter, Rising-filter, find_below, ext_find}
 use Rattle.lists.proofs.SearchLaws.{rank-le}
-use Rattle.entries.specs.Entries.{table_with, table_words, rows_of}
-use Rattle.entries.proofs.TableLaws.{length_rows}
 use Rattle.rules.specs.Store.{Line as StoreLine}
-use Rattle.rules.specs.Sweep.{stale, lowered, lower_each, swept_entries, swept_memo}
+use Rattle.rules.specs.Sweep.{stale, lowered, lower_each, swept_memo}
 use Rattle.rules.proofs.BooksLaws.{lowered_if, find-swept_memo}
 use Rattle.desk.specs.Held.{Memo}
 use Rattle.desk.specs.Layout.{line_slots, memo_of}
-use Rattle.memo.specs.Memo.{lines_of, Whole}
+use Rattle.memo.specs.Memo.{lines_of, GoodMemo}
 use Rattle.memo_sweep.specs.Lowering.{lower_if, lower_where, mark_of}
 use Rattle.memo_sweep.proofs.LowerLaws.{is_some_kept, in_Slots}
-use Rattle.sweep.specs.Sweep.{line_places, Roomy, State, begun, judged, walked}
+use Rattle.sweep.specs.Sweep.{line_places, State, begun, judged, walked}
 use Rattle.sweep.proofs.LinesLaws.{rank_past}
 
 -- ---- marks
 
 -- two keys that are there have two ranks
-rank_apart : {Val : Type 0} (q r : ℕ) (l : Rows Val) (v w : Val) → find l q ≡ some v → find l r ≡ some w → rank q l ≡ rank r l → q ≡ r
+rank_apart : {Val : Type 0} (q r : ℕ) (l : Rows Val) (v w : Val) → find l q ≡ Some v → find l r ≡ Some w → rank q l ≡ rank r l → q ≡ r
 rank_apart q r l v w f g e =
     by_cases (ltb q r)
     (λ t. absurd (omega (arith, rank_past q r l v (ltb-true q r t) f)))
@@ -42,7 +40,7 @@ rank_apart q r l v w f g e =
 
 module _ (l : Rows StoreLine) where
   -- later entries leave the mark of a line before them
-  mark_stays : (q : ℕ) (v : StoreLine) (s : State) (es : Rows Fix) → find l q ≡ some v → Rising q es → get_or (walked l s es).marks (rank q l) false ≡ get_or s.marks (rank q l) false
+  mark_stays : (q : ℕ) (v : StoreLine) (s : State) (es : Rows Fix) → find l q ≡ Some v → Rising q es → get_or (walked l s es).marks (rank q l) false ≡ get_or s.marks (rank q l) false
   unfolding walked
   mark_stays q v s [] f a = refl
   mark_stays q v s (e ∷ es) f a =
@@ -50,7 +48,7 @@ module _ (l : Rows StoreLine) where
       ∙ get_or-set_other s.marks (rank e.key l) (rank q l) (stale l e) false (λ z. absurd (omega (arith, rank_past q e.key l v a.0 f)))
 
   -- an entry of another radio leaves a line without a mark
-  mark_other : (q : ℕ) (v : StoreLine) (marks : List Bool) (e : Row Fix) → find l q ≡ some v → (q ≡ e.key → ⊥) → rank q l < length marks → get_or marks (rank q l) false ≡ false
+  mark_other : (q : ℕ) (v : StoreLine) (marks : List Bool) (e : Row Fix) → find l q ≡ Some v → (q ≡ e.key → ⊥) → rank q l < length marks → get_or marks (rank q l) false ≡ false
       → get_or (set marks (rank e.key l) (stale l e)) (rank q l) false ≡ false
   mark_other q v marks e f n h z =
       by_cases (eqb (rank q l) (rank e.key l))
@@ -60,7 +58,7 @@ module _ (l : Rows StoreLine) where
       (λ t. get_or-set_other marks (rank e.key l) (rank q l) (stale l e) false (eqb-false (rank q l) (rank e.key l) t) ∙ z)
 
   -- a line is marked by its radio's entry
-  mark_found : (b q : ℕ) (v : StoreLine) (s : State) (es : Rows Fix) → find l q ≡ some v → Rising b es → rank q l < length s.marks → get_or s.marks (rank q l) false ≡ false
+  mark_found : (b q : ℕ) (v : StoreLine) (s : State) (es : Rows Fix) → find l q ≡ Some v → Rising b es → rank q l < length s.marks → get_or s.marks (rank q l) false ≡ false
       → get_or (walked l s es).marks (rank q l) false ≡ is_some (passed (stale l) q (find es q))
   unfolding walked find
   mark_found b q v s [] f a h z = z
@@ -80,16 +78,16 @@ module _ (l : Rows StoreLine) where
 
 find-put_row : {Val : Type 0} (k r : ℕ) (o : Option Val) (l : Rows Val) → find (put_row k o l) r ≡ cond (eqb r k) (or_else o (find l r)) (find l r)
 unfolding find
-find-put_row k r none l = by_cases (eqb r k) (λ t. rw t) (λ t. rw t)
-find-put_row k r (some v) l = refl
+find-put_row k r None l = by_cases (eqb r k) (λ t. rw t) (λ t. rw t)
+find-put_row k r (Some v) l = refl
 
 Rising-put_row : {Val : Type 0} (b k : ℕ) (o : Option Val) (l : Rows Val) → b < k → Rising k l → Rising b (put_row k o l)
-Rising-put_row b k none l h a = Rising_less b k l (omega arith) a
-Rising-put_row b k (some v) l h a = (h, a)
+Rising-put_row b k None l h a = Rising_less b k l (omega arith) a
+Rising-put_row b k (Some v) l h a = (h, a)
 
-or_none : {A : Type 0} (o : Option A) → or_else o none ≡ o
-or_none none = refl
-or_none (some a) = refl
+or_none : {A : Type 0} (o : Option A) → or_else o None ≡ o
+or_none None = refl
+or_none (Some a) = refl
 
 module _ (mark : Row StoreLine → Bool) where
   Rising-lower_where : (b : ℕ) (l : Rows StoreLine) → Rising b l → Rising b (lower_where mark l)
@@ -99,8 +97,8 @@ module _ (mark : Row StoreLine → Bool) where
 
   -- the line found, lowered if it is marked
   abbrev lower_found : ℕ → Option StoreLine → Option StoreLine
-  lower_found r none = none
-  lower_found r (some v) = lower_if (mark (record { key = r; val = v })) v
+  lower_found r None = None
+  lower_found r (Some v) = lower_if (mark (record { key = r; val = v })) v
 
   find-lower_where : (b r : ℕ) (l : Rows StoreLine) → Rising b l → find (lower_where mark l) r ≡ lower_found r (find l r)
   unfolding lower_where find
@@ -123,13 +121,13 @@ unfolding lower_each
 Rising_lower b [] l a r = r
 Rising_lower b (e ∷ es) l a r = Rising_lower e.key es (alter lowered e.key l) a.1 (Rising-alter lowered 0 e.key l (omega arith) r)
 
-lowered_none : (o : Option Fix) → lowered_if o none ≡ none
-lowered_none none = refl
-lowered_none (some p) = refl
+lowered_none : (o : Option Fix) → lowered_if o None ≡ None
+lowered_none None = refl
+lowered_none (Some p) = refl
 
-lowered_some : (o : Option Fix) (v : StoreLine) → lower_if (is_some o) v ≡ lowered_if o (some v)
-lowered_some none v = refl
-lowered_some (some p) v = refl
+lowered_some : (o : Option Fix) (v : StoreLine) → lower_if (is_some o) v ≡ lowered_if o (Some v)
+lowered_some None v = refl
+lowered_some (Some p) v = refl
 
 module _ (l : Rows StoreLine) (es : Rows Fix) (rising : Rising 0 es) (lines : Rising 0 l) where
   abbrev marks : List Bool
@@ -140,7 +138,7 @@ module _ (l : Rows StoreLine) (es : Rows Fix) (rising : Rising 0 es) (lines : Ri
   Rising-swept_memo = Rising_lower 0 (filter (stale l) es) l (Rising-filter (stale l) 0 es rising) lines
 
   module _ (few : length l ≤ line_slots) where
-    line_marked : (r : ℕ) (v : StoreLine) → find l r ≡ some v → get_or marks (rank r l) false ≡ is_some (passed (stale l) r (find es r))
+    line_marked : (r : ℕ) (v : StoreLine) → find l r ≡ Some v → get_or marks (rank r l) false ≡ is_some (passed (stale l) r (find es r))
     line_marked r v f =
         let h : rank r l < line_places = omega (arith, rank-le r l) in
         mark_found l 0 r v (begun (replicate line_places false)) es f rising (rw (length-replicate line_places false) h) (get_or-replicate line_places (rank r l) false false h)
@@ -158,16 +156,8 @@ module _ (l : Rows StoreLine) (es : Rows Fix) (rising : Rising 0 es) (lines : Ri
 
 -- ---- the call
 
-pub chain_swept : (m : Memo) (es : Rows Fix) (k : ℕ) (ws : List ℕ) {after : List Bool} {r : Memo} → Whole m → m.n ≤ line_slots → Rising 0 (lines_of m) → Rising 0 es
-    → (rows_of (table_with k ws) ≡ swept_entries (lines_of m) es) × (after ≡ (walked (lines_of m) (begun (replicate line_places false)) es).marks) × Roomy k ws
-    → r ≡ memo_of (lower_where (mark_of after (lines_of m)) (lines_of m))
-    → (rows_of (table_with k ws) ≡ swept_entries (lines_of m) es) × (k ≡ length (swept_entries (lines_of m) es)) × (r ≡ memo_of (swept_memo (lines_of m) es)) × (length ws ≡ table_words)
-chain_swept m es k ws {after} {r} whole few lines a went low =
-    let stay = went.0 in
-    let marked = went.1 in
-    let roomy = went.2 in (
-      stay,
-      sym (length_rows k ws roomy.0 roomy.1) ∙ ap length stay,
-      low ∙ ap (λ (b : List Bool). memo_of (lower_where (mark_of b (lines_of m)) (lines_of m))) marked ∙ ap memo_of (lower_swept (lines_of m) es a lines (omega (arith, (in_Slots m whole).count))),
-      roomy.1,
-    )
+pub chain_swept : (m : Memo) (es : Rows Fix) {after : List Bool} {r : Memo} → GoodMemo m → Rising 0 es → after ≡ (walked (lines_of m) (begun (replicate line_places false)) es).marks
+    → r ≡ memo_of (lower_where (mark_of after (lines_of m)) (lines_of m)) → r ≡ memo_of (swept_memo (lines_of m) es)
+chain_swept m es good a marked low =
+    low ∙ ap (λ (b : List Bool). memo_of (lower_where (mark_of b (lines_of m)) (lines_of m))) marked
+    ∙ ap memo_of (lower_swept (lines_of m) es a good.2 (omega (arith, good.1, (in_Slots m good.0).count)))

@@ -4,30 +4,26 @@ use mathlib.Core.Bool.{Bool, true, false, not}
 use mathlib.Core.List.{List, [], ◌∷◌, ◌++◌, append_assoc, append-nil, map, map-append}
 use Prim.Native.Nat.{ℕ, zero, suc, ◌+◌, ◌-◌, ◌≤◌, ◌<◌}
 use native.Mathlib.Omega.{arith}
-use native.Mathlib.Nat.{add-zero}
 use native.Mathlib.Numerals.{add-one}
 use lib.ListN.{length, length-append, get_or, set, take, drop, take-append-drop}
-use lib.Seq.{get_or-take, length-take-le, take-suc, take-take}
-use Rattle.terms.specs.Terms.{Fix, max_on, pages}
+use lib.Seq.{take-suc, take_all}
+use Rattle.terms.specs.Terms.{Fix, max_on}
 use Rattle.lists.specs.Parts.{tab}
 use Rattle.lists.specs.Rows.{Row, Rows, Rising, rank}
 use Rattle.lists.specs.Sums.{filter, concat}
-use Rattle.lists.specs.Tests.{Each, one_if}
-use Rattle.lists.proofs.Cases.{by_cases}
+use Rattle.lists.specs.Tests.{Each}
 use Rattle.lists.proofs.PartsLaws.{tab_suc}
 use Rattle.lists.proofs.RowsLaws.{Rising_less, Rising_above}
 use Rattle.lists.proofs.SumsLaws.{filter-append}
-use Rattle.lists.proofs.TestsLaws.{Each_map, Each_split, Each-get_or, Each_every}
+use Rattle.lists.proofs.TestsLaws.{Each_map, Each_split, Each_every}
 use Rattle.entries.specs.declared.Entry.{Entry}
-use Rattle.entries.specs.Entries.{row_of, table_with, table_words, every_entry, rows_of}
-use Rattle.entries.proofs.TableLaws.{length_rows, rows_empty, rows_push}
+use Rattle.entries.specs.Entries.{row_of}
 use Rattle.page.specs.Page.{count, entry_at, entries}
-use Rattle.page.specs.Buffer.{page_at, there, entries_on}
+use Rattle.page.specs.Buffer.{page_at, entries_on}
 use Rattle.rules.specs.Store.{Line}
 use Rattle.rules.specs.Sweep.{stale, swept_entries}
-use Rattle.sweep.specs.Sweep.{Roomy, State, state_of, begun, judged, walked, Ready}
+use Rattle.sweep.specs.Sweep.{State, state_of, begun, judged, walked, Ready}
 use Rattle.sweep.proofs.LinesLaws.{rank_rises}
-use Rattle.sweep.proofs.TableLaws.{rows_skip}
 
 -- ---- lists
 
@@ -97,7 +93,11 @@ module _ {l : Rows Line} {s : State} (es later : Rows Fix) (ready : Ready l s (e
   parts = ap length (swept_append l es later) ∙ length-append (swept_entries l es) (swept_entries l later)
 
   Ready_front : Ready l s es
-  Ready_front = record { rising = Rising_front 0 es later ready.rising; ahead = (Each_split _ es later ready.ahead).0; room = omega (arith, ready.room, parts) }
+  Ready_front = record {
+    rising = Rising_front 0 es later ready.rising;
+    ahead = (Each_split _ es later ready.ahead).0;
+    room = omega (arith, ready.room, parts);
+  }
 
   Ready_then : Ready l (walked l s es) later
   Ready_then = record {
@@ -116,27 +116,6 @@ module _ (l : Rows Line) (x : Row Fix) where
   one_stays : stale l x ≡ false → swept_entries l (x ∷ []) ≡ x ∷ []
   unfolding swept_entries filter
   one_stays t = rw t
-
-module _ (l : Rows Line) (e : Entry) (k : ℕ) (ws : List ℕ) (roomy : Roomy k ws) (room : length (rows_of (table_with k ws)) + length (swept_entries l (row_of e ∷ [])) ≤ max_on) where
-  fits_judged : k + one_if (not (stale l (row_of e))) ≤ max_on
-  fits_judged =
-      let n = length_rows k ws roomy.0 roomy.1 in
-      by_cases (stale l (row_of e))
-      (λ t. omega (arith, ap (λ (b : Bool). one_if (not b)) t, roomy.0))
-      (λ t. omega (arith, ap (λ (b : Bool). one_if (not b)) t, ap length (one_stays l (row_of e) t)))
-
-  module _ (vs : List ℕ) (put : every_entry vs ≡ set (every_entry ws) k e) where
-    rows_judged : rows_of (table_with (k + one_if (not (stale l (row_of e)))) vs) ≡ rows_of (table_with k ws) ++ swept_entries l (row_of e ∷ [])
-    rows_judged =
-        by_cases (stale l (row_of e))
-        (λ t. let o = one_goes l (row_of e) t in
-        ap (λ (b : Bool). rows_of (table_with (k + one_if (not b)) vs)) t ∙ ap (λ (n : ℕ). rows_of (table_with n vs)) (add-zero k) ∙ rows_skip e k ws vs put
-        ∙ sym (append-nil (rows_of (table_with k ws))) ∙ ap (λ (y : Rows Fix). rows_of (table_with k ws) ++ y) (sym o))
-        (λ t. let o = one_stays l (row_of e) t in
-        let n = length_rows k ws roomy.0 roomy.1 in
-        ap (λ (b : Bool). rows_of (table_with (k + one_if (not b)) vs)) t
-        ∙ rows_push k ws vs e (omega (arith, ap length o)) roomy.1 put
-        ∙ ap (λ (y : Rows Fix). rows_of (table_with k ws) ++ y) (sym o))
 
 -- ---- the entries of a page
 
@@ -174,18 +153,27 @@ module _ {l : Rows Line} {s t : State} (b v : List ℕ) (p : ℕ) {n i : ℕ} (r
         ap (λ (x : State). judged l x (row_of e)) done ∙ sym (walked_one l (walked l s (tab i (entry_at v))) (row_of e)) ∙ sym (walked-append l s (tab i (entry_at v)) (row_of e ∷ []))
         ∙ ap (walked l s) (ap (λ (x : Row Fix). tab i (entry_at v) ++ (x ∷ [])) read ∙ sym (tab_suc i (entry_at v)))
 
-module _ {l : Rows Line} {s : State} {at : ℕ} (k : ℕ) (ws : List ℕ) {marks : List Bool} (b v : List ℕ) (p : ℕ) {n i : ℕ} (ready : Ready l s (entries (page_at b p)))
-    (here : v ≡ page_at b p) (many : n ≡ count v) (done : state_of (record { at = at; kept = k }) ws marks ≡ walked l s (tab i (entry_at v))) (more : i < n)
-    {e : Entry} {d : ℕ} {g : Bool} (read : row_of e ≡ entry_at v i) (roomy : Roomy k ws) (judge : g ≡ stale l (row_of e)) (one : d ≡ one_if (not g)) where
-  room : length (rows_of (table_with k ws)) + length (swept_entries l (row_of e ∷ [])) ≤ max_on
-  room = (next b v p ready here many done more read).room
+module _ {l : Rows Line} {s : State} {at : ℕ} {stay : Rows Fix} {marks : List Bool} (b v : List ℕ) (p : ℕ) {n i : ℕ} (ready : Ready l s (entries (page_at b p)))
+    (here : v ≡ page_at b p) (many : n ≡ count v) (done : state_of at stay marks ≡ walked l s (tab i (entry_at v))) (more : i < n)
+    {e : Entry} {g : Bool} (read : row_of e ≡ entry_at v i) (judge : g ≡ stale l (row_of e)) where
+  then_ready : Ready l (state_of at stay marks) (row_of e ∷ [])
+  then_ready = next b v p ready here many done more read
 
-  pub page_fits : k + d ≤ max_on
-  page_fits = rw (one, judge) (fits_judged l e k ws roomy room)
+  -- an entry that stays is put behind the others
+  module _ (stays : g ≡ false) where
+    it_stays : swept_entries l (row_of e ∷ []) ≡ row_of e ∷ []
+    it_stays = one_stays l (row_of e) (sym judge ∙ stays)
 
-  pub page_turn : {next : ℕ} (vs : List ℕ) → next ≡ rank e.radio l → (every_entry vs ≡ set (every_entry ws) k e) × (length vs ≡ table_words)
-      → state_of (record { at = next; kept = k + d }) vs (set marks next g) ≡ walked l s (tab (i + 1) (entry_at v))
-  page_turn vs q put = rw (one, q, judge, rows_judged l e k ws roomy room vs put.0) (page_then b v p ready here many done more read)
+    pub stay_room : length stay < max_on
+    stay_room = omega (arith, then_ready.room, ap length it_stays)
+
+    pub page_stays : {next : ℕ} {after : Rows Fix} → next ≡ rank e.radio l → after ≡ stay ++ (row_of e ∷ []) → state_of next after (set marks next g) ≡ walked l s (tab (i + 1) (entry_at v))
+    page_stays q put = rw (q, put, judge, ← it_stays) (page_then b v p ready here many done more read)
+
+  pub page_goes : {next : ℕ} → next ≡ rank e.radio l → g ≡ true → state_of next stay (set marks next g) ≡ walked l s (tab (i + 1) (entry_at v))
+  page_goes q goes =
+      let none : stay ++ swept_entries l (row_of e ∷ []) ≡ stay = ap (λ (x : Rows Fix). stay ++ x) (one_goes l (row_of e) (sym judge ∙ goes)) ∙ append-nil stay in
+      rw (q, judge, ← none) (page_then b v p ready here many done more read)
 
 -- ---- the pages of a chain
 
@@ -197,37 +185,31 @@ entries_on_one : (b : List ℕ) (p : ℕ) → entries_on b (p ∷ []) ≡ entrie
 unfolding entries_on concat
 entries_on_one b p = append-nil (entries (page_at b p))
 
-pub chain_begins : {l : Rows Line} (ws : List ℕ) {marks : List Bool} (es : Rows Fix) → Rising 0 es → length (swept_entries l es) ≤ max_on → Ready l (state_of (record { at = 0; kept = 0 }) ws marks) es
-chain_begins {l} ws es a r = record { rising = a; ahead = Each_every _ es (λ e. omega arith); room = omega (arith, ap length (rows_empty ws)) }
+pub chain_begins : (l : Rows Line) (marks : List Bool) (es : Rows Fix) → Rising 0 es → length (swept_entries l es) ≤ max_on → Ready l (begun marks) es
+chain_begins l marks es a r = record { rising = a; ahead = Each_every _ es (λ e. omega arith); room = omega (arith, r) }
 
 pub chain_start : (l : Rows Line) (s : State) (b ps : List ℕ) → s ≡ walked l s (entries_on b (take 0 ps))
 unfolding entries_on concat
 chain_start l s b ps = walked_none l s
 
-module _ (b ps : List ℕ) (n : ℕ) {i : ℕ} (size : length ps ≡ pages) (fits : n ≤ pages) (more : i < n) where
+module _ (b ps : List ℕ) {i : ℕ} (more : i < length ps) where
   abbrev here : ℕ
   here = get_or ps i 0
 
-  pub page_there : Each (λ p. there b p ≡ true) (take n ps) → there b here ≡ true
-  page_there e = rw (← get_or-take n ps i 0 more) (Each-get_or _ (take n ps) i 0 e (omega (arith, length-take-le n ps (omega arith))))
-
   one_more : entries_on b (take (i + 1) ps) ≡ entries_on b (take i ps) ++ entries (page_at b here)
   one_more =
-      ap (entries_on b) (rw add-one (take-suc ps i 0 (omega arith)))
+      ap (entries_on b) (rw add-one (take-suc ps i 0 more))
       ∙ entries_on-append b (take i ps) (here ∷ [])
       ∙ ap (λ (l : Rows Fix). entries_on b (take i ps) ++ l) (entries_on_one b here)
 
-  rest : entries_on b (take n ps) ≡ entries_on b (take (i + 1) ps) ++ entries_on b (drop (i + 1) (take n ps))
-  rest =
-      ap (entries_on b) (sym (take-append-drop (i + 1) (take n ps)))
-      ∙ entries_on-append b (take (i + 1) (take n ps)) (drop (i + 1) (take n ps))
-      ∙ ap (λ (l : List ℕ). entries_on b l ++ entries_on b (drop (i + 1) (take n ps))) (take-take (i + 1) n ps (omega arith))
+  rest : entries_on b ps ≡ entries_on b (take (i + 1) ps) ++ entries_on b (drop (i + 1) ps)
+  rest = ap (entries_on b) (sym (take-append-drop (i + 1) ps)) ∙ entries_on-append b (take (i + 1) ps) (drop (i + 1) ps)
 
-  module _ {l : Rows Line} {s t : State} (ready : Ready l s (entries_on b (take n ps))) (done : t ≡ walked l s (entries_on b (take i ps))) where
+  module _ {l : Rows Line} {s t : State} (ready : Ready l s (entries_on b ps)) (done : t ≡ walked l s (entries_on b (take i ps))) where
     next_page : Ready l s (entries_on b (take i ps) ++ entries (page_at b here))
     next_page =
         subst (λ (x : Rows Fix). Ready l s x) one_more
-        (Ready_front (entries_on b (take (i + 1) ps)) (entries_on b (drop (i + 1) (take n ps))) (subst (λ (x : Rows Fix). Ready l s x) rest ready))
+        (Ready_front (entries_on b (take (i + 1) ps)) (entries_on b (drop (i + 1) ps)) (subst (λ (x : Rows Fix). Ready l s x) rest ready))
 
     pub chain_Ready : Ready l t (entries (page_at b here))
     chain_Ready = subst (λ (x : State). Ready l x (entries (page_at b here))) (sym done) (Ready_then (entries_on b (take i ps)) (entries (page_at b here)) next_page)
@@ -238,13 +220,8 @@ module _ (b ps : List ℕ) (n : ℕ) {i : ℕ} (size : length ps ≡ pages) (fit
         ∙ ap (walked l s) (sym one_more)
 
 -- the whole chain, from nothing
-module _ (l : Rows Line) (b ps : List ℕ) {n i : ℕ} (low : i ≤ n) (high : n ≤ i) (ws₀ : List ℕ) (marks₀ : List Bool) {at : ℕ} (k : ℕ) (ws : List ℕ) {marks : List Bool}
-    (done : state_of (record { at = at; kept = k }) ws marks ≡ walked l (state_of (record { at = 0; kept = 0 }) ws₀ marks₀) (entries_on b (take i ps))) where
-  all_done : state_of (record { at = at; kept = k }) ws marks ≡ walked l (begun marks₀) (entries_on b (take n ps))
-  all_done =
-      let z : i ≡ n = omega arith in
-      done ∙ ap (λ (x : Rows Fix). walked l (record { passed = 0; stay = x; marks = marks₀ }) (entries_on b (take i ps))) (rows_empty ws₀)
-      ∙ ap (λ (j : ℕ). walked l (begun marks₀) (entries_on b (take j ps))) z
-
-  pub chain_end : (rows_of (table_with k ws) ≡ swept_entries l (entries_on b (take n ps))) × (marks ≡ (walked l (begun marks₀) (entries_on b (take n ps))).marks)
-  chain_end = (ap (λ (x : State). x.stay) all_done ∙ walked-stay l (begun marks₀) (entries_on b (take n ps)), ap (λ (x : State). x.marks) all_done)
+module _ (l : Rows Line) (b ps : List ℕ) (marks₀ : List Bool) {i : ℕ} {t : State} (done : t ≡ walked l (begun marks₀) (entries_on b (take i ps))) where
+  pub chain_end : length ps ≤ i → (t.stay ≡ swept_entries l (entries_on b ps)) × (t.marks ≡ (walked l (begun marks₀) (entries_on b ps)).marks)
+  chain_end high =
+      let all_done : t ≡ walked l (begun marks₀) (entries_on b ps) = done ∙ ap (λ (qs : List ℕ). walked l (begun marks₀) (entries_on b qs)) (take_all i ps high) in
+      (ap (λ (x : State). x.stay) all_done ∙ walked-stay l (begun marks₀) (entries_on b ps), ap (λ (x : State). x.marks) all_done)

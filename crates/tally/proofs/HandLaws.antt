@@ -1,20 +1,18 @@
 -- A cell of a store in the middle of a call, swept: what the code asks for that, and what it leaves at hand.
-use mathlib.Core.Bool.{true}
+
 use mathlib.Core.List.{List}
 use mathlib.Core.Path.{◌≡◌, ap, ◌∙◌}
-use Prim.Native.Nat.{ℕ, suc, ◌*◌, ◌≤◌, ◌<◌}
+use Prim.Native.Nat.{ℕ, suc, ◌≤◌}
 use native.Mathlib.Omega.{arith}
 use lib.ListN.{length, get_or, take, drop}
-use Rattle.terms.specs.Terms.{max_on, pages, no_page}
+use Rattle.terms.specs.Terms.{Fix, max_on, pages, no_page}
 use Rattle.lists.specs.Chains.{chain_head}
-use Rattle.lists.specs.Rows.{Rising}
-use Rattle.lists.specs.Tests.{Each}
+use Rattle.lists.specs.Rows.{Rows}
 use Rattle.lists.specs.Among.{Among}
 use Rattle.lists.proofs.AmongLaws.{Each-Among}
-use Rattle.entries.specs.Entries.{table_with, table_words, rows_of}
-use Rattle.page.specs.Buffer.{there, pages_of, chain_from, end_of, end_from, entries_on}
+use Rattle.page.specs.Buffer.{pages_of, chain_from, end_of, end_from, entries_on}
 use Rattle.page.specs.declared.Chain.{Chain}
-use Rattle.rules.specs.Limits.{max_cells, sweep_every}
+use Rattle.rules.specs.Limits.{sweep_every}
 use Rattle.rules.specs.Store.{Store}
 use Rattle.rules.specs.Sweep.{swept_entries, swept_memo, swept}
 use Rattle.rules.specs.Midway.{MidCall}
@@ -23,15 +21,12 @@ use Rattle.rules.proofs.RoundLaws.{Bounded_total}
 use Rattle.rules.proofs.TilingLaws.{some_cell}
 use Rattle.desk.specs.declared.Frame.{Frame}
 use Rattle.desk.specs.declared.Slot.{Slot}
-use Rattle.desk.specs.Held.{Grid, Memo, memo_in}
-use Rattle.desk.specs.Views.{every_slot}
-use Rattle.desk.specs.Layout.{slot_fields, line_slots, no_slot, directory_of, grid_of, memo_of}
+use Rattle.desk.specs.Held.{Grid, Memo}
+use Rattle.desk.specs.Layout.{line_slots, no_slot, directory_of, grid_of, memo_of}
 use Rattle.desk.specs.Laid.{LaidGrid, LaidMemo}
-use Rattle.memo.specs.Memo.{lines_of, Whole}
-use Rattle.directory.proofs.CellLaws.{whole_size}
-use Rattle.directory.proofs.DirectoryLaws.{directory_whole, directory_few}
+use Rattle.memo.specs.Memo.{lines_of, GoodMemo}
+use Rattle.sweep.specs.Sweep.{ReadableChain}
 use Rattle.cell_last.proofs.MovedLaws.{grid_same}
-use Rattle.sweep.specs.declared.Swept.{Swept}
 use Rattle.sweep.proofs.CellLaws.{Sweepable, cells_sweep, cell_asks, cell_gives}
 use Rattle.tally.specs.Tally.{BeforeSweepAt, InHand}
 
@@ -56,13 +51,7 @@ pub few_lines : (s : Store) (c : ℕ) → MidCall s c → c ≤ sweep_every → 
 few_lines s c g late =
     omega (arith, memo_total g.core.books, Bounded_total s.memo s.cells (length s.waiting) c g.bounded (some_cell g.core.tiling))
 
-module _ {cells : List ℕ} {at : ℕ} {memo : Memo} {b : List ℕ} (x : BeforeSweepAt cells at memo b) where
-  pub place_reads : (at < max_cells) × (length cells ≡ slot_fields * max_cells)
-  place_reads =
-      let l = laid_cells x.laid in
-      let few = x.mid.core.tiling.few_cells in
-      (omega (arith, x.stands.inside, few), whole_size (directory_whole x.store.cells l) (directory_few x.store.cells l few))
-
+module _ {cells : List Slot} {at : ℕ} {memo : Memo} {b : List ℕ} (x : BeforeSweepAt cells at memo b) where
   abbrev pub Among_place : Among x.store.cells x.cell
   Among_place = record { before = take at x.store.cells; after = drop (suc at) x.store.cells; split = x.stands.split }
 
@@ -70,32 +59,20 @@ module _ {cells : List ℕ} {at : ℕ} {memo : Memo} {b : List ℕ} (x : BeforeS
   Sweepable_place = Each-Among (Sweepable b x.store.memo) (cells_sweep x.store b x.mid.core x.laid.in_grid.laid) Among_place
 
   -- `read_chain` has read its pages
-  module _ {d : Slot} (slot : d ≡ get_or (every_slot cells) at no_slot) (chain : Chain)
+  module _ {d : Slot} (slot : d ≡ get_or cells at no_slot) (chain : Chain)
       (read : (pages_of chain ≡ chain_from pages b d.first) × (end_of chain.end ≡ end_from pages b d.first) × (chain.n ≤ pages)) where
     first_place : pages_of chain ≡ chain_from pages b (chain_head no_page x.cell.chain)
     first_place = read.0 ∙ ap (λ (s : Slot). chain_from pages b s.first) (slot ∙ x.stands.element)
 
     -- what `sweep_chain` asks
-    pub place_asks : (table : List ℕ) → length table ≡ table_words
-        → (chain.n ≤ pages) × Each (λ p. there b p ≡ true) (pages_of chain) × Rising 0 (entries_on b (pages_of chain)) × Whole memo × (memo.n ≤ line_slots) × Rising 0 (lines_of memo) × (length (swept_entries (lines_of memo) (entries_on b (pages_of chain))) ≤ max_on)
-        × (length table ≡ table_words)
-    place_asks table l =
-        cell_asks Sweepable_place chain memo first_place x.laid.memo_is table read.2 (few_lines x.store x.c x.mid x.late) x.mid.core.books.memo_rises l
+    pub place_asks : ReadableChain b chain × GoodMemo memo × (length (swept_entries (lines_of memo) (entries_on b (pages_of chain))) ≤ max_on)
+    place_asks = cell_asks Sweepable_place chain memo first_place x.laid.memo_is read.2 (few_lines x.store x.c x.mid x.late) x.mid.core.books.memo_rises
 
     -- what it leaves
-    pub place_gives : (s : Swept) {ws : List ℕ} (table : List ℕ)
-        → (rows_of (table_with s.n table) ≡ swept_entries (lines_of memo) (entries_on b (pages_of chain))) × (s.n ≡ length (swept_entries (lines_of memo) (entries_on b (pages_of chain)))) × (memo_in s.lines ws ≡ memo_of (swept_memo (lines_of memo) (entries_on b (pages_of chain))))
-        × (length table ≡ table_words)
-        → InHand (swept x.store.memo x.cell) (swept_memo x.store.memo x.cell.entries) (record { chain = chain; n = s.n; lines = s.lines }) ws table
+    pub place_gives : {table : Rows Fix} {after : Memo}
+        → (table ≡ swept_entries (lines_of memo) (entries_on b (pages_of chain))) × (after ≡ memo_of (swept_memo (lines_of memo) (entries_on b (pages_of chain))))
+        → InHand (swept x.store.memo x.cell) (swept_memo x.store.memo x.cell.entries) chain table after
     unfolding swept
-    place_gives s table g =
-        let k = cell_gives Sweepable_place chain memo first_place x.laid.memo_is s.n table g in
-        record {
-          bound = read.2;
-          chained = first_place ∙ Sweepable_place.read;
-          few = omega (arith, k.1, Sweepable_place.room);
-          count = k.1;
-          size = k.3;
-          rows = k.0;
-          memo_is = k.2;
-        }
+    place_gives g =
+        let k = cell_gives Sweepable_place chain memo first_place x.laid.memo_is g in
+        record { bound = read.2; chained = first_place ∙ Sweepable_place.read; rows = k.0; memo_is = k.1 }

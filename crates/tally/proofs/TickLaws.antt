@@ -8,7 +8,6 @@ use lib.Dec.{ltb}
 use lib.ListN.{length, drop}
 use borrow.Author.Tests.{lt-ltb, le-ltb}
 use Rattle.lists.proofs.SumsLaws.{length-filter-not}
-use Rattle.entries.specs.Entries.{table_with, rows_of}
 use Rattle.page.specs.Buffer.{pages_of}
 use Rattle.rules.specs.Limits.{sweep_every}
 use Rattle.rules.specs.Store.{Line, Cell}
@@ -19,11 +18,12 @@ use Rattle.rules.proofs.PagedLaws.{pages_for-le}
 use Rattle.rules.proofs.TilingLaws.{some_cell}
 use Rattle.lists.specs.Rows.{Rows}
 use Rattle.lists.proofs.AmongLaws.{Each-Among}
-use Rattle.desk.specs.Held.{Grid, Memo, memo_in}
+use Rattle.desk.specs.Held.{Grid, Memo}
 use Rattle.desk.specs.Laid.{LaidGrid, LaidMemo}
 use Rattle.directory.proofs.DirectoryLaws.{Stands_index}
 use Rattle.cell_last.specs.Settling.{HandFits, BeforeSettle, moved_last}
-use Rattle.tally.specs.declared.Hand.{Hand}
+use Rattle.page.specs.declared.Chain.{Chain}
+use Rattle.terms.specs.Terms.{Fix}
 use Rattle.tally.specs.Tally.{BeforeSweepAt, InHand, BeforeTally, BeforeSweep, AfterTally}
 use Rattle.tally.proofs.HandLaws.{memo_same, laid_cells, frame_of, Among_place}
 
@@ -34,7 +34,7 @@ unfolding swept swept_entries
 few_stay memo c = omega (arith, length-filter-not (stale memo) c.entries)
 
 module _ {grid : Grid} {memo : Memo} {b : List ℕ} (x : BeforeSweep grid memo b) where
-  abbrev pub front_place : BeforeSweepAt grid.cells.words 0 memo b
+  abbrev pub front_place : BeforeSweepAt grid.cells.slots 0 memo b
   front_place =
       let f = Stands_index x.store.cells (laid_cells x.laid) 0 (some_cell x.roomy.mid.core.tiling) in
       record { frame = frame_of grid; store = x.store; c = sweep_every; mid = x.roomy.mid; late = omega arith; laid = x.laid; cell = f.0; stands = f.1 }
@@ -43,11 +43,12 @@ module _ {grid : Grid} {memo : Memo} {b : List ℕ} (x : BeforeSweep grid memo b
   front = front_place.cell
 
   -- `swept_at` has read it
-  module _ (hand : Hand) (ws table : List ℕ) (given : (y : BeforeSweepAt grid.cells.words 0 memo b) → InHand (swept y.store.memo y.cell) (swept_memo y.store.memo y.cell.entries) hand ws table) where
-    front-swept : InHand (swept x.store.memo front) (swept_memo x.store.memo front.entries) hand ws table
+  module _ {chain : Chain} {table : Rows Fix} {after : Memo} (given : (y : BeforeSweepAt grid.cells.slots 0 memo b) → InHand (swept y.store.memo y.cell) (swept_memo y.store.memo y.cell.entries) chain table after)
+      {held : Grid} (same : held ≡ grid) where
+    front-swept : InHand (swept x.store.memo front) (swept_memo x.store.memo front.entries) chain table after
     front-swept = given front_place
 
-    front_loose : BeforeSettle grid 0 (pages_of hand.chain) (rows_of (table_with hand.n table)) b
+    front_loose : BeforeSettle grid 0 (pages_of chain) table b
     unfolding swept chains
     front_loose =
         let k = x.roomy.mid.core in
@@ -76,16 +77,18 @@ module _ {grid : Grid} {memo : Memo} {b : List ℕ} (x : BeforeSweep grid memo b
         }
 
     -- what `settled_last` asks
-    pub front_asks : HandFits hand.chain hand.n table × BeforeSettle grid 0 (pages_of hand.chain) (rows_of (table_with hand.n table)) b
-    front_asks = ((front-swept.bound, front-swept.few, front-swept.size), front_loose)
+    pub front_asks : HandFits chain × BeforeSettle held 0 (pages_of chain) table b
+    front_asks = (front-swept.bound, subst (λ (g : Grid). BeforeSettle g 0 (pages_of chain) table b) (sym same) front_loose)
 
     -- what it leaves
     pub front_laid : {g : Grid} {b' : List ℕ}
-        → ((y : BeforeSettle grid 0 (pages_of hand.chain) (rows_of (table_with hand.n table)) b) → LaidGrid (moved_last y.store (y.before ++ y.after) y.cell) g b')
-        → LaidMemo (sweep_front x.store.cells x.store) g (memo_in hand.lines ws) b'
+        → ((y : BeforeSettle held 0 (pages_of chain) table b) → LaidGrid (moved_last y.store (y.before ++ y.after) y.cell) g b')
+        → LaidMemo (sweep_front x.store.cells x.store) g after b'
     unfolding sweep_front moved_last front_loose
-    front_laid {g = g} {b' = b'} l =
-        subst (λ (cells : List Cell). LaidMemo (sweep_front cells x.store) g (memo_in hand.lines ws) b') (sym front_place.stands.split)
+    front_laid {g = g} {b' = b'} said =
+        let l : (y : BeforeSettle grid 0 (pages_of chain) table b) → LaidGrid (moved_last y.store (y.before ++ y.after) y.cell) g b' =
+        subst (λ (h : Grid). (y : BeforeSettle h 0 (pages_of chain) table b) → LaidGrid (moved_last y.store (y.before ++ y.after) y.cell) g b') same said in
+        subst (λ (cells : List Cell). LaidMemo (sweep_front cells x.store) g after b') (sym front_place.stands.split)
         (memo_same (moved_last x.store (drop 1 x.store.cells) (swept x.store.memo front)) (sweep_front (front ∷ drop 1 x.store.cells) x.store) refl refl refl front-swept.memo_is (l front_loose))
 
   front_tally : (sweep_front x.store.cells x.store).tally ≡ 0

@@ -1,24 +1,25 @@
--- The desk's parts and the pages before a sweep and before the tally, a cell at hand, and what the tally leaves (01, "How a record is carried out").
-use Rattle.std.specs.Prelude.{List, ◌≡◌, ℕ, ◌+◌, ◌≤◌, ◌<◌, length}
-use Rattle.terms.specs.Terms.{max_on, pages}
+-- The desk's parts and the pages before a sweep and before the tally, a cell at hand, and what the tally leaves.
+use Rattle.std.specs.Prelude.{List, ◌≡◌, ℕ, ◌+◌, ◌≤◌, ◌<◌}
+use Rattle.terms.specs.Terms.{Fix, pages}
 use Rattle.lists.specs.Rows.{Rows}
-use Rattle.entries.specs.Entries.{table_with, table_words, rows_of}
 use Rattle.page.specs.Buffer.{pages_of}
 use Rattle.rules.specs.Limits.{sweep_every}
 use Rattle.rules.specs.Store.{Line, Cell, Store}
 use Rattle.rules.specs.Sweep.{tick}
 use Rattle.rules.specs.Midway.{MidCall, MidCallRoomy}
 use Rattle.desk.specs.declared.Frame.{Frame}
-use Rattle.desk.specs.Held.{Grid, Memo, directory_in, grid_in, memo_in}
+use Rattle.desk.specs.Held.{Grid, Memo, directory_in, grid_in}
 use Rattle.desk.specs.Layout.{memo_of}
 use Rattle.desk.specs.Laid.{LaidMemo}
 use Rattle.directory.specs.Directory.{Stands}
-use Rattle.tally.specs.declared.Hand.{Hand}
+use Rattle.page.specs.declared.Chain.{Chain}
+use Rattle.desk.specs.declared.Desk.{Desk}
+use Rattle.desk.specs.declared.Slot.{Slot}
 
 -- ---- a cell at hand
 
 -- a cell at place `at` of the round is to be swept, in the middle of a call whose tally to come is c: the directory's array is at hand, with some frame
-pub record BeforeSweepAt (words : List ℕ) (at : ℕ) (memo : Memo) (bytes : List ℕ) : Type 0 where
+pub record BeforeSweepAt (words : List Slot) (at : ℕ) (memo : Memo) (bytes : List ℕ) : Type 0 where
   pub frame : Frame
   pub store : Store
   pub c : ℕ
@@ -28,15 +29,20 @@ pub record BeforeSweepAt (words : List ℕ) (at : ℕ) (memo : Memo) (bytes : Li
   pub cell : Cell
   pub stands : Stands (directory_in frame.cells words) store.cells cell at
 
--- a cell's old pages and its entries are at hand, and the memo in these words; the entries are in an array that is lent
-pub record InHand (c : Cell) (memo : Rows Line) (hand : Hand) (words table : List ℕ) : Type 0 where
-  pub bound : hand.chain.n ≤ pages
-  pub chained : pages_of hand.chain ≡ c.chain
-  pub few : hand.n ≤ max_on
-  pub count : hand.n ≡ length c.entries
-  pub size : length table ≡ table_words
-  pub rows : rows_of (table_with hand.n table) ≡ c.entries
-  pub memo_is : memo_in hand.lines words ≡ memo_of memo
+-- a swept cell's old pages and its entries are at hand, and the memo has these lines
+pub record InHand (cell : Cell) (lines : Rows Line) (chain : Chain) (table : Rows Fix) (memo : Memo) : Type 0 where
+  pub bound : chain.n ≤ pages
+  pub chained : pages_of chain ≡ cell.chain
+  pub rows : table ≡ cell.entries
+  pub memo_is : memo ≡ memo_of lines
+
+-- of a desk only the memo changes
+abbrev pub MemoChanged : Desk → Desk → Type 0
+MemoChanged old new = new ≡ record old { parts = record old.parts { lines = new.parts.lines }; memo = new.memo }
+
+-- of a desk grid, memo and tally may change: all else is kept
+abbrev pub RoundChanged : Desk → Desk → Type 0
+RoundChanged old new = new ≡ record old { parts = record old.parts { frame = new.parts.frame; lines = new.parts.lines; tally = new.parts.tally }; cells = new.cells; memo = new.memo }
 
 -- ---- the tally
 

@@ -1,103 +1,57 @@
 // The tally counts each accepted sign-on, report and sign-off, and at the 16th the cell at the front of the round is swept and goes last.
 #![tactic(auto)]
 
-ghost use Rattle.std.specs.Prelude.{◌≡◌, length};
-ghost use Rattle.entries.specs.Entries.{table_words};
+ghost use Rattle.std.specs.Prelude.{◌≡◌};
 ghost use Rattle.rules.specs.Sweep.{swept, swept_memo, sweep_front};
-ghost use Rattle.desk.specs.Held.{grid_in, memo_in};
 ghost use Rattle.desk.specs.Laid.{LaidMemo};
-ghost use Rattle.tally.specs.Tally.{BeforeSweepAt, InHand, BeforeTally, BeforeSweep, AfterTally};
+ghost use Rattle.cell_last.specs.Settling.{desk_grid, desk_memo};
+ghost use Rattle.tally.specs.Tally.{BeforeSweepAt, InHand, MemoChanged, BeforeTally, BeforeSweep, RoundChanged, AfterTally};
 
-use desk::{Desk, Frame};
-use entries::TABLE_WORDS;
+use desk::Desk;
+use entries::Table;
 use page::Chain;
 
-// A cell's old pages, how many entries it now has, which are in the table that is lent, and how many lines the memo then has.
-#[derive(Drop)]
-pub struct Hand {
-    pub chain: Chain,
-    pub n: usize,
-    pub lines: u16,
-}
-
-// "Sweep a cell": the one at place `at` of the round.
-pub fn swept_at(
-    buffer: &[u8],
-    cells: &[u16; Desk::CELL_WORDS],
-    at: usize,
-    words: &mut [u16; Desk::MEMO_WORDS],
-    lines: u16,
-    table: &mut [u16; TABLE_WORDS],
-) -> Hand
-    requires { BeforeSweepAt cells.now at (memo_in lines words.old) buffer.now × (length table.old ≡ table_words) }
-    ensures { (x : BeforeSweepAt cells.now at (memo_in lines words.old) buffer.now)
-        → InHand (swept x.store.memo x.cell) (swept_memo x.store.memo x.cell.entries) result words.new table.new }
+// "Sweep a cell": the one at place `at` of the round. Of the desk only the memo changes. The table then has the cell's entries; the answer is its old pages.
+pub fn swept_at(desk: &mut Desk, pages: &[u8], at: usize, table: &mut Table) -> Chain
+    requires { BeforeSweepAt desk.old.cells at (desk_memo desk.old) pages.now }
+    ensures kept { MemoChanged desk.old desk.new }
+    ensures at_hand { (x : BeforeSweepAt desk.old.cells at (desk_memo desk.old) pages.now)
+        → InHand (swept x.store.memo x.cell) (swept_memo x.store.memo x.cell.entries) result table.new (desk_memo desk.new) }
 {
-    let d = desk::slot_at(cells, at);
-    let chain = page_chain::read_chain(buffer, d.first);
-    let swept = sweep::sweep_chain(buffer, chain, words, lines, table);
-    Hand {
-        chain,
-        n: swept.n,
-        lines: swept.lines,
-    }
+    let chain = page_chain::read_chain(pages, desk.cells[at].first);
+    let lines = sweep::sweep_chain(pages, chain, &mut desk.memo, desk.parts.lines, table);
+    desk.parts.lines = lines;
+    chain
 }
 
 // ---- the tally
 
-// What the tally changes, beside the arrays.
-#[derive(Drop)]
-pub struct Ticked {
-    pub frame: Frame,
-    pub lines: u16,
-    pub tally: u16,
-}
-
 // "sweep the cell at the front of the round, move it to the end, set c to 0"
-fn sweep_front(
-    buffer: &mut [u8],
-    frame: Frame,
-    cells: &mut [u16; Desk::CELL_WORDS],
-    words: &mut [u16; Desk::MEMO_WORDS],
-    lines: u16,
-) -> Ticked
-    requires { BeforeSweep (grid_in frame cells.old) (memo_in lines words.old) buffer.old }
-    ensures { (result.tally ≡ 0)
-        × ((x : BeforeSweep (grid_in frame cells.old) (memo_in lines words.old) buffer.old)
-        → LaidMemo (sweep_front x.store.cells x.store) (grid_in result.frame cells.new) (memo_in result.lines words.new)
-        buffer.new) }
+fn sweep_front(desk: &mut Desk, pages: &mut [u8])
+    requires { BeforeSweep (desk_grid desk.old) (desk_memo desk.old) pages.old }
+    ensures kept { RoundChanged desk.old desk.new }
+    ensures reset { desk.new.parts.tally ≡ 0 }
+    ensures laid { (x : BeforeSweep (desk_grid desk.old) (desk_memo desk.old) pages.old)
+        → LaidMemo (sweep_front x.store.cells x.store) (desk_grid desk.new) (desk_memo desk.new) pages.new }
 {
-    let mut table = [0u16; TABLE_WORDS];
-    let d = swept_at(buffer, cells, 0, words, lines, &mut table);
-    let chain = d.chain;
-    let moved = cell_last::settled_last(buffer, frame, cells, 0, chain, &table, d.n);
-    Ticked {
-        frame: moved,
-        lines: d.lines,
-        tally: 0,
-    }
+    let mut table = Table::new();
+    let chain = swept_at(desk, pages, 0, &mut table);
+    let frame = desk.parts.frame;
+    desk.parts.frame = cell_last::settled_last(pages, frame, &mut desk.cells, 0, chain, &table);
+    desk.parts.tally = 0;
 }
 
 // "Each accepted sign-on, report or sign-off adds 1 to c. At 16, sweep the cell at the front of the round, move it to the end, set c to 0."
-pub fn tick(
-    buffer: &mut [u8],
-    frame: Frame,
-    cells: &mut [u16; Desk::CELL_WORDS],
-    words: &mut [u16; Desk::MEMO_WORDS],
-    lines: u16,
-    tally: u16,
-) -> Ticked
-    requires { BeforeTally (grid_in frame cells.old) (memo_in lines words.old) tally buffer.old }
-    ensures { (x : BeforeTally (grid_in frame cells.old) (memo_in lines words.old) tally buffer.old)
-        → AfterTally x.store (grid_in result.frame cells.new) (memo_in result.lines words.new) result.tally buffer.new }
+pub fn tick(desk: &mut Desk, pages: &mut [u8])
+    requires { BeforeTally (desk_grid desk.old) (desk_memo desk.old) desk.old.parts.tally pages.old }
+    ensures kept { RoundChanged desk.old desk.new }
+    ensures counted { (x : BeforeTally (desk_grid desk.old) (desk_memo desk.old) desk.old.parts.tally pages.old)
+        → AfterTally x.store (desk_grid desk.new) (desk_memo desk.new) desk.new.parts.tally pages.new }
 {
-    let c = tally + 1;
+    let c = desk.parts.tally + 1;
     if c < Desk::SWEEP_EVERY {
-        return Ticked {
-            frame,
-            lines,
-            tally: c,
-        };
+        desk.parts.tally = c;
+        return;
     }
-    sweep_front(buffer, frame, cells, words, lines)
+    sweep_front(desk, pages);
 }

@@ -1,1 +1,3 @@
 pub mod Terms
+pub mod Refusals
+pub mod Values

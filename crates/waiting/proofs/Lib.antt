@@ -1,3 +1,2 @@
-pub mod SlotsLaws
 pub mod WaitingLaws
 pub mod OnLaws

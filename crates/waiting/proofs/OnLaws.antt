@@ -1,28 +1,27 @@
 -- Who is on, in the desk's slots, as rows: the same laws as of the waiting reports.
 use mathlib.Core.Bool.{true, false}
 use mathlib.Core.List.{List, [], ◌∷◌, map}
-use mathlib.Core.Logic.{◌≢◌}
-use mathlib.Core.Option.{none, some}
+use Rattle.std.specs.Prelude.{None, Some, Result, IfOk, IfErr}
+use Rattle.std.specs.List.{copy_within}
+use Rattle.std.specs.List.Sorted.{IsSearchInRange, IsBinarySearchResult}
+use Rattle.std.specs.Ordering.{nat_cmp}
 use mathlib.Core.Path.{◌≡◌, refl, sym, ap, ◌∙◌}
-use Prim.Native.Nat.{ℕ, ◌+◌, ◌-◌, ◌/◌, ◌≤◌, ◌<◌}
+use Prim.Native.Nat.{ℕ, ◌+◌, ◌-◌, ◌≤◌, ◌<◌}
 use native.Mathlib.Omega.{arith}
-use lib.ListN.{length, get_or, set, length-map}
+use lib.ListN.{length, get_or, set, take, length-map}
 use lib.Seq.{set-get_or}
 use Rattle.terms.specs.Terms.{max_on}
-use Rattle.lists.specs.Parts.{insert_at, remove_at}
-use Rattle.lists.specs.Rows.{Row, Rows, Rising, find, rank, alter, insert}
+use Rattle.lists.specs.Rows.{Row, Rows, Rising, find, alter, insert, IsAt, IsGapFor}
 use Rattle.lists.specs.Tests.{is_some}
-use Rattle.lists.proofs.SearchLaws.{Between, Between_start, Between_up, Between_down}
-use Rattle.lists.proofs.ShiftLaws.{Opened, Closed}
+use Rattle.lists.proofs.AlterLaws.{find_at, alter_at, alter_at_none, alter_gap, alter_gap_none}
+use Rattle.lists.proofs.KeyedLaws.{searched}
+use Rattle.lists.proofs.ShiftLaws.{open_moved, close_moved}
 use Rattle.desk.specs.Held.{On, on_with}
 use Rattle.desk.specs.Layout.{on_of}
 use Rattle.desk.specs.Views.{radio_row, radios_of}
+use Rattle.desk.proofs.SlotsLaws.{length-slotted, Slots, Slots_open, Slots_close}
 use Rattle.desk.proofs.UniqueLaws.{take_on}
-use Rattle.waiting.specs.declared.Standing.{Standing}
-use Rattle.waiting.specs.declared.Standing.TheVariants.{At, Before}
-use Rattle.waiting.specs.Standing.{standing_of, standing}
 use Rattle.waiting.specs.On.{WholeOn}
-use Rattle.waiting.proofs.SlotsLaws.{length-slotted, Slots, Slots_get, Slots_open, Slots_close, standing_at, standing_other, standing_past, at_inside, at_find, at_key, before_inside, before_find, alter_at, alter_at_none, alter_before, alter_before_none}
 
 -- ---- the same rows, as the desk's array and as a list
 
@@ -62,77 +61,56 @@ on_size {n} {xs} e h =
     let s = in_Slots (on_with n xs) e in
     ap length s.list ∙ length-slotted max_on 0 (map (λ x. x.key) l) (rw (length-map l (λ x. x.key), ← s.count) h)
 
-laid_Slots : {l : Rows (Unit {0})} {n : ℕ} {xs : List ℕ} → InSlots l n xs → record { n = n; radios = xs } ≡ on_of l
+laid_Slots : {l : Rows (Unit {0})} {n : ℕ} {xs : List ℕ} → InSlots l n xs → on_with n xs ≡ on_of l
 unfolding on_of
 laid_Slots s = let a = s.count in let b = s.list in λ i. record { n = a i; radios = b i }
 
-key_at : (o : On) (i : ℕ) → WholeOn o → i < o.n → get_or o.radios i 0 ≡ (get_or (radios_of o) i no_radio).key
-key_at o i e h = Slots_get (in_Slots o e) i no_radio h
+-- ---- where a radio stands
 
--- ---- the binary search
+pub on_searched : (n : ℕ) (xs : List ℕ) → Rising 0 (radios_of (on_with n xs)) → (r : ℕ) (o : Result ℕ ℕ) → IsSearchInRange o (length (take n xs)) → IsBinarySearchResult (λ x. nat_cmp x r) (take n xs) o
+    → record { found : IfOk o (IsAt (radios_of (on_with n xs)) r); absent : IfErr o (IsGapFor (radios_of (on_with n xs)) r) }
+unfolding radios_of
+on_searched n xs rising r o bound said = searched radio_row 0 (take n xs) rising r o bound said
 
-pub on_start : (o : On) (r : ℕ) → WholeOn o → Rising 0 (radios_of o) → Between (radios_of o) r no_radio 0 o.n
-on_start o r e a = Between_start r no_radio o.n a (sym (count_on_laid o (radios_of o) e))
+module _ {n : ℕ} {xs : List ℕ} {r k : ℕ} (whole : WholeOn (on_with n xs)) (rising : Rising 0 (radios_of (on_with n xs))) where
+  -- the radio is on
+  module _ (at : IsAt (radios_of (on_with n xs)) r k) where
+    pub on_inside : k < n
+    on_inside = let e = count_on_laid (on_with n xs) (radios_of (on_with n xs)) whole in let i = at.inside in omega arith
 
-abbrev mid : ℕ → ℕ → ℕ
-mid lo hi = lo + (hi - lo) / 2
+    -- so there is one to take away
+    pub one_on : 1 ≤ n
+    one_on = let h = on_inside in omega arith
 
-module _ (o : On) {r lo hi : ℕ} (s : Between (radios_of o) r no_radio lo hi) (whole : WholeOn o) (inside : hi ≤ o.n) (more : lo < hi) where
-  pub on_up : get_or o.radios (mid lo hi) 0 < r → Between (radios_of o) r no_radio (mid lo hi + 1) hi
-  on_up k = Between_up s (mid lo hi) (omega arith) (omega arith) (omega (arith, key_at o (mid lo hi) whole (omega arith)))
+    pub is_on_at : true ≡ is_some (find (radios_of (on_with n xs)) r)
+    is_on_at = rw (find_at (radios_of (on_with n xs)) rising r at no_radio)
 
-  pub on_down : r ≤ get_or o.radios (mid lo hi) 0 → Between (radios_of o) r no_radio lo (mid lo hi)
-  on_down k = Between_down s (mid lo hi) (omega arith) (omega arith) (omega (arith, key_at o (mid lo hi) whole (omega arith)))
+    pub sign_on_at : on_with n xs ≡ on_of (insert r tt (radios_of (on_with n xs)))
+    sign_on_at =
+        let l = radios_of (on_with n xs) in
+        let q : get_or l k no_radio ≡ radio_row r = let h = at.here no_radio in λ i. record { key = h i; val = tt } in
+        whole ∙ ap on_of (sym (alter_at (λ _. Some tt) l rising r no_radio tt at refl ∙ ap (set l k) (sym q) ∙ set-get_or l k no_radio))
 
-module _ (o : On) (r : ℕ) {k : ℕ} (whole : WholeOn o) (rising : Rising 0 (radios_of o)) (at : k ≡ rank r (radios_of o)) where
-  pub on_at : k < o.n → get_or o.radios k 0 ≡ r → (k, true) ≡ standing r (radios_of o)
-  on_at h e = standing_at r (radios_of o) no_radio rising at (rw (← count_on_laid o (radios_of o) whole) h) (sym (key_at o k whole h) ∙ e)
+    pub sign_off_at : {ys : List ℕ} → n ≤ max_on → ys ≡ copy_within xs (k + 1) n k → on_with (n - 1) (set ys (n - 1) 0) ≡ on_of (alter (λ _. None) r (radios_of (on_with n xs)))
+    sign_off_at f moved =
+        let size = on_size whole f in
+        let inside = on_inside in
+        rw moved (laid_Slots (Slots_close (in_Slots (on_with n xs) whole) k f inside (close_moved inside (omega (arith, size))))
+        ∙ ap on_of (sym (alter_at_none (λ _. None) (radios_of (on_with n xs)) rising r no_radio at refl)))
 
-  pub on_other : k < o.n → get_or o.radios k 0 ≢ r → (k, false) ≡ standing r (radios_of o)
-  on_other h n = standing_other r (radios_of o) no_radio rising at (rw (← count_on_laid o (radios_of o) whole) h) (λ e. n (key_at o k whole h ∙ e))
+  -- it is not
+  module _ (gap : IsGapFor (radios_of (on_with n xs)) r k) where
+    pub gap_inside : k ≤ n
+    gap_inside = let e = count_on_laid (on_with n xs) (radios_of (on_with n xs)) whole in let i = gap.inside in omega arith
 
-  pub on_past : o.n ≤ k → (k, false) ≡ standing r (radios_of o)
-  on_past h = standing_past r (radios_of o) no_radio rising at (rw (← count_on_laid o (radios_of o) whole) h)
+    pub is_on_gap : false ≡ is_some (find (radios_of (on_with n xs)) r)
+    is_on_gap = rw gap.absent
 
--- ---- loops
+    pub sign_on_gap : {ys : List ℕ} → n < max_on → ys ≡ copy_within xs k n (k + 1) → on_with (n + 1) (set ys k r) ≡ on_of (insert r tt (radios_of (on_with n xs)))
+    sign_on_gap f moved =
+        let size = on_size whole (omega arith) in
+        rw moved (laid_Slots (Slots_open (in_Slots (on_with n xs) whole) k (radio_row r) f (open_moved gap_inside (omega (arith, size))))
+        ∙ ap on_of (sym (alter_gap (λ _. Some tt) (radios_of (on_with n xs)) rising r tt gap refl)))
 
-module _ {n : ℕ} {xs : List ℕ} (whole : WholeOn (on_with n xs)) where
-  pub on_open : (a r : ℕ) {i : ℕ} {ys : List ℕ} → n < max_on → Opened xs (n) i ys → a ≤ i → i ≤ a → on_with (n + 1) (set ys a r) ≡ on_of (insert_at (radios_of (on_with n xs)) a (radio_row r))
-  on_open a r {i} {ys} f p g h = let z : i ≡ a = omega arith in laid_Slots (Slots_open (in_Slots (on_with n xs) whole) a (radio_row r) {ys = ys} f (rw z at p))
-
-  pub on_close : (a : ℕ) {i : ℕ} {ys : List ℕ} → n ≤ max_on → a < n → Closed xs a i ys → i ≤ n - 1 → n - 1 ≤ i → on_with (n - 1) (set ys (n - 1) 0) ≡ on_of (remove_at (radios_of (on_with n xs)) a)
-  on_close a {i} {ys} f b c g h = let z : i ≡ n - 1 = omega arith in laid_Slots (Slots_close (in_Slots (on_with n xs) whole) a {ys = ys} f b (rw z at c))
-
--- ---- what the answer of a search makes of them
-
-module _ {n : ℕ} {xs : List ℕ} (r : ℕ) {k : ℕ} {t : Standing} (whole : WholeOn (on_with n xs)) (rising : Rising 0 (radios_of (on_with n xs))) (told : standing_of t ≡ standing r (radios_of (on_with n xs))) where
-  pub at_on : t ≡ At k → k < n
-  at_on e = rw (count_on_laid (on_with n xs) (radios_of (on_with n xs)) whole) (at_inside r (radios_of (on_with n xs)) told rising no_radio e)
-
-  -- so there is one to take away
-  pub one_on : t ≡ At k → 1 ≤ n
-  one_on e = let h = at_on e in omega arith
-
-  pub before_on : t ≡ Before k → k ≤ n
-  before_on e = rw (count_on_laid (on_with n xs) (radios_of (on_with n xs)) whole) (before_inside r (radios_of (on_with n xs)) told rising e)
-
-  pub is_on_at : t ≡ At k → true ≡ is_some (find (radios_of (on_with n xs)) r)
-  is_on_at e = rw (at_find r (radios_of (on_with n xs)) told rising no_radio e)
-
-  pub is_on_before : t ≡ Before k → false ≡ is_some (find (radios_of (on_with n xs)) r)
-  is_on_before e = rw (before_find r (radios_of (on_with n xs)) told rising e)
-
-  pub sign_on_at : t ≡ At k → (on_with n xs) ≡ on_of (insert r tt (radios_of (on_with n xs)))
-  sign_on_at e =
-      let l = radios_of (on_with n xs) in
-      let q : get_or l k no_radio ≡ radio_row r = let h = at_key r l told rising no_radio e in λ i. record { key = h i; val = tt } in
-      whole ∙ ap on_of (sym (alter_at r l told rising (λ _. some tt) no_radio tt e refl ∙ ap (set l k) (sym q) ∙ set-get_or l k no_radio))
-
-  pub sign_on_before : {v : On} → t ≡ Before k → v ≡ on_of (insert_at (radios_of (on_with n xs)) k (radio_row r)) → v ≡ on_of (insert r tt (radios_of (on_with n xs)))
-  sign_on_before e f = f ∙ ap on_of (sym (alter_before r (radios_of (on_with n xs)) told rising (λ _. some tt) tt e refl))
-
-  pub sign_off_at : {v : On} → t ≡ At k → v ≡ on_of (remove_at (radios_of (on_with n xs)) k) → v ≡ on_of (alter (λ _. none) r (radios_of (on_with n xs)))
-  sign_off_at e f = f ∙ ap on_of (sym (alter_at_none r (radios_of (on_with n xs)) told rising (λ _. none) no_radio e refl))
-
-  pub sign_off_before : t ≡ Before k → (on_with n xs) ≡ on_of (alter (λ _. none) r (radios_of (on_with n xs)))
-  sign_off_before e = whole ∙ ap on_of (sym (alter_before_none r (radios_of (on_with n xs)) told rising (λ _. none) e refl))
+    pub sign_off_gap : on_with n xs ≡ on_of (alter (λ _. None) r (radios_of (on_with n xs)))
+    sign_off_gap = whole ∙ ap on_of (sym (alter_gap_none (λ _. None) (radios_of (on_with n xs)) rising r gap refl))

@@ -1,23 +1,25 @@
 -- The desk's waiting reports as rows: what stores and loops in their slots do to them, and what a search of them answers.
 use mathlib.Core.Bool.{Bool, true, false, not}
-use mathlib.Core.List.{List, [], ◌∷◌, ◌++◌, map}
-use mathlib.Core.Logic.{◌≢◌}
-use mathlib.Core.Option.{Option, none, some}
-use mathlib.Core.Path.{◌≡◌, refl, sym, ap, ◌∙◌, ap₂}
-use Prim.Native.Nat.{ℕ, zero, suc, ◌+◌, ◌-◌, ◌*◌, ◌/◌, ◌≤◌, ◌<◌}
+use mathlib.Core.List.{List, [], ◌∷◌, ◌++◌, map, map-id}
+use Rattle.std.specs.Prelude.{Option, None, Some, Result, IfOk, IfErr}
+use Rattle.std.specs.List.Sorted.{IsSearchInRange, IsBinarySearchResult}
+use Rattle.std.specs.Ordering.{nat_cmp}
+use mathlib.Core.Path.{◌≡◌, refl, sym, ap, ◌∙◌}
+use Prim.Native.Nat.{ℕ, zero, suc, ◌+◌, ◌-◌, ◌*◌, ◌≤◌, ◌<◌}
 use native.Mathlib.Numerals.{add-one}
 use native.Mathlib.Omega.{arith}
 use lib.Dec.{eqb}
 use lib.ListN.{length, get_or, set, take, length-map, length-take}
-use lib.Seq.{take-suc, get_or-take}
-use Rattle.terms.specs.Terms.{fix_at}
+use lib.Seq.{take-suc, get_or-take, ext_get_or}
+use Rattle.terms.specs.Terms.{Fix, fix_at}
 use Rattle.lists.specs.Parts.{insert_at, remove_at}
-use Rattle.lists.specs.Rows.{Row, Rows, Rising, find, rank, alter, insert}
-use Rattle.lists.specs.Words.{wide, low_half, high_half}
+use Rattle.lists.specs.Rows.{Row, Rows, Rising, find, alter, IsAt, IsGapFor}
+use Rattle.lists.specs.Words.{low_half}
 use Rattle.lists.proofs.WordsLaws.{wide_halves, low_wide, high_wide}
 use Rattle.lists.specs.Tests.{one_if}
+use Rattle.lists.proofs.AlterLaws.{find_at, alter_at, alter_at_none, alter_gap, alter_gap_none}
 use Rattle.lists.proofs.Cases.{none-some, some_injective}
-use Rattle.lists.proofs.SearchLaws.{Between, Between_start, Between_up, Between_down}
+use Rattle.lists.proofs.FoundLaws.{searched_rows}
 use Rattle.lists.proofs.ShiftLaws.{Opened, Closed, open_turn, close_turn}
 use Rattle.rules.specs.Limits.{full_memory}
 use Rattle.rules.specs.Carry.{was_new}
@@ -26,15 +28,10 @@ use Rattle.desk.specs.declared.Report.{Report}
 use Rattle.desk.specs.Held.{Waiting, waiting_with}
 use Rattle.desk.specs.Layout.{slotted, report_of, no_report, report_fields, waiting_of}
 use Rattle.desk.specs.Views.{every_report}
-use Rattle.desk.proofs.ReportsLaws.{length_every, length-report_words, reports_of_words, waiting_is}
+use Rattle.desk.proofs.ReportsLaws.{length_every, length-report_words, reports_of_words, waiting_is, report_read}
+use Rattle.desk.proofs.SlotsLaws.{get_or_mapped, length-slotted, Slots, Slots_get, Slots-set, Slots_open, Slots_close}
 use Rattle.desk.proofs.UniqueLaws.{take_waiting}
-use Rattle.waiting.specs.declared.Standing.{Standing}
-use Rattle.waiting.specs.declared.Standing.TheVariants.{At, Before}
-use Rattle.waiting.specs.declared.Waited.{Waited}
-use Rattle.waiting.specs.declared.Waited.TheVariants.{Found, Missing}
-use Rattle.waiting.specs.Standing.{standing_of, standing}
-use Rattle.waiting.specs.Waiting.{waits, GoodReport, row_of, reports_of, WholeWaiting, waited_of, laid_report}
-use Rattle.waiting.proofs.SlotsLaws.{get_or_mapped, length-slotted, Slots, Slots_get, Slots-set, Slots_open, Slots_close, standing_at, standing_other, standing_past, at_inside, at_find, at_key, before_inside, before_find, alter_found, alter_at, alter_at_none, alter_before, alter_before_none}
+use Rattle.waiting.specs.Waiting.{GoodReport, row_of, reports_of, WholeWaiting, laid_report}
 
 -- ---- the same rows, as the desk's array and as a list
 
@@ -121,39 +118,11 @@ every_size ws h = length_every ws full_memory h
 pub laid_Slots : {l : Rows StoreReport} {n : ℕ} {ws : List ℕ} {xs : List Report} → InSlots l n xs → every_report ws ≡ xs → length ws ≡ report_fields * full_memory → waiting_with n ws ≡ waiting_of l
 laid_Slots {l} {n} {ws} s e h = waiting_is ws n l h s.count (e ∙ s.list)
 
-radio_at : (w : Waiting) (i : ℕ) → WholeWaiting w → i < w.n → (get_or (every_report w.words) i no_report).radio ≡ (get_or (reports_of w) i no_row).key
-radio_at w i e h = ap (λ (x : Report). x.radio) (Slots_get (in_Slots w e) i no_row h)
-
--- ---- the binary search
-
-pub search_start : (w : Waiting) (r : ℕ) → WholeWaiting w → Rising 0 (reports_of w) → Between (reports_of w) r no_row 0 w.n
-search_start w r e a = Between_start r no_row w.n a (sym (count_laid w (reports_of w) e))
-
-abbrev mid : ℕ → ℕ → ℕ
-mid lo hi = lo + (hi - lo) / 2
-
-module _ {n : ℕ} {ws : List ℕ} {r lo hi : ℕ} (s : Between (reports_of (waiting_with n ws)) r no_row lo hi) (whole : WholeWaiting (waiting_with n ws)) (inside : hi ≤ n) (more : lo < hi) where
-  pub search_up : {x : Report} → x ≡ get_or (every_report ws) (mid lo hi) no_report → x.radio < r → Between (reports_of (waiting_with n ws)) r no_row (mid lo hi + 1) hi
-  search_up e k = Between_up s (mid lo hi) (omega arith) (omega arith) (omega (arith, ap (λ (x : Report). x.radio) e, radio_at (waiting_with n ws) (mid lo hi) whole (omega arith)))
-
-  pub search_down : {x : Report} → x ≡ get_or (every_report ws) (mid lo hi) no_report → r ≤ x.radio → Between (reports_of (waiting_with n ws)) r no_row lo (mid lo hi)
-  search_down e k = Between_down s (mid lo hi) (omega arith) (omega arith) (omega (arith, ap (λ (x : Report). x.radio) e, radio_at (waiting_with n ws) (mid lo hi) whole (omega arith)))
-
-module _ {n : ℕ} {ws : List ℕ} (r : ℕ) {k : ℕ} (whole : WholeWaiting (waiting_with n ws)) (rising : Rising 0 (reports_of (waiting_with n ws))) (at : k ≡ rank r (reports_of (waiting_with n ws))) where
-  pub stands_at : {x : Report} → k < n → x ≡ get_or (every_report ws) k no_report → x.radio ≡ r → (k, true) ≡ standing r (reports_of (waiting_with n ws))
-  stands_at h f e = standing_at r (reports_of (waiting_with n ws)) no_row rising at (rw (← count_laid (waiting_with n ws) (reports_of (waiting_with n ws)) whole) h) (sym (ap (λ (y : Report). y.radio) f ∙ radio_at (waiting_with n ws) k whole h) ∙ e)
-
-  pub stands_other : {x : Report} → k < n → x ≡ get_or (every_report ws) k no_report → x.radio ≢ r → (k, false) ≡ standing r (reports_of (waiting_with n ws))
-  stands_other h f other = standing_other r (reports_of (waiting_with n ws)) no_row rising at (rw (← count_laid (waiting_with n ws) (reports_of (waiting_with n ws)) whole) h) (λ e. other (ap (λ (y : Report). y.radio) f ∙ radio_at (waiting_with n ws) k whole h ∙ e))
-
-  pub stands_past : n ≤ k → (k, false) ≡ standing r (reports_of (waiting_with n ws))
-  stands_past h = standing_past r (reports_of (waiting_with n ws)) no_row rising at (rw (← count_laid (waiting_with n ws) (reports_of (waiting_with n ws)) whole) h)
-
 -- ---- stores and loops
 
 module _ {n : ℕ} {ws : List ℕ} (whole : WholeWaiting (waiting_with n ws)) {vs : List ℕ} (size : length vs ≡ report_fields * full_memory) where
-  pub laid_set : (i : ℕ) (e : Report) → GoodReport e → i < n → every_report vs ≡ set (every_report ws) i e → waiting_with (n) vs ≡ waiting_of (set (reports_of (waiting_with n ws)) i (row_of e))
-  laid_set i e m h wrote = laid_Slots (rw (report_row_lem e m) at (Slots-set (in_Slots (waiting_with n ws) whole) i (row_of e) h)) wrote size
+  laid_set : (i : ℕ) (x : Row StoreReport) → i < n → every_report vs ≡ set (every_report ws) i (report_of x) → waiting_with n vs ≡ waiting_of (set (reports_of (waiting_with n ws)) i x)
+  laid_set i x h wrote = laid_Slots (Slots-set (in_Slots (waiting_with n ws) whole) i x h) wrote size
 
   pub laid_open : (a : ℕ) (e : Report) {i : ℕ} {ys : List Report} → GoodReport e → n < full_memory → Opened (every_report ws) (n) i ys → a ≤ i → i ≤ a → every_report vs ≡ set ys a e
       → waiting_with (n + 1) vs ≡ waiting_of (insert_at (reports_of (waiting_with n ws)) a (row_of e))
@@ -169,111 +138,116 @@ module _ {n : ℕ} {ws : List ℕ} (whole : WholeWaiting (waiting_with n ws)) {v
 
 -- a report moved one place up, and one place down
 pub open_report : {xs : List Report} {n i : ℕ} (vs us : List ℕ) {r : Report} → Opened xs n i (every_report vs) → 0 < i
-    → r ≡ get_or (every_report vs) (i - 1) no_report → every_report us ≡ set (every_report vs) i r → Opened xs n (i - 1) (every_report us)
-open_report vs us o h e f = rw (f, e) (open_turn no_report o h)
+    → r ≡ get_or (every_report vs) (i - 1) no_report → every_report us ≡ set (every_report vs) (i - 1 + 1) r → Opened xs n (i - 1) (every_report us)
+open_report {i = i} vs us o h e f = let q : i - 1 + 1 ≡ i = omega arith in rw (f, e, q) (open_turn no_report o h)
 
 pub close_report : {xs : List Report} {a i : ℕ} (vs us : List ℕ) {r : Report} → Closed xs a i (every_report vs) → i + 1 < length xs
     → r ≡ get_or (every_report vs) (i + 1) no_report → every_report us ≡ set (every_report vs) i r → Closed xs a (i + 1) (every_report us)
 close_report vs us o h e f = rw (f, e) (close_turn no_report o h)
 
--- ---- what the answer of a search makes of them
-
-module _ {n : ℕ} {ws : List ℕ} (r : ℕ) {k : ℕ} {o : Standing} (whole : WholeWaiting (waiting_with n ws)) (rising : Rising 0 (reports_of (waiting_with n ws)))
-    (told : standing_of o ≡ standing r (reports_of (waiting_with n ws))) where
-  pub at_waits : o ≡ At k → k < n
-  at_waits e = rw (count_laid (waiting_with n ws) (reports_of (waiting_with n ws)) whole) (at_inside r (reports_of (waiting_with n ws)) told rising no_row e)
-
-  pub at_slot : n ≤ full_memory → o ≡ At k → k < full_memory
-  at_slot f e = let h = at_waits e in omega arith
-
-  -- so there is one to take away
-  pub one_waits : o ≡ At k → 1 ≤ n
-  one_waits e = let h = at_waits e in omega arith
-
-  pub before_waits : o ≡ Before k → k ≤ n
-  before_waits e = rw (count_laid (waiting_with n ws) (reports_of (waiting_with n ws)) whole) (before_inside r (reports_of (waiting_with n ws)) told rising e)
-
-  pub report_found : {x : Report} → o ≡ At k → x ≡ get_or (every_report ws) k no_report → some x ≡ laid_report r (find (reports_of (waiting_with n ws)) r)
-  report_found e f =
-      let q = at_key r (reports_of (waiting_with n ws)) told rising no_row e in
-      rw (at_find r (reports_of (waiting_with n ws)) told rising no_row e)
-      (ap some (f ∙ Slots_get (in_Slots (waiting_with n ws) whole) k no_row (at_waits e) ∙ ap (λ (x : ℕ). report_of (record { key = x; val = (get_or (reports_of (waiting_with n ws)) k no_row).val })) q))
-
-  pub report_missing : o ≡ Before k → none ≡ laid_report r (find (reports_of (waiting_with n ws)) r)
-  report_missing e = rw (before_find r (reports_of (waiting_with n ws)) told rising e)
-
-  pub discard_at : {v : Waiting} → o ≡ At k → v ≡ waiting_of (remove_at (reports_of (waiting_with n ws)) k) → v ≡ waiting_of (alter (λ _. none) r (reports_of (waiting_with n ws)))
-  discard_at e f = f ∙ ap waiting_of (sym (alter_at_none r (reports_of (waiting_with n ws)) told rising (λ _. none) no_row e refl))
-
-  pub discard_none : o ≡ Before k → (waiting_with n ws) ≡ waiting_of (alter (λ _. none) r (reports_of (waiting_with n ws)))
-  discard_none e = whole ∙ ap waiting_of (sym (alter_before_none r (reports_of (waiting_with n ws)) told rising (λ _. none) e refl))
-
-module _ (n : ℕ) (ws : List ℕ) (e : Report) {k : ℕ} {o : Standing} {v : Waiting} (rising : Rising 0 (reports_of (waiting_with n ws)))
-    (told : standing_of o ≡ standing e.radio (reports_of (waiting_with n ws))) where
-  pub put_at : o ≡ At k → v ≡ waiting_of (set (reports_of (waiting_with n ws)) k (row_of e)) → v ≡ waiting_of (insert e.radio (waits e) (reports_of (waiting_with n ws)))
-  put_at h f = f ∙ ap waiting_of (sym (alter_at e.radio (reports_of (waiting_with n ws)) told rising (λ _. some (waits e)) no_row (waits e) h refl))
-
-  pub put_before : o ≡ Before k → v ≡ waiting_of (insert_at (reports_of (waiting_with n ws)) k (row_of e)) → v ≡ waiting_of (insert e.radio (waits e) (reports_of (waiting_with n ws)))
-  put_before h f = f ∙ ap waiting_of (sym (alter_before e.radio (reports_of (waiting_with n ws)) told rising (λ _. some (waits e)) (waits e) h refl))
-
--- ---- marks
-
-mark_some : (r : ℕ) (o : Option StoreReport) {e : Report} → some e ≡ laid_report r o → e.new ≡ one_if (was_new o)
-mark_some r none t = none-some (sym t)
-mark_some r (some v) t = ap (λ (x : Report). x.new) (some_injective t)
-
-mark_none : (r : ℕ) (o : Option StoreReport) → none ≡ laid_report r o → 0 ≡ one_if (was_new o)
-mark_none r none t = refl
-mark_none r (some v) t = none-some t
-
-module _ (w : Waiting) (r : ℕ) {o : Waited} (told : waited_of o ≡ laid_report r (find (reports_of w) r)) where
-  pub mark_found : {e : Report} → o ≡ Found e → e.new ≡ one_if (was_new (find (reports_of w) r))
-  mark_found h = mark_some r (find (reports_of w) r) (sym (ap waited_of h) ∙ told)
-
-  pub mark_missing : o ≡ Missing → 0 ≡ one_if (was_new (find (reports_of w) r))
-  mark_missing h = mark_none r (find (reports_of w) r) (sym (ap waited_of h) ∙ told)
+-- ---- where a radio stands
 
 one_if-le : (b : Bool) → one_if b ≤ 1
 one_if-le true = omega arith
 one_if-le false = omega arith
 
-mark_le : (w : Waiting) (r : ℕ) {m : ℕ} → m ≡ one_if (was_new (find (reports_of w) r)) → m ≤ 1
-mark_le w r e = rw e (one_if-le (was_new (find (reports_of w) r)))
+low_narrow : (minute : ℕ) → low_half minute < 65536
+low_narrow minute = omega arith
 
--- the lower half of a minute has 16 bits
-pub low_narrow : (minute : ℕ) {low : ℕ} → low ≡ low_half minute → low < 65536
-low_narrow minute e = omega (arith, e)
+-- what is laid out is a report
+pub laid_Good : (x : Row StoreReport) {y : Report} → y ≡ report_of x → GoodReport y
+laid_Good x e = rw e (one_if-le x.val.new, low_narrow x.val.fix.minute)
 
-pub put_marked : (w : Waiting) (r east north minute : ℕ) {low high : ℕ} {v : Waiting} → low ≡ low_half minute → high ≡ high_half minute
-    → v ≡ waiting_of (insert r (waits (record { radio = r; east = east; north = north; new = 1; low = low; high = high })) (reports_of w))
-    → v ≡ waiting_of (insert r (record { fix = fix_at east north minute; new = true }) (reports_of w))
-put_marked w r east north minute l u f =
-    f ∙ ap (λ (t : ℕ). waiting_of (insert r (record { fix = fix_at east north t; new = true }) (reports_of w))) (ap₂ wide l u ∙ wide_halves minute)
+module _ (n : ℕ) (ws : List ℕ) (fits : n ≤ full_memory) (whole : WholeWaiting (waiting_with n ws)) where
+  -- the radios are the array's first column
+  radio_at : (i : ℕ) → i < n → get_or ws i 0 ≡ (get_or (reports_of (waiting_with n ws)) i no_row).key
+  radio_at i h =
+      ap (λ (x : Report). x.radio) (report_read ws i (omega arith) (lent_size whole fits))
+      ∙ ap (λ (x : Row StoreReport). x.key) (sym (reports_get (waiting_with n ws) (every_size ws (lent_size whole fits)) fits i h))
 
-put_keeps : (w : Waiting) (r east north minute : ℕ) {low high m : ℕ} {v : Waiting} → low ≡ low_half minute → high ≡ high_half minute → Rising 0 (reports_of w) → m ≡ one_if (was_new (find (reports_of w) r))
-    → v ≡ waiting_of (insert r (waits (record { radio = r; east = east; north = north; new = m; low = low; high = high })) (reports_of w))
-    → v ≡ waiting_of (alter (λ x. some (record { fix = fix_at east north minute; new = was_new x })) r (reports_of w))
-put_keeps w r east north minute {m = m} l u a e f =
-    let kept : Option StoreReport → Option StoreReport = λ x. some (record { fix = fix_at east north minute; new = was_new x }) in
-    let q : not (eqb m 0) ≡ was_new (find (reports_of w) r) = ap (λ (n : ℕ). not (eqb n 0)) e ∙ not_zero (was_new (find (reports_of w) r)) in
-    f ∙ ap waiting_of (alter_found _ kept 0 r (reports_of w) a (ap₂ (λ (t : ℕ) (b : Bool). some (record { fix = fix_at east north t; new = b })) (ap₂ wide l u ∙ wide_halves minute) q))
+  radios_column : map (λ (x : ℕ). x) (take n ws) ≡ map (λ (x : Row StoreReport). x.key) (reports_of (waiting_with n ws))
+  radios_column =
+      let size = lent_size whole fits in
+      let long = length_reports (waiting_with n ws) (every_size ws size) fits in
+      let used : length (take n ws) ≡ n = simp length-take (omega arith) in
+      let rows = reports_of (waiting_with n ws) in
+      map-id (take n ws)
+      ∙ ext_get_or 0 (take n ws) (map (λ (x : Row StoreReport). x.key) rows) (used ∙ sym long ∙ sym (length-map rows (λ x. x.key)))
+      (λ i h. get_or-take n ws i 0 (omega arith) ∙ radio_at i (omega arith) ∙ sym (get_or_mapped (λ (x : Row StoreReport). x.key) rows i no_row 0 (omega arith)))
 
--- the mark is kept where a report of the radio waits, and else there is none
-module _ {n : ℕ} {ws : List ℕ} (r : ℕ) {k : ℕ} {o : Standing} (whole : WholeWaiting (waiting_with n ws)) (rising : Rising 0 (reports_of (waiting_with n ws)))
-    (told : standing_of o ≡ standing r (reports_of (waiting_with n ws))) where
-  module _ {x : Report} (here : o ≡ At k) (read : x ≡ get_or (every_report ws) k no_report) where
-    mark_at : x.new ≡ one_if (was_new (find (reports_of (waiting_with n ws)) r))
-    mark_at = mark_some r (find (reports_of (waiting_with n ws)) r) (report_found r whole rising told here read)
+  pub report_searched : Rising 0 (reports_of (waiting_with n ws)) → (r : ℕ) (o : Result ℕ ℕ) → IsSearchInRange o (length (take n ws)) → IsBinarySearchResult (λ x. nat_cmp x r) (take n ws) o
+      → IfOk o (IsAt (reports_of (waiting_with n ws)) r) × IfErr o (IsGapFor (reports_of (waiting_with n ws)) r)
+  report_searched rising r o bound said = searched_rows (λ (x : ℕ). x) (take n ws) (reports_of (waiting_with n ws)) radios_column rising r o bound said
 
-    pub mark_at_le : x.new ≤ 1
-    mark_at_le = mark_le (waiting_with n ws) r mark_at
+module _ {n : ℕ} {ws : List ℕ} {r k : ℕ} (whole : WholeWaiting (waiting_with n ws)) (rising : Rising 0 (reports_of (waiting_with n ws))) where
+  -- a report of it waits
+  module _ (at : IsAt (reports_of (waiting_with n ws)) r k) where
+    abbrev val : StoreReport
+    val = (get_or (reports_of (waiting_with n ws)) k no_row).val
 
-    pub keep_at : (east north minute : ℕ) {low high : ℕ} {v : Waiting} → low ≡ low_half minute → high ≡ high_half minute → v ≡ waiting_of (set (reports_of (waiting_with n ws)) k (row_of (record { radio = r; east = east; north = north; new = x.new; low = low; high = high })))
-        → v ≡ waiting_of (alter (λ x. some (record { fix = fix_at east north minute; new = was_new x })) r (reports_of (waiting_with n ws)))
-    keep_at east north minute {low} {high} l u f = put_keeps (waiting_with n ws) r east north minute l u rising mark_at (put_at n ws (record { radio = r; east = east; north = north; new = x.new; low = low; high = high }) rising told here f)
+    pub at_waits : k < n
+    at_waits = let e = count_laid (waiting_with n ws) (reports_of (waiting_with n ws)) whole in let i = at.inside in omega arith
 
-  pub keep_before : (east north minute : ℕ) {low high : ℕ} {v : Waiting} → low ≡ low_half minute → high ≡ high_half minute → o ≡ Before k → v ≡ waiting_of (insert_at (reports_of (waiting_with n ws)) k (row_of (record { radio = r; east = east; north = north; new = 0; low = low; high = high })))
-      → v ≡ waiting_of (alter (λ x. some (record { fix = fix_at east north minute; new = was_new x })) r (reports_of (waiting_with n ws)))
-  keep_before east north minute {low} {high} l u e f =
-      put_keeps (waiting_with n ws) r east north minute l u rising (mark_none r (find (reports_of (waiting_with n ws)) r) (report_missing r whole rising told e))
-      (put_before n ws (record { radio = r; east = east; north = north; new = 0; low = low; high = high }) rising told e f)
+    -- so there is one to take away
+    pub one_waits : 1 ≤ n
+    one_waits = let h = at_waits in omega arith
+
+    held : get_or (every_report ws) k no_report ≡ report_of (record { key = r; val = val })
+    held = Slots_get (in_Slots (waiting_with n ws) whole) k no_row at_waits ∙ ap (λ (q : ℕ). report_of (record { key = q; val = val })) (at.here no_row)
+
+    pub report_found : {x : Report} → x ≡ get_or (every_report ws) k no_report → Some x ≡ laid_report r (find (reports_of (waiting_with n ws)) r)
+    report_found e = rw (find_at (reports_of (waiting_with n ws)) rising r at no_row) (ap Some (e ∙ held))
+
+    pub discard_at : {v : Waiting} → v ≡ waiting_of (remove_at (reports_of (waiting_with n ws)) k) → v ≡ waiting_of (alter (λ _. None) r (reports_of (waiting_with n ws)))
+    discard_at e = e ∙ ap waiting_of (sym (alter_at_none (λ _. None) (reports_of (waiting_with n ws)) rising r no_row at refl))
+
+    -- another in its place
+    pub put_at : (f : Option StoreReport → Option StoreReport) (v : StoreReport) {vs : List ℕ} {y : Report} → length vs ≡ report_fields * full_memory → f (Some val) ≡ Some v
+        → y ≡ report_of (record { key = r; val = v }) → every_report vs ≡ set (every_report ws) k y → waiting_with n vs ≡ waiting_of (alter f r (reports_of (waiting_with n ws)))
+    put_at f v {vs} size e laid wrote =
+        laid_set whole size k (record { key = r; val = v }) at_waits (wrote ∙ ap (set (every_report ws) k) laid)
+        ∙ ap waiting_of (sym (alter_at f (reports_of (waiting_with n ws)) rising r no_row v at e))
+
+    -- the mark is kept
+    pub keep_at : (fix : Fix) {x : Report} {vs : List ℕ} {y : Report} → x ≡ get_or (every_report ws) k no_report → length vs ≡ report_fields * full_memory
+        → y ≡ report_of (record { key = r; val = record { fix = fix; new = not (eqb x.new 0) } }) → every_report vs ≡ set (every_report ws) k y
+        → waiting_with n vs ≡ waiting_of (alter (λ w. Some (record { fix = fix; new = was_new w })) r (reports_of (waiting_with n ws)))
+    keep_at fix {x} read size laid wrote =
+        let mark : not (eqb x.new 0) ≡ val.new = ap (λ (w : Report). not (eqb w.new 0)) (read ∙ held) ∙ not_zero val.new in
+        put_at (λ w. Some (record { fix = fix; new = was_new w })) (record { fix = fix; new = val.new }) size refl
+        (laid ∙ ap (λ (b : Bool). report_of (record { key = r; val = record { fix = fix; new = b } })) mark) wrote
+
+  -- none does
+  module _ (gap : IsGapFor (reports_of (waiting_with n ws)) r k) where
+    pub gap_waits : k ≤ n
+    gap_waits = let e = count_laid (waiting_with n ws) (reports_of (waiting_with n ws)) whole in let i = gap.inside in omega arith
+
+    pub report_missing : None ≡ laid_report r (find (reports_of (waiting_with n ws)) r)
+    report_missing = rw gap.absent
+
+    pub discard_none : waiting_with n ws ≡ waiting_of (alter (λ _. None) r (reports_of (waiting_with n ws)))
+    discard_none = whole ∙ ap waiting_of (sym (alter_gap_none (λ _. None) (reports_of (waiting_with n ws)) rising r gap refl))
+
+    -- one at its rising place
+    pub put_gap : (f : Option StoreReport → Option StoreReport) (v : StoreReport) {w : Waiting} {y : Report} → f None ≡ Some v → y ≡ report_of (record { key = r; val = v })
+        → w ≡ waiting_of (insert_at (reports_of (waiting_with n ws)) k (row_of y)) → w ≡ waiting_of (alter f r (reports_of (waiting_with n ws)))
+    put_gap f v e laid said =
+        said ∙ ap (λ (x : Row StoreReport). waiting_of (insert_at (reports_of (waiting_with n ws)) k x)) (ap row_of laid ∙ row_report (record { key = r; val = v }))
+        ∙ ap waiting_of (sym (alter_gap f (reports_of (waiting_with n ws)) rising r v gap e))
+
+-- ---- the mark of what is found
+
+mark_some : (r : ℕ) (o : Option StoreReport) {e : Report} → Some e ≡ laid_report r o → e.new ≡ one_if (was_new o)
+mark_some r None t = none-some (sym t)
+mark_some r (Some v) t = ap (λ (x : Report). x.new) (some_injective t)
+
+mark_none : (r : ℕ) (o : Option StoreReport) → None ≡ laid_report r o → 0 ≡ one_if (was_new o)
+mark_none r None t = refl
+mark_none r (Some v) t = none-some t
+
+module _ (w : Waiting) (r : ℕ) {o : Option Report} (told : o ≡ laid_report r (find (reports_of w) r)) where
+  pub mark_found : {e : Report} → o ≡ Some e → e.new ≡ one_if (was_new (find (reports_of w) r))
+  mark_found h = mark_some r (find (reports_of w) r) (sym h ∙ told)
+
+  pub mark_missing : o ≡ None → 0 ≡ one_if (was_new (find (reports_of w) r))
+  mark_missing h = mark_none r (find (reports_of w) r) (sym h ∙ told)

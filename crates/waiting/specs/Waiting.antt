@@ -1,6 +1,5 @@
 -- The waiting reports of the desk as rows by rising radio (01, "How a record is carried out", "A sound store").
-use Rattle.std.specs.Prelude.{not, map, ◌≡◌, ℕ, ◌≤◌, ◌<◌, eqb, take}
-use Rattle.std.proofs.Math.Option.{Option, none, some}
+use Rattle.std.specs.Prelude.{not, map, ◌≡◌, ℕ, ◌≤◌, ◌<◌, eqb, take, Option, None, Some}
 use Rattle.terms.specs.Terms.{Fix, fix_at}
 use Rattle.lists.specs.Rows.{Row, Rows, Rising}
 use Rattle.lists.specs.Words.{wide}
@@ -10,8 +9,6 @@ use Rattle.rules.specs.Store.{Report as StoreReport}
 use Rattle.desk.specs.Layout.{report_of, waiting_of}
 use Rattle.desk.specs.declared.Report.{Report}
 use Rattle.desk.specs.Held.{Waiting}
-use Rattle.waiting.specs.declared.Waited.{Waited}
-use Rattle.waiting.specs.declared.Waited.TheVariants.{Found, Missing}
 
 abbrev pub fix_of : Report → Fix
 fix_of w = fix_at w.east w.north (wide w.low w.high)
@@ -44,12 +41,7 @@ GoodWaiting w = (w.n ≤ full_memory) × WholeWaiting w × Rising 0 (reports_of 
 abbrev pub RoomyWaiting : Waiting → Type 0
 RoomyWaiting w = (w.n < full_memory) × WholeWaiting w × Rising 0 (reports_of w)
 
--- the value of each case of an answer: the report that waits, or none
-abbrev pub waited_of : Waited → Option Report
-waited_of (Found w) = some w
-waited_of Missing = none
-
 -- a radio's report as the desk lays it out, from what is found of it
 abbrev pub laid_report : ℕ → Option StoreReport → Option Report
-laid_report r none = none
-laid_report r (some w) = some (report_of (record { key = r; val = w }))
+laid_report r None = None
+laid_report r (Some w) = Some (report_of (record { key = r; val = w }))

@@ -1,6 +1,6 @@
 -- The radios on, as they stand in their array: each once, and each with a latest place, which the table by radio has.
 use Rattle.std.proofs.Common.{◌≡◌, ℕ, zero, suc, ◌<◌, ◌≤◌, true, eqb, List, [], ◌∷◌, map, length, get_or, take, sym, refl, ap, ◌∙◌, subst, ap₂, le_of_suc-le-suc, not-suc-le-zero, arith, length-take, get_or-take, eq-eqb, eqb-true}
-use mathlib.Core.Option.{none, some}
+use Rattle.std.specs.Prelude.{None, Some}
 use lib.ListN.{length-map, get_or-map}
 use Rattle.terms.specs.Terms.{max_radio, max_on}
 use Rattle.lists.specs.Rows.{Rows, Rising, UpTo, find}
@@ -28,7 +28,7 @@ found_at [] i h = absurd (not-suc-le-zero h)
 found_at (x ∷ l) zero h = rw (eq-eqb x x refl)
 found_at (x ∷ l) (suc i) h = by_cases (eqb (get_or l i 0) x) (λ t. rw t) (λ t. rw t (found_at l i (le_of_suc-le-suc h)))
 
-not_found : (l : List ℕ) (r : ℕ) → ((i : ℕ) → i < length l → get_or l i 0 ≡ r → ⊥) → find (map radio_row l) r ≡ none
+not_found : (l : List ℕ) (r : ℕ) → ((i : ℕ) → i < length l → get_or l i 0 ≡ r → ⊥) → find (map radio_row l) r ≡ None
 unfolding find
 not_found [] r n = refl
 not_found (x ∷ l) r n = by_cases (eqb r x) (λ t. absurd (n 0 (omega arith) (sym (eqb-true r x t)))) (λ t. rw t (not_found l r (λ i h. n (suc i) (omega arith))))
@@ -41,7 +41,7 @@ module _ (radios : List ℕ) (n : ℕ) (size : length radios ≡ max_on) (few : 
   unfolding radios_of
   on_found i h = ap (λ (r : ℕ). is_some (find (map radio_row (take n radios)) r)) (sym (get_or-take n radios i 0 h)) ∙ found_at (take n radios) i (omega (arith, used))
 
-  on_absent : (r : ℕ) → ((i : ℕ) → i < n → get_or radios i 0 ≡ r → ⊥) → find (radios_of (on_with n radios)) r ≡ none
+  on_absent : (r : ℕ) → ((i : ℕ) → i < n → get_or radios i 0 ≡ r → ⊥) → find (radios_of (on_with n radios)) r ≡ None
   unfolding radios_of
   on_absent r m = not_found (take n radios) r (λ i h e. let k : i < n = omega (arith, used) in m i k (sym (get_or-take n radios i 0 k) ∙ e))
 
@@ -89,10 +89,8 @@ module _ (ledger : Ledger) (b : List ℕ) (s : SoundLedger ledger b) where
       ap place_of (is_some-false (latest s.store r)
       (latest_on s.store s.well r ∙ ap (λ (l : Rows (Unit {0})). is_some (find l r)) (sym rows_on) ∙ ap is_some (on_absent ledger.on n size_on few_on r m)))
 
-  pub places_found : (easts norths : List ℕ) {dense_easts dense_norths : List ℕ} → ((r : ℕ) → is_on s.store r ≡ true → latest_place s.store r ≡ some (place_by easts norths r))
+  pub places_found : (easts norths : List ℕ) {dense_easts dense_norths : List ℕ} → ((r : ℕ) → is_on s.store r ≡ true → latest_place s.store r ≡ Some (place_by easts norths r))
       → OnColumn easts ledger.on n dense_easts → OnColumn norths ledger.on n dense_norths → PlacesOn (latest_place s.store) ledger.on n dense_easts dense_norths
   places_found easts norths told a c = record {
-    size_easts = a.size;
-    size_norths = c.size;
-    at = λ i h. told (get_or ledger.on i 0) (is_on_lem i h) ∙ ap₂ (λ (x y : ℕ). some (record { east = x; north = y })) (sym (a.at i h)) (sym (c.at i h));
+    at = λ i h. told (get_or ledger.on i 0) (is_on_lem i h) ∙ ap₂ (λ (x y : ℕ). Some (record { east = x; north = y })) (sym (a.at i h)) (sym (c.at i h));
   }

@@ -1,90 +1,69 @@
-// The members of each watch, found anew from the latest places of a sound ledger: the array of the watches is laid out once more, from its rectangles alone.
+// The members of each watch, found anew from the latest places of a sound ledger: the watches are laid out once more, from their rectangles alone.
 // The test of soundness compares, and a watch that is set takes what is laid out.
 #![tactic(auto)]
 
-ghost use Rattle.std.specs.Prelude.{◌≡◌, ℕ, ◌+◌, ◌*◌, ◌<◌, ◌≤◌, false, List, length, set, replicate, slice_index, slice_set};
-ghost use Rattle.std.proofs.Math.Option.{Option, none};
+ghost use Rattle.std.specs.Prelude.{◌≡◌, ℕ, ◌+◌, ◌*◌, ◌<◌, ◌≤◌, false, List, length, set, slice_index, Option, None};
 ghost use Rattle.terms.specs.Terms.{Place, max_radio, max_on};
 ghost use Rattle.lists.specs.Bits.{bits};
 ghost use Rattle.lists.specs.Rows.{UpTo};
 ghost use Rattle.lists.specs.Tests.{one_if};
 ghost use Rattle.rules.specs.Grid.{takes_in, covers};
 ghost use Rattle.rules.specs.Plain.{put_at};
-ghost use Rattle.rules.specs.Watches.{max_watches, Watch, watch_at, is_member, latest_place};
-ghost use Rattle.desk.specs.Layout.{watch_fields, watches_of};
-ghost use Rattle.desk.specs.Held.{ledger_with, on_with};
-ghost use Rattle.desk.specs.Sizes.{LedgerArrays};
+ghost use Rattle.rules.specs.Watches.{max_watches, Watch as RulesWatch, watch_at, is_member, latest_place};
+ghost use Rattle.desk.specs.Layout.{watch_of, watches_of};
+ghost use Rattle.desk.specs.Held.{on_with, desk_ledger};
 ghost use Rattle.desk.specs.Sound.{SoundLedger};
 ghost use Rattle.desk.specs.Views.{radios_of, rect_of, watch_in, watches_in};
-ghost use Rattle.memo_index.specs.Index.{table_size};
 ghost use Rattle.watch_members.specs.Members.{nowhere, OnColumn, place_at, PlacesOn, Numbers, taken_in, voids, Reaches, OnceOn, OnlyOn};
 
-use desk::{Desk, Parts, Rectangle};
+use desk::{Desk, Rectangle, Watch};
+use latest_places::Columns;
 use memo_index::RADIOS;
 
 // ---- where the radios on are
 
 // A column of the table by radio, for the radios on alone and in their order.
-fn column_on<'a>(
-    column: &'a [u16; RADIOS],
-    radios: &'a [u16; Desk::MAX_ON],
+fn column_on(
+    column: &[u16; RADIOS],
+    radios: &[u16; Desk::MAX_ON],
     n: u16,
-    dense: &'a mut [u16; Desk::MAX_ON],
+    dense: &mut [u16; Desk::MAX_ON],
 )
-    requires { (length column.now ≡ table_size) × (length radios.now ≡ max_on) × (length dense.old ≡ max_on) × (n ≤ max_on)
-        × UpTo max_radio (radios_of (on_with n radios.now)) }
+    requires { (n ≤ max_on) × UpTo max_radio (radios_of (on_with n radios.now)) }
     ensures { OnColumn column.now radios.now n dense.new }
 {
-    let mut i: usize = 0;
-    while i < n as usize {
-        let radio = radios[i] as usize;
-        dense[i] = column[radio];
-        i += 1;
+    for i in 0..n as usize {
+        dense[i] = column[radios[i] as usize];
     }
 }
 
 // The latest place of each radio on.
 fn places_on(
+    desk: &Desk,
     pages: &[u8],
-    parts: Parts,
-    cells: &[u16; Desk::CELL_WORDS],
-    waiting: &[u16; Desk::WAITING_WORDS],
-    memo: &[u16; Desk::MEMO_WORDS],
-    on: &[u16; Desk::MAX_ON],
     easts: &mut [u16; Desk::MAX_ON],
     norths: &mut [u16; Desk::MAX_ON],
 )
-    requires { LedgerArrays cells.now waiting.now memo.now on.now × (length easts.old ≡ max_on) × (length norths.old ≡ max_on)
-        × SoundLedger (ledger_with parts cells.now waiting.now memo.now on.now) pages.now }
-    ensures { (s : SoundLedger (ledger_with parts cells.now waiting.now memo.now on.now)
-        pages.now)
-        → PlacesOn (latest_place s.store) on.now parts.on easts.new norths.new }
+    requires { SoundLedger (desk_ledger desk.now) pages.now }
+    ensures { (s : SoundLedger (desk_ledger desk.now) pages.now)
+        → PlacesOn (latest_place s.store) desk.now.on desk.now.parts.on easts.new norths.new }
 {
-    let mut all_easts = [0u16; RADIOS];
-    let mut all_norths = [0u16; RADIOS];
-    latest_places::hold_latest(
-        pages,
-        parts,
-        cells,
-        waiting,
-        memo,
-        &mut all_easts,
-        &mut all_norths,
-    );
-    column_on(&all_easts, on, parts.on, easts);
-    column_on(&all_norths, on, parts.on, norths);
+    let mut all = Columns {
+        easts: [0; RADIOS],
+        norths: [0; RADIOS],
+    };
+    latest_places::hold_latest(pages, desk, &mut all);
+    column_on(&all.easts, &desk.on, desk.parts.on, easts);
+    column_on(&all.norths, &desk.on, desk.parts.on, norths);
 }
 
 // ---- which watches take each in
 
-fn shifted(number: u16, covered: bool) -> u16
-    requires { number < 32768 }
-    ensures { result ≡ one_if covered + 2 * number }
-{
-    if covered { 1 + 2 * number } else { 2 * number }
-}
+// Places are two columns, and all arrays have the length that may be on, of which the first n are used: speed tried. An array of places takes four times as long,
+// slices of n a tenth longer.
 
 // Whether two edges take in nothing.
+#[tactic(auto, using(crate::proofs::ReachLaws::void_told))]
 fn is_void(low: u16, high: u16) -> bool
     ensures { result ≡ voids (record { low = low; high = high }) }
 {
@@ -92,6 +71,7 @@ fn is_void(low: u16, high: u16) -> bool
 }
 
 // How far above the low edge the last coordinate lies that two edges take in.
+#[tactic(auto, using(crate::proofs::ReachLaws::reach_last, crate::proofs::ReachLaws::reach_inner, crate::proofs::ReachLaws::void_order))]
 fn reach_of(low: u16, high: u16) -> u16
     requires { voids (record { low = low; high = high }) ≡ false }
     ensures { Reaches (record { low = low; high = high }) result }
@@ -111,13 +91,11 @@ fn is_reached(low: u16, reach: u16, x: u16) -> bool
 
 // A watch that takes in nothing: each radio's number grows by a bit that is not set.
 fn shift_none(n: usize, numbers: &mut [u16; Desk::MAX_ON])
-    requires { (length numbers.old ≡ max_on) × (n ≤ max_on) × ((i : ℕ) → i < n → slice_index numbers.old i < 32768) }
+    requires { (n ≤ max_on) × ((i : ℕ) → i < n → slice_index numbers.old i < 32768) }
     ensures { Numbers (λ i. 2 * slice_index numbers.old i) n numbers.new }
 {
-    let mut i: usize = 0;
-    while i < n {
-        numbers[i] = 2 * numbers[i];
-        i += 1;
+    for i in 0..n {
+        numbers[i] *= 2;
     }
 }
 
@@ -131,17 +109,15 @@ fn shift_reached(
     n: usize,
     numbers: &mut [u16; Desk::MAX_ON],
 )
-    requires { (length easts.now ≡ max_on) × (length norths.now ≡ max_on) × (length numbers.old ≡ max_on) × (n ≤ max_on)
-        × ((i : ℕ) → i < n → slice_index numbers.old i < 32768) × Reaches (rect_of area).easts across × Reaches (rect_of area).norths up }
+    requires { (n ≤ max_on) × ((i : ℕ) → i < n → slice_index numbers.old i < 32768)
+        × Reaches (rect_of area).easts across × Reaches (rect_of area).norths up }
     ensures { Numbers (λ i. one_if (covers (rect_of area) (place_at easts.now norths.now i)) + 2 * slice_index numbers.old i) n
         numbers.new }
 {
-    let mut i: usize = 0;
-    while i < n {
+    for i in 0..n {
         let in_easts = is_reached(area.west, across, easts[i]);
         let in_norths = is_reached(area.south, up, norths[i]);
-        numbers[i] = shifted(numbers[i], in_easts & in_norths);
-        i += 1;
+        numbers[i] = watches::with_bit(in_easts & in_norths, numbers[i]);
     }
 }
 
@@ -153,8 +129,7 @@ fn shift_in(
     n: usize,
     numbers: &mut [u16; Desk::MAX_ON],
 )
-    requires { (length easts.now ≡ max_on) × (length norths.now ≡ max_on) × (length numbers.old ≡ max_on) × (n ≤ max_on)
-        × ((i : ℕ) → i < n → slice_index numbers.old i < 32768) }
+    requires { (n ≤ max_on) × ((i : ℕ) → i < n → slice_index numbers.old i < 32768) }
     ensures { Numbers (λ i. one_if (covers (rect_of area) (place_at easts.now norths.now i)) + 2 * slice_index numbers.old i) n
         numbers.new }
 {
@@ -173,126 +148,89 @@ fn shift_in(
 
 // Each radio's number: bit w is set exactly if watch w takes in its place.
 fn number_each(
-    watches: &[u16; Desk::WATCHES_WORDS],
+    watches: &[Watch; Desk::MAX_WATCHES],
     easts: &[u16; Desk::MAX_ON],
     norths: &[u16; Desk::MAX_ON],
     n: usize,
     numbers: &mut [u16; Desk::MAX_ON],
 )
-    requires { (length watches.now ≡ watch_fields * max_watches) × (length easts.now ≡ max_on) × (length norths.now ≡ max_on) × (n ≤ max_on)
-        × Numbers (λ i. 0) n numbers.old }
+    requires { (n ≤ max_on) × Numbers (λ i. 0) n numbers.old }
     ensures { Numbers (λ i. taken_in watches.now (place_at easts.now norths.now i)) n numbers.new }
 {
-    let mut w: usize = Desk::MAX_WATCHES;
-    while 0 < w {
-        w -= 1;
-        let area = watches::area_at(watches, w);
+    for w in (0..Desk::MAX_WATCHES).rev() {
+        let area = watches::area_of(&watches[w]);
         shift_in(area, easts, norths, n, numbers);
     }
 }
 
-// ---- the array laid out
+// ---- the watches laid out
 
 // The rectangle of a watch that is set, and no member.
-fn lay_area<'a>(
-    watches: &'a [u16; Desk::WATCHES_WORDS],
-    w: usize,
-    blank: &'a mut [u16; Desk::WATCHES_WORDS],
-)
-    requires { (w < max_watches) × (length watches.now ≡ watch_fields * max_watches) × (length blank.old ≡ watch_fields * max_watches) }
-    ensures { (l : List Watch) → length l ≡ max_watches → watch_at l w ≡ none → blank.old ≡ watches_of nowhere l
-        → blank.new ≡ watches_of nowhere (slice_set l w (watch_in watches.now w)) }
+#[tactic(auto, using(crate::proofs::AreasLaws::bare_set, crate::proofs::AreasLaws::bare_unset))]
+fn bare(watch: &Watch) -> Watch
+    ensures { result ≡ watch_of nowhere (watch_in watch.now) }
 {
-    if watches::is_watched(watches, w) {
-        let area = watches::area_at(watches, w);
-        watches::put_area(blank, w, area);
+    let mut bare = Watch::UNSET;
+    if watches::is_watched(watch) {
+        watches::put_area(&mut bare, watches::area_of(watch));
     }
+    bare
 }
 
-fn lay_areas<'a>(watches: &'a [u16; Desk::WATCHES_WORDS], blank: &'a mut [u16; Desk::WATCHES_WORDS])
-    requires { (length watches.now ≡ watch_fields * max_watches) × (blank.old ≡ replicate (watch_fields * max_watches) 0) }
-    ensures { blank.new ≡ watches_of nowhere (watches_in watches.now) }
+fn lay_areas(watches: &[Watch; Desk::MAX_WATCHES], laid: &mut [Watch; Desk::MAX_WATCHES])
+    ensures laid { laid.new ≡ watches_of nowhere (watches_in watches.now) }
+    ensures long { length watches.now ≡ max_watches }
 {
-    let mut w: usize = 0;
-    while w < Desk::MAX_WATCHES {
-        lay_area(watches, w, blank);
-        w += 1;
+    for w in 0..Desk::MAX_WATCHES {
+        laid[w] = bare(&watches[w]);
     }
 }
 
 // The radio is a member of the watches whose bits are set.
-fn lay_radio<'a>(watches: &'a mut [u16; Desk::WATCHES_WORDS], radio: u16, number: u16)
-    requires { (radio ≤ max_radio) × (length watches.old ≡ watch_fields * max_watches) }
-    ensures { (length watches.new ≡ watch_fields * max_watches)
-        × ((places : ℕ → Option Place) (p : Option Place) (l : List Watch) → length l ≡ max_watches → watches.old ≡ watches_of places l
-        → places radio ≡ none → number ≡ bits max_watches (λ w. is_member (watch_at l w) p) → watches.new ≡ watches_of (put_at radio p places) l) }
+fn lay_radio(watches: &mut [Watch; Desk::MAX_WATCHES], radio: u16, number: u16)
+    requires { radio ≤ max_radio }
+    ensures { (places : ℕ → Option Place) (p : Option Place) (l : List RulesWatch) → length l ≡ max_watches → watches.old ≡ watches_of places l
+        → places radio ≡ None → number ≡ bits max_watches (λ w. is_member (watch_at l w) p) → watches.new ≡ watches_of (put_at radio p places) l }
 {
-    let mut w: usize = 0;
-    while w < Desk::MAX_WATCHES {
+    for w in 0..Desk::MAX_WATCHES {
         if watches::is_set(number, w as u16) {
-            watches::put_member(watches, w, radio, true);
+            watches::put_member(&mut watches[w], radio, true);
         }
-        w += 1;
     }
 }
 
-fn lay_members<'a>(
-    watches: &'a mut [u16; Desk::WATCHES_WORDS],
-    radios: &'a [u16; Desk::MAX_ON],
+fn lay_members(
+    watches: &mut [Watch; Desk::MAX_WATCHES],
+    radios: &[u16; Desk::MAX_ON],
     n: usize,
-    numbers: &'a [u16; Desk::MAX_ON],
+    numbers: &[u16; Desk::MAX_ON],
 )
-    requires { (length watches.old ≡ watch_fields * max_watches) × (length radios.now ≡ max_on) × (length numbers.now ≡ max_on) × (n ≤ max_on)
-        × OnceOn n radios.now }
-    ensures { (places : ℕ → Option Place) (l : List Watch) → length l ≡ max_watches → watches.old ≡ watches_of nowhere l
+    requires { (n ≤ max_on) × OnceOn n radios.now }
+    ensures { (places : ℕ → Option Place) (l : List RulesWatch) → length l ≡ max_watches → watches.old ≡ watches_of nowhere l
         → OnlyOn places n radios.now → Numbers (λ i. bits max_watches (λ w. is_member (watch_at l w) (places (slice_index radios.now i)))) n
         numbers.now
         → watches.new ≡ watches_of places l }
 {
-    let mut i: usize = 0;
-    while i < n {
+    for i in 0..n {
         let number = numbers[i];
         if number != 0 {
-            let radio = radios[i];
-            lay_radio(watches, radio, number);
+            lay_radio(watches, radios[i], number);
         }
-        i += 1;
     }
 }
 
 // The watches' rectangles with the members that they must have.
-pub fn lay_out<'a>(
-    pages: &'a [u8],
-    parts: Parts,
-    cells: &'a [u16; Desk::CELL_WORDS],
-    waiting: &'a [u16; Desk::WAITING_WORDS],
-    memo: &'a [u16; Desk::MEMO_WORDS],
-    on: &'a [u16; Desk::MAX_ON],
-    watches: &'a [u16; Desk::WATCHES_WORDS],
-    blank: &'a mut [u16; Desk::WATCHES_WORDS],
-)
-    requires { LedgerArrays cells.now waiting.now memo.now on.now × (length watches.now ≡ watch_fields * max_watches)
-        × (blank.old ≡ replicate (watch_fields * max_watches) 0)
-        × SoundLedger (ledger_with parts cells.now waiting.now memo.now on.now) pages.now }
-    ensures { (s : SoundLedger (ledger_with parts cells.now waiting.now memo.now on.now)
-        pages.now)
-        → blank.new ≡ watches_of (latest_place s.store) (watches_in watches.now) }
+pub fn lay_out(desk: &Desk, pages: &[u8], laid: &mut [Watch; Desk::MAX_WATCHES])
+    requires { SoundLedger (desk_ledger desk.now) pages.now }
+    ensures { (s : SoundLedger (desk_ledger desk.now) pages.now)
+        → laid.new ≡ watches_of (latest_place s.store) (watches_in desk.now.watches) }
 {
     let mut easts = [0u16; Desk::MAX_ON];
     let mut norths = [0u16; Desk::MAX_ON];
     let mut numbers = [0u16; Desk::MAX_ON];
-    let n = parts.on as usize;
-    lay_areas(watches, blank);
-    places_on(
-        pages,
-        parts,
-        cells,
-        waiting,
-        memo,
-        on,
-        &mut easts,
-        &mut norths,
-    );
-    number_each(blank, &easts, &norths, n, &mut numbers);
-    lay_members(blank, on, n, &numbers);
+    let n = desk.parts.on as usize;
+    lay_areas(&desk.watches, laid);
+    places_on(desk, pages, &mut easts, &mut norths);
+    number_each(laid, &easts, &norths, n, &mut numbers);
+    lay_members(laid, &desk.on, n, &numbers);
 }

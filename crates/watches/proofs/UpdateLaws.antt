@@ -1,13 +1,14 @@
 -- The loop of `update`, from watch 15 down to 0.
 use mathlib.Core.Bool.{Bool, true, false, cond, not, ◌&&◌}
 use mathlib.Core.List.{List}
-use mathlib.Core.Option.{Option, none, some}
-use mathlib.Core.Path.{◌≡◌, refl, ap, ap₂, ◌∙◌}
+use Rattle.std.specs.Prelude.{Option, None, Some}
+use mathlib.Core.Path.{◌≡◌, refl, sym, ap, ap₂, ◌∙◌}
 use Prim.Native.Nat.{ℕ, suc, ◌+◌, ◌-◌, ◌*◌, ◌^◌, ◌≤◌, ◌<◌}
 use native.Mathlib.Omega.{arith}
 use native.Mathlib.Nat.{pow-suc}
 use lib.Dec.{eqb}
-use lib.ListN.{length, get_or}
+use lib.ListN.{length, get_or, set, length-set}
+use lib.Seq.{get_or-set_same, get_or-set_other}
 use lib.Pow.{pow_mono}
 use borrow.Author.Tests.{eqb-true, eqb-false}
 use Rattle.terms.specs.Terms.{Place, max_radio}
@@ -19,11 +20,12 @@ use Rattle.lists.proofs.TestsLaws.{and_both, both_comm, one_if-le}
 use Rattle.rules.specs.Grid.{Rect, covers}
 use Rattle.rules.specs.Plain.{put_at}
 use Rattle.rules.specs.Watches.{max_watches, Watch, watch_at, is_member, gained}
-use Rattle.desk.specs.Layout.{watch_fields, watches_of}
+use Rattle.desk.specs.declared.Watch.{Watch as DeskWatch}
+use Rattle.desk.specs.Layout.{area_of, watch_of, no_watch, watches_of}
 use Rattle.desk.specs.Views.{area_in, member_in}
-use Rattle.desk.proofs.WatchesLaws.{field_at, watches_same, covers_area}
+use Rattle.desk.proofs.WatchesLaws.{area_laid, member_laid, length_watches, laid_at, watches_same, covers_area}
 use Rattle.watches.specs.Watches.{with_member, AfterUpdate}
-use Rattle.watches.proofs.MembersLaws.{Holds, area_held, member_held, other_held, put_held}
+use Rattle.watches.proofs.MembersLaws.{member_put}
 
 -- ---- a number made from its highest bit down
 
@@ -62,18 +64,20 @@ bits_turn b w h k m e =
 abbrev gained_by : List Watch → Option Place → Option Place → ℕ → Bool
 gained_by l before after v = both (not (is_member (watch_at l v) before)) (is_member (watch_at l v) after)
 
--- those from w on hold the bits of the new place, those below w are as they were; the numbers have the bits from w on
-pub record Turned (places : ℕ → Option Place) (l : List Watch) (r : ℕ) (after : Option Place) (w : ℕ) (ws : List ℕ) (gains losses : ℕ) : Type 0 where
-  pub done : (v : ℕ) → w ≤ v → v < max_watches → Holds ws v (put_at r after places) (watch_at l v)
-  pub left : (v : ℕ) → v < w → v < max_watches → Holds ws v places (watch_at l v)
+-- those from w on have the bits of the new place, those below w are as they were; the numbers have the bits from w on
+pub record Turned (places : ℕ → Option Place) (l : List Watch) (r : ℕ) (after : Option Place) (w : ℕ) (vs : List DeskWatch) (gains losses : ℕ) : Type 0 where
+  pub long : length vs ≡ max_watches
+  pub done : (v : ℕ) → w ≤ v → v < max_watches → get_or vs v no_watch ≡ watch_of (put_at r after places) (watch_at l v)
+  pub left : (v : ℕ) → v < w → v < max_watches → get_or vs v no_watch ≡ watch_of places (watch_at l v)
   pub gained_now : gains ≡ bits_from (gained_by l (places r) after) w
   pub lost_now : losses ≡ bits_from (gained_by l after (places r)) w
 
-pub Turned_start : (places : ℕ → Option Place) (l : List Watch) (r : ℕ) (after : Option Place) (ws : List ℕ) → length l ≡ max_watches → ws ≡ watches_of places l
-    → Turned places l r after max_watches ws 0 0
-Turned_start places l r after ws n e = record {
+pub Turned_start : (places : ℕ → Option Place) (l : List Watch) (r : ℕ) (after : Option Place) (vs : List DeskWatch) → length l ≡ max_watches → vs ≡ watches_of places l
+    → Turned places l r after max_watches vs 0 0
+Turned_start places l r after vs n e = record {
+  long = ap length e ∙ length_watches places l ∙ n;
   done = λ v h k. absurd (omega arith);
-  left = λ v h i k b. ap (λ (xs : List ℕ). get_or xs (watch_fields * v + k) 0) e ∙ field_at places l v k (omega arith) b;
+  left = λ v h i. ap (λ (xs : List DeskWatch). get_or xs v no_watch) e ∙ laid_at places l v no_watch (omega arith);
   gained_now = from_end (gained_by l (places r) after);
   lost_now = from_end (gained_by l after (places r));
 }
@@ -82,57 +86,50 @@ Turned_start places l r after ws n e = record {
 and_not : {a b p q : Bool} → a ≡ p → b ≡ q → (a && not b) ≡ both (not q) p
 and_not {p = p} {q = q} e f = rw (e, f) (and_both p (not q) ∙ both_comm p (not q))
 
--- the code's answer, of a radio that is on or not: one without a place is in no rectangle
-is_inside : (on : Bool) (watch : Watch) (p : Place) {covered : Bool} → covered ≡ is_member watch (some p) → (on && covered) ≡ is_member watch (cond on (some p) none)
-is_inside true watch p e = e
-is_inside false none p e = refl
-is_inside false (some rect) p e = refl
+-- a place is taken in, and a radio without one is not
+pub placed_in : (x : Watch) {area a : Rect} (p : Place) {covered : Bool} → covered ≡ covers a p → a ≡ area → area ≡ area_of x → covered ≡ is_member x (Some p)
+placed_in x p c e f = c ∙ ap (λ (a : Rect). covers a p) (e ∙ f) ∙ covers_area x p
 
-module _ {places : ℕ → Option Place} {l : List Watch} {r : ℕ} {after : Option Place} {w : ℕ} {ws : List ℕ} {gains losses : ℕ}
-    (t : Turned places l r after w ws gains losses) (more : 0 < w) (within : w ≤ max_watches) (radio : r ≤ max_radio) (sized : length ws ≡ watch_fields * max_watches) where
+pub none_in : (x : Watch) → false ≡ is_member x None
+none_in None = refl
+none_in (Some rect) = refl
+
+module _ {places : ℕ → Option Place} {l : List Watch} {r : ℕ} {after : Option Place} {w : ℕ} {vs : List DeskWatch} {gains losses : ℕ}
+    (t : Turned places l r after w vs gains losses) (more : 0 < w) (within : w ≤ max_watches) (radio : r ≤ max_radio) where
   abbrev next : ℕ
   next = w - 1
 
-  held : Holds ws next places (watch_at l next)
+  abbrev watch : Watch
+  watch = watch_at l next
+
+  held : get_or vs next no_watch ≡ watch_of places watch
   held = t.left next (omega arith) (omega arith)
 
-  -- the watches from w - 1 on
-  done_next : (inside : Bool) → inside ≡ is_member (watch_at l next) after → (v : ℕ) → next ≤ v → v < max_watches → Holds (with_member next r inside ws) v (put_at r after places) (watch_at l v)
-  done_next inside told v h k =
-      by_cases (eqb v next)
-      (λ e. rw (eqb-true v next e) (put_held ws next places (watch_at l next) held r radio after inside told sized (omega arith)))
-      (λ e. let n = eqb-false v next e in other_held ws next r inside v (put_at r after places) (watch_at l v) radio n (t.done v (omega arith) k))
-
   -- a watch that is brought up to date
-  Turned-next : (inside was : Bool) {xs : List ℕ} {gains' losses' : ℕ} → inside ≡ is_member (watch_at l next) after → was ≡ is_member (watch_at l next) (places r)
-      → xs ≡ with_member next r inside ws → gains' ≡ one_if (inside && not was) + 2 * gains → losses' ≡ one_if (was && not inside) + 2 * losses
-      → Turned places l r after next xs gains' losses'
-  Turned-next inside was told had e f g = record {
-    done = λ v h k. rw e (done_next inside told v h k);
-    left = λ v h k. rw e (other_held ws next r inside v places (watch_at l v) radio (λ z. absurd (omega arith)) (t.left v (omega arith) k));
-    gained_now = f ∙ ap₂ (λ (b : Bool) (n : ℕ). one_if b + 2 * n) (and_not told had) t.gained_now ∙ from_turn (gained_by l (places r) after) w more within;
-    lost_now = g ∙ ap₂ (λ (b : Bool) (n : ℕ). one_if b + 2 * n) (and_not had told) t.lost_now ∙ from_turn (gained_by l after (places r)) w more within;
-  }
+  pub Turned_turn : {is was : Bool} {x : DeskWatch} {gains' losses' : ℕ} → ((y : Watch) → area_in (get_or vs next no_watch) ≡ area_of y → is ≡ is_member y after)
+      → was ≡ member_in (get_or vs next no_watch) r → x ≡ with_member r is (get_or vs next no_watch)
+      → gains' ≡ one_if (is && not was) + 2 * gains → losses' ≡ one_if (was && not is) + 2 * losses
+      → Turned places l r after next (set vs next x) gains' losses'
+  Turned_turn {is = is} {x = x} a m e f g =
+      let inside = a watch (ap area_in held ∙ area_laid places watch) in
+      let had = m ∙ ap (λ (d : DeskWatch). member_in d r) held ∙ member_laid places watch r radio in
+      let put : x ≡ watch_of (put_at r after places) watch = e ∙ ap (with_member r is) held ∙ member_put places watch r radio after is inside in
+      let long = t.long in
+      record {
+        long = length-set vs next x ∙ t.long;
+        done = λ v h k. by_cases (eqb v next)
+            (λ z. rw (eqb-true v next z) (get_or-set_same vs next x no_watch (omega arith) ∙ put))
+            (λ z. let n = eqb-false v next z in get_or-set_other vs next v x no_watch n ∙ t.done v (omega arith) k);
+        left = λ v h k. get_or-set_other vs next v x no_watch (λ z. absurd (omega arith)) ∙ t.left v (omega arith) k;
+        gained_now = f ∙ ap₂ (λ (b : Bool) (n : ℕ). one_if b + 2 * n) (and_not inside had) t.gained_now ∙ from_turn (gained_by l (places r) after) w more within;
+        lost_now = g ∙ ap₂ (λ (b : Bool) (n : ℕ). one_if b + 2 * n) (and_not had inside) t.lost_now ∙ from_turn (gained_by l after (places r)) w more within;
+      }
 
-pub Turned_end : {places : ℕ → Option Place} {l : List Watch} {r w : ℕ} {after : Option Place} {ws : List ℕ} {gains losses : ℕ}
-    → Turned places l r after w ws gains losses → w ≡ 0 → length l ≡ max_watches → length ws ≡ watch_fields * max_watches
-    → AfterUpdate places l r after ws (record { gained = gains; lost = losses })
+pub Turned_end : {places : ℕ → Option Place} {l : List Watch} {r w : ℕ} {after : Option Place} {vs : List DeskWatch} {gains losses : ℕ}
+    → Turned places l r after w vs gains losses → w ≡ 0 → length l ≡ max_watches → AfterUpdate places l r after vs (record { gained = gains; lost = losses })
 unfolding gained
-Turned_end {places} {l} {r} {w} {after} {ws} t z n e = record {
-  words = watches_same (put_at r after places) l ws (omega arith) (λ v k h i. t.done v (omega arith) (omega arith) k i);
+Turned_end {places} {l} {r} {w} {after} {vs} t z n = record {
+  words = watches_same (put_at r after places) l vs (t.long ∙ sym n) (λ v h. t.done v (omega (arith, z)) (omega (arith, n)));
   gains = t.gained_now ∙ ap (bits_from (gained_by l (places r) after)) z ∙ from_start (gained_by l (places r) after);
   losses = t.lost_now ∙ ap (bits_from (gained_by l after (places r))) z ∙ from_start (gained_by l after (places r));
 }
-
--- ---- the same in the words of the contracts
-
-module _ {places : ℕ → Option Place} {l : List Watch} {r : ℕ} {w : ℕ} {ws : List ℕ} {gains losses : ℕ} (on : Bool) (p : Place)
-    (t : Turned places l r (cond on (some p) none) w ws gains losses) (more : 0 < w) (within : w ≤ max_watches) (radio : r ≤ max_radio) (sized : length ws ≡ watch_fields * max_watches) where
-  pub Turned_turn : {area : Rect} {covered was : Bool} {xs : List ℕ} {gains' losses' : ℕ} → area ≡ area_in ws (w - 1) → covered ≡ covers area p → was ≡ member_in ws (w - 1) r
-      → xs ≡ with_member (w - 1) r (on && covered) ws → gains' ≡ one_if ((on && covered) && not was) + 2 * gains → losses' ≡ one_if (was && not (on && covered)) + 2 * losses
-      → Turned places l r (cond on (some p) none) (w - 1) xs gains' losses'
-  Turned_turn {covered = covered} {was = was} a c m =
-      let watch = watch_at l (w - 1) in
-      let h = held t more within radio sized in
-      let inside = is_inside on watch p (c ∙ ap (λ (x : Rect). covers x p) (a ∙ area_held ws (w - 1) places watch h) ∙ covers_area watch p) in
-      Turned-next t more within radio sized (on && covered) was inside (m ∙ member_held ws (w - 1) places watch h r radio)

@@ -1,19 +1,19 @@
-// The watches in their array: the rectangle of each, and a bit for each radio.
+// The watches: the rectangle of each, and a bit for each radio.
 #![tactic(auto)]
 
-ghost use Rattle.std.specs.Prelude.{cond, List, ◌≡◌, ℕ, ◌+◌, ◌*◌, ◌/◌, ◌≤◌, ◌<◌, length};
-ghost use Rattle.std.proofs.Math.Option.{Option, none, some};
-ghost use Rattle.terms.specs.Terms.{Place, max_radio};
+ghost use Rattle.std.specs.Prelude.{List, ◌≡◌, ℕ, ◌+◌, ◌*◌, ◌≤◌, ◌<◌, length, Option, option_map};
+ghost use Rattle.terms.specs.Terms.{Place as RulesPlace, max_radio};
+ghost use Rattle.terms.specs.Values.{place_of};
 ghost use Rattle.lists.specs.Bits.{bits, bit};
-ghost use Rattle.lists.specs.Parts.{put};
 ghost use Rattle.lists.specs.Tests.{one_if, is_some};
 ghost use Rattle.rules.specs.Plain.{put_at};
-ghost use Rattle.rules.specs.Watches.{max_watches, Watch};
-ghost use Rattle.desk.specs.Layout.{area_fields, watch_fields, watches_of};
+ghost use Rattle.rules.specs.Watches.{max_watches, Watch as RulesWatch, is_member};
+ghost use Rattle.desk.specs.Layout.{area_of, watches_of};
 ghost use Rattle.desk.specs.Views.{area_in, watch_in, member_in, rect_of};
-ghost use Rattle.watches.specs.Watches.{area_words, with_member, AfterUpdate};
+ghost use Rattle.watches.specs.Watches.{with_area, with_member, AfterUpdate};
 
-use desk::{Desk, Rectangle};
+use desk::{Desk, Rectangle, Watch};
+use terms::Place;
 
 // How many bits a number of the array has.
 const WORD_BITS: u16 = 16;
@@ -21,6 +21,7 @@ const WORD_BITS: u16 = 16;
 // ---- a bit of a number
 
 // Whether bit i is set.
+#[tactic(auto, using(lists::proofs::BitsLaws::bit_is))]
 pub fn is_set(number: u16, i: u16) -> bool
     requires { i < 16 }
     ensures { result ≡ bit number i }
@@ -45,117 +46,101 @@ fn put_bit(number: u16, i: u16, set: bool) -> u16
 }
 
 // One bit more, below those that are there.
-fn with_bit(test: bool, higher: u16) -> u16
+pub fn with_bit(test: bool, higher: u16) -> u16
     requires { higher < 32768 }
     ensures { result ≡ one_if test + 2 * higher }
 {
-    if test { 1 + 2 * higher } else { 2 * higher }
+    2 * higher + u16::from(test)
 }
 
-// ---- a watch in the array
+// ---- a watch
 
 // The edges of a watch; those of one that is not set are 0, and take in nothing.
-pub fn area_at<'a>(watches: &'a [u16; Desk::WATCHES_WORDS], w: usize) -> Rectangle
-    requires { (w < max_watches) × (length watches.now ≡ watch_fields * max_watches) }
-    ensures { rect_of result ≡ area_in watches.now w }
+pub fn area_of(watch: &Watch) -> Rectangle
+    ensures { rect_of result ≡ area_in watch.now }
 {
-    let at = Desk::WATCH_FIELDS * w;
     Rectangle {
-        west: watches[at + 1],
-        east: watches[at + 2],
-        south: watches[at + 3],
-        north: watches[at + 4],
+        west: watch.west,
+        east: watch.east,
+        south: watch.south,
+        north: watch.north,
     }
 }
 
 // Whether the watch is set.
-pub fn is_watched<'a>(watches: &'a [u16; Desk::WATCHES_WORDS], w: usize) -> bool
-    requires { (w < max_watches) × (length watches.now ≡ watch_fields * max_watches) }
-    ensures { result ≡ is_some (watch_in watches.now w) }
+#[tactic(auto, using(crate::proofs::AreaLaws::mark_tells))]
+pub fn is_watched(watch: &Watch) -> bool
+    ensures { result ≡ is_some (watch_in watch.now) }
 {
-    watches[Desk::WATCH_FIELDS * w] != 0
+    watch.set != 0
 }
 
 // The watch is set, and has this rectangle; its members stay as they are.
-pub fn put_area<'a>(watches: &'a mut [u16; Desk::WATCHES_WORDS], w: usize, area: Rectangle)
-    requires { (w < max_watches) × (length watches.old ≡ watch_fields * max_watches) }
-    ensures { watches.new ≡ put watches.old (watch_fields * w) (area_words (rect_of area)) }
+pub fn put_area(watch: &mut Watch, area: Rectangle)
+    ensures { watch.new ≡ with_area (rect_of area) watch.old }
 {
-    let at = Desk::WATCH_FIELDS * w;
-    watches[at] = 1;
-    watches[at + 1] = area.west;
-    watches[at + 2] = area.east;
-    watches[at + 3] = area.south;
-    watches[at + 4] = area.north;
+    watch.set = 1;
+    watch.west = area.west;
+    watch.east = area.east;
+    watch.south = area.south;
+    watch.north = area.north;
 }
 
-// Where the number with a radio's bit stands.
-fn number_at(w: usize, radio: u16) -> usize
-    requires { (w < max_watches) × (radio ≤ max_radio) }
-    ensures { (result ≡ watch_fields * w + area_fields + radio / 16) × (result < watch_fields * max_watches) }
+// Whether the radio is a member of the watch.
+#[tactic(auto, unfolding(desk::specs::Views::member_in))]
+pub fn is_member(watch: &Watch, radio: u16) -> bool
+    requires { radio ≤ max_radio }
+    ensures { result ≡ member_in watch.now radio }
 {
-    Desk::WATCH_FIELDS * w + Desk::AREA_FIELDS + (radio / WORD_BITS) as usize
-}
-
-pub fn is_member<'a>(watches: &'a [u16; Desk::WATCHES_WORDS], w: usize, radio: u16) -> bool
-    requires { (w < max_watches) × (radio ≤ max_radio) × (length watches.now ≡ watch_fields * max_watches) }
-    ensures { result ≡ member_in watches.now w radio }
-{
-    let at = number_at(w, radio);
-    let number = watches[at];
-    is_set(number, radio % WORD_BITS)
+    is_set(
+        watch.members[(radio / WORD_BITS) as usize],
+        radio % WORD_BITS,
+    )
 }
 
 // The radio is a member of the watch, or is none.
-pub fn put_member<'a>(
-    watches: &'a mut [u16; Desk::WATCHES_WORDS],
-    w: usize,
-    radio: u16,
-    member: bool,
-)
-    requires { (w < max_watches) × (radio ≤ max_radio) × (length watches.old ≡ watch_fields * max_watches) }
-    ensures { watches.new ≡ with_member w radio member watches.old }
+#[tactic(auto, unfolding(crate::specs::Watches::with_member))]
+pub fn put_member(watch: &mut Watch, radio: u16, member: bool)
+    requires { radio ≤ max_radio }
+    ensures { watch.new ≡ with_member radio member watch.old }
 {
-    let at = number_at(w, radio);
-    let before = watches[at];
-    let after = put_bit(before, radio % WORD_BITS, member);
-    if after != before {
-        watches[at] = after;
-    }
+    let number = &mut watch.members[(radio / WORD_BITS) as usize];
+    *number = put_bit(*number, radio % WORD_BITS, member);
 }
 
 // ---- a record's radio
 
 // The watches that gained, and that lost, a radio.
-#[derive(Drop)]
+#[derive(Clone, Copy, Debug, PartialEq, Eq)]
 pub struct Moved {
     pub gained: u16,
     pub lost: u16,
 }
 
-// "every accepted sign-on, report or sign-off brings them up to date": the radio has this place, or none where it is on no longer.
-pub fn update<'a>(
-    watches: &'a mut [u16; Desk::WATCHES_WORDS],
-    radio: u16,
-    on: bool,
-    east: u16,
-    north: u16,
-) -> Moved
-    requires { (radio ≤ max_radio) × (length watches.old ≡ watch_fields * max_watches) }
-    ensures { (places : ℕ → Option Place) (l : List Watch) → length l ≡ max_watches → watches.old ≡ watches_of places l
-        → AfterUpdate places l radio (cond on (some (record { east = east; north = north })) none) watches.new result }
+// Whether the watch takes in a place; none takes in a radio that has none.
+fn takes_in(watch: &Watch, place: Option<Place>) -> bool
+    ensures { (x : RulesWatch) → area_in watch.now ≡ area_of x → result ≡ is_member x (option_map place_of place) }
 {
-    let mut gained: u16 = 0;
-    let mut lost: u16 = 0;
-    let mut w: usize = Desk::MAX_WATCHES;
-    while 0 < w {
-        w -= 1;
-        let area = area_at(watches, w);
-        let inside = on & rectangles::is_covered(area, east, north);
-        let was = is_member(watches, w, radio);
-        put_member(watches, w, radio, inside);
-        gained = with_bit(inside & !was, gained);
-        lost = with_bit(was & !inside, lost);
+    match place {
+        Some(place) => rectangles::is_covered(area_of(watch), place.east, place.north),
+        None => false,
+    }
+}
+
+// "every accepted sign-on, report or sign-off brings them up to date": the radio has this place, or none where it is on no longer.
+pub fn update(watches: &mut [Watch; Desk::MAX_WATCHES], radio: u16, place: Option<Place>) -> Moved
+    requires { radio ≤ max_radio }
+    ensures { (places : ℕ → Option RulesPlace) (l : List RulesWatch) → length l ≡ max_watches → watches.old ≡ watches_of places l
+        → AfterUpdate places l radio (option_map place_of place) watches.new result }
+{
+    let mut gained = 0;
+    let mut lost = 0;
+    for w in (0..Desk::MAX_WATCHES).rev() {
+        let was = is_member(&watches[w], radio);
+        let is = takes_in(&watches[w], place);
+        put_member(&mut watches[w], radio, is);
+        gained = with_bit(is & !was, gained);
+        lost = with_bit(was & !is, lost);
     }
     Moved { gained, lost }
 }

@@ -1,183 +1,109 @@
-// Setting and clearing a watch on a store in any condition: the calls that aren't records. The desk comes in its parts, with its arrays lent; the watches alone
-// are altered, and the pages are only read.
+// Setting and clearing a watch on a store in any condition: the calls that aren't records. The watches alone are altered, and the pages are only read.
 #![tactic(auto)]
 
-ghost use Rattle.std.specs.Prelude.{List, [], ◌≡◌, ℕ, ◌*◌, ◌<◌, length, replicate};
-ghost use Rattle.lists.specs.Parts.{put};
-ghost use Rattle.rules.specs.Watches.{max_watches};
+ghost use Rattle.std.specs.Prelude.{List, [], ◌≡◌, ℕ};
+ghost use Rattle.std.specs.Result.{IfOk, IfErr};
+ghost use Rattle.terms.specs.Refusals.{number_of};
 ghost use Rattle.rules.specs.Calls.{sets, clears, set_refusal, clear_refusal};
-ghost use Rattle.desk.specs.declared.Parts.{Parts};
 ghost use Rattle.desk.specs.Call.{handed, left, CarriedOut, Answers};
-ghost use Rattle.desk.specs.Held.{desk_with};
-ghost use Rattle.desk.specs.Layout.{watch_fields};
-ghost use Rattle.desk.specs.Sizes.{DeskArrays};
 ghost use Rattle.desk.specs.Sound.{Sound};
 ghost use Rattle.desk.specs.Views.{rect_of, watches_in};
-ghost use Rattle.watching.specs.Watching.{sets_within};
+ghost use Rattle.watching.specs.Watching.{Passes};
 
-use desk::{Answer, Desk, Parts, Rectangle};
+use desk::{Answer, Desk, Rectangle, Watch};
 use page::BUFFER_BYTES;
-
-// 1: "The page buffer isn't 25,600 bytes.", which Job 3 makes 41,984
-const WRONG_SIZE: u16 = 1;
-
-// 2: "The store isn't sound."
-const UNSOUND: u16 = 2;
+use terms::Refusal;
 
 // ---- setting
 
-// 14: "a watch number above 15", "with number 7 following for the rectangle".
-fn set_refusal(watch: u16, area: Rectangle) -> u16
-    ensures { result ≡ set_refusal watch (rect_of area) }
+// Which watch is set: not "a watch number above 15", "with number 7 following for the rectangle".
+#[tactic(auto, using(crate::proofs::WatchingLaws::above_fifteen, crate::proofs::WatchingLaws::set_reversed, crate::proofs::WatchingLaws::set_passes))]
+fn settable(watch: u16, area: Rectangle) -> Result<usize, Refusal>
+    ensures passed { IfOk result (Passes watch (set_refusal watch (rect_of area))) }
+    ensures refused { IfErr result (λ refusal. number_of refusal ≡ set_refusal watch (rect_of area)) }
 {
-    if Desk::MAX_WATCHES <= watch as usize {
-        return 14;
+    let w = watch as usize;
+    if Desk::MAX_WATCHES <= w {
+        return Err(Refusal::NoWatch);
     }
     if rectangles::is_reversed(area) {
-        return 7;
+        return Err(Refusal::Reversed);
     }
-    0
+    Ok(w)
 }
 
 // On a sound store. The watch has this rectangle and the members that it must have: "setting again meaning replaced".
-fn set_sound<'a>(
-    parts: Parts,
-    cells: &'a [u16; Desk::CELL_WORDS],
-    waiting: &'a [u16; Desk::WAITING_WORDS],
-    memo: &'a [u16; Desk::MEMO_WORDS],
-    on: &'a [u16; Desk::MAX_ON],
-    watches: &'a mut [u16; Desk::WATCHES_WORDS],
-    pages: &'a [u8],
-    watch: u16,
-    area: Rectangle,
-) -> Answer
-    requires { DeskArrays cells.now waiting.now memo.now on.now watches.old
-        × Sound (desk_with parts cells.now waiting.now memo.now on.now watches.old) pages.now }
-    ensures { (s : Sound (desk_with parts cells.now waiting.now memo.now on.now watches.old)
-        pages.now)
-        → CarriedOut
-        (handed (desk_with parts cells.now waiting.now memo.now on.now watches.old) pages.now
-        (sets watch (rect_of area)) [])
-        s
-        (left result (desk_with parts cells.now waiting.now memo.now on.now watches.new) pages.now
-        []) }
+fn set_sound(desk: &mut Desk, pages: &[u8], watch: u16, area: Rectangle) -> Answer
+    requires { Sound desk.old pages.now }
+    ensures { (s : Sound desk.old pages.now)
+        → CarriedOut (handed desk.old pages.now (sets watch (rect_of area)) []) s (left result desk.new pages.now []) }
 {
-    let number = set_refusal(watch, area);
-    if number != 0 {
-        return desk::numbered(number);
-    }
-    watches::put_area(watches, watch as usize, area);
-    let mut laid = [0u16; Desk::WATCHES_WORDS];
-    watch_members::lay_out(pages, parts, cells, waiting, memo, on, watches, &mut laid);
-    lists::copy(&laid, watches);
+    let w = match settable(watch, area) {
+        Ok(w) => w,
+        Err(refusal) => return Answer::refused(refusal),
+    };
+    watches::put_area(&mut desk.watches[w], area);
+    let mut laid = [Watch::UNSET; Desk::MAX_WATCHES];
+    watch_members::lay_out(desk, pages, &mut laid);
+    desk.watches = laid;
     desk::numbered(0)
 }
 
 // A watch is set, or the call is turned down with every byte kept.
-pub fn set_lent<'a>(
-    parts: Parts,
-    cells: &'a [u16; Desk::CELL_WORDS],
-    waiting: &'a [u16; Desk::WAITING_WORDS],
-    memo: &'a [u16; Desk::MEMO_WORDS],
-    on: &'a [u16; Desk::MAX_ON],
-    watches: &'a mut [u16; Desk::WATCHES_WORDS],
-    pages: &'a [u8],
-    watch: u16,
-    west: u16,
-    east: u16,
-    south: u16,
-    north: u16,
-) -> Answer
-    requires { DeskArrays cells.now waiting.now memo.now on.now watches.old }
+pub fn set(desk: &mut Desk, pages: &[u8], watch: u16, area: Rectangle) -> Answer
     ensures { Answers
-        (handed (desk_with parts cells.now waiting.now memo.now on.now watches.old) pages.now
-        (sets_within watch west east south north) [])
-        (left result (desk_with parts cells.now waiting.now memo.now on.now watches.new) pages.now
-        []) }
+        (handed desk.old pages.now (sets watch (rect_of area)) [])
+        (left result desk.new pages.now []) }
 {
     if pages.len() != BUFFER_BYTES {
-        return desk::numbered(WRONG_SIZE);
+        return Answer::refused(Refusal::WrongSize);
     }
-    if !sound::parts_sound(parts, cells, waiting, memo, on, watches, pages) {
-        return desk::numbered(UNSOUND);
+    if !sound::sound(desk, pages) {
+        return Answer::refused(Refusal::Unsound);
     }
-    let area = Rectangle {
-        west,
-        east,
-        south,
-        north,
-    };
-    set_sound(parts, cells, waiting, memo, on, watches, pages, watch, area)
+    set_sound(desk, pages, watch, area)
 }
 
 // ---- clearing
 
-// All of the watch is zero.
-fn blank<'a>(watches: &'a mut [u16; Desk::WATCHES_WORDS], w: usize)
-    requires { (w < max_watches) × (length watches.old ≡ watch_fields * max_watches) }
-    ensures { watches.new ≡ put watches.old (watch_fields * w) (replicate watch_fields 0) }
-{
-    let at = Desk::WATCH_FIELDS * w;
-    let mut i: usize = 0;
-    while i < Desk::WATCH_FIELDS {
-        watches[at + i] = 0;
-        i += 1;
-    }
-}
-
-// 14: "a watch number above 15, or clearing one not set".
-fn clear_refusal<'a>(watches: &'a [u16; Desk::WATCHES_WORDS], watch: u16) -> u16
-    requires { length watches.now ≡ watch_fields * max_watches }
-    ensures { result ≡ clear_refusal watch (watches_in watches.now) }
+// Which watch is cleared: not "a watch number above 15, or clearing one not set".
+#[tactic(auto, using(crate::proofs::WatchingLaws::clear_above, crate::proofs::WatchingLaws::clear_passes, crate::proofs::WatchingLaws::clear_unset))]
+fn clearable(watches: &[Watch; Desk::MAX_WATCHES], watch: u16) -> Result<usize, Refusal>
+    ensures passed { IfOk result (Passes watch (clear_refusal watch (watches_in watches.now))) }
+    ensures refused { IfErr result (λ refusal. number_of refusal ≡ clear_refusal watch (watches_in watches.now)) }
 {
     let w = watch as usize;
-    if Desk::MAX_WATCHES <= w {
-        return 14;
+    if w < Desk::MAX_WATCHES && watches::is_watched(&watches[w]) {
+        Ok(w)
+    } else {
+        Err(Refusal::NoWatch)
     }
-    if watches::is_watched(watches, w) {
-        return 0;
-    }
-    14
 }
 
 // On a sound store, of which the watches alone are looked at.
-fn clear_sound<'a>(watches: &'a mut [u16; Desk::WATCHES_WORDS], watch: u16) -> Answer
-    requires { length watches.old ≡ watch_fields * max_watches }
-    ensures { (parts : Parts) (cs ws ms os b : List ℕ) (s : Sound (desk_with parts cs ws ms os watches.old) b)
-        → CarriedOut (handed (desk_with parts cs ws ms os watches.old) b (clears watch) []) s
-        (left result (desk_with parts cs ws ms os watches.new) b []) }
+fn clear_sound(desk: &mut Desk, watch: u16) -> Answer
+    ensures { (b : List ℕ) (s : Sound desk.old b)
+        → CarriedOut (handed desk.old b (clears watch) []) s (left result desk.new b []) }
 {
-    let number = clear_refusal(watches, watch);
-    if number != 0 {
-        return desk::numbered(number);
-    }
-    blank(watches, watch as usize);
+    let w = match clearable(&desk.watches, watch) {
+        Ok(w) => w,
+        Err(refusal) => return Answer::refused(refusal),
+    };
+    desk.watches[w] = Watch::UNSET;
     desk::numbered(0)
 }
 
 // A watch is cleared, or the call is turned down with every byte kept.
-pub fn clear_lent<'a>(
-    parts: Parts,
-    cells: &'a [u16; Desk::CELL_WORDS],
-    waiting: &'a [u16; Desk::WAITING_WORDS],
-    memo: &'a [u16; Desk::MEMO_WORDS],
-    on: &'a [u16; Desk::MAX_ON],
-    watches: &'a mut [u16; Desk::WATCHES_WORDS],
-    pages: &'a [u8],
-    watch: u16,
-) -> Answer
-    requires { DeskArrays cells.now waiting.now memo.now on.now watches.old }
+pub fn clear(desk: &mut Desk, pages: &[u8], watch: u16) -> Answer
     ensures { Answers
-        (handed (desk_with parts cells.now waiting.now memo.now on.now watches.old) pages.now
-        (clears watch) [])
-        (left result (desk_with parts cells.now waiting.now memo.now on.now watches.new) pages.now
-        []) }
+        (handed desk.old pages.now (clears watch) [])
+        (left result desk.new pages.now []) }
 {
     if pages.len() != BUFFER_BYTES {
-        return desk::numbered(WRONG_SIZE);
+        return Answer::refused(Refusal::WrongSize);
     }
-    if !sound::parts_sound(parts, cells, waiting, memo, on, watches, pages) {
-        return desk::numbered(UNSOUND);
+    if !sound::sound(desk, pages) {
+        return Answer::refused(Refusal::Unsound);
     }
-    clear_sound(watches, watch)
+    clear_sound(desk, watch)
 }

@@ -1,10 +1,6 @@
-use Prim.Native.Nat.{◌-◌, ◌≤◌}
 use Rattle.box_due.proofs.DueLaws.{InRow}
 use Rattle.box_due.proofs.fullest_in_row.Given as goal
 
 -- The fullest of the leader and the first `east` of the row.
 abbrev pub invariant-loop-east : goal.invariant-loop-east
-invariant-loop-east l = (l.east ≤ l.columns) × InRow l.crowd l.initial.most l.north l.east l.most
-
-abbrev pub decreases-loop-east : goal.decreases-loop-east
-decreases-loop-east l = l.columns - l.east
+invariant-loop-east l = InRow l.crowd l.initial.most l.north l.east l.most

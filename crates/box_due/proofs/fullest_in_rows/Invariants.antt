@@ -1,10 +1,6 @@
-use Prim.Native.Nat.{◌-◌, ◌≤◌}
 use Rattle.box_due.proofs.DueLaws.{InRows}
 use Rattle.box_due.proofs.fullest_in_rows.Given as goal
 
 -- The fullest of the first `north` rows, from the south-west corner on.
 abbrev pub invariant-loop-north : goal.invariant-loop-north
-invariant-loop-north l = (l.north ≤ l.rows) × InRows l.crowd l.columns l.north l.most
-
-abbrev pub decreases-loop-north : goal.decreases-loop-north
-decreases-loop-north l = l.rows - l.north
+invariant-loop-north l = InRows l.crowd l.columns l.north l.most

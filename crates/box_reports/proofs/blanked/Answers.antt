@@ -4,10 +4,10 @@ use borrow.Author.Rules.{rules}
 use Rattle.box_reports.proofs.blanked.Goals as goal
 
 pub loop-i-init : goal.loop-i-init
-loop-i-init c = (search rules, search rules, search rules, put_none _ _ _)
+loop-i-init c = put_none _ _ _
 
 pub loop-i-preserved : goal.loop-i-preserved
-loop-i-preserved c = (search rules, search rules, search rules, search blank_turn)
+loop-i-preserved c = search blank_turn
 
 pub returns : goal.returns
-returns c = (search blank_end, search rules)
+returns c = blank_end _ _ c.loop-i.invariant (c.loop-i.auto.i-end c.requires.0) (search rules)

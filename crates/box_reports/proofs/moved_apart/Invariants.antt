@@ -1,8 +1,4 @@
-use mathlib.Core.Path.{◌≡◌}
-use Prim.Native.Nat.{◌-◌, ◌*◌, ◌≤◌}
-use lib.ListN.{length}
-use Rattle.rules.specs.Limits.{full_memory}
-use Rattle.desk.specs.Layout.{report_fields}
+use Prim.Native.Nat.{◌≤◌}
 use Rattle.desk.specs.Views.{every_report}
 use Rattle.boxes.specs.Boxes.{box_in}
 use Rattle.box_reports.proofs.PartingLaws.{PartingAt}
@@ -10,8 +6,4 @@ use Rattle.box_reports.proofs.moved_apart.Given as goal
 
 -- Of the first i reports those of m have gone, and the others have moved up (`PartingAt`).
 abbrev pub invariant-loop-i : goal.invariant-loop-i
-invariant-loop-i l = (l.gone ≤ l.i) × (l.i ≤ l.n) × (length l.waiting ≡ report_fields * full_memory) × (length l.taken ≡ report_fields * full_memory)
-    × PartingAt (box_in l.m) l.at (every_report l.initial.waiting) l.i l.gone (every_report l.waiting) (every_report l.taken)
-
-abbrev pub decreases-loop-i : goal.decreases-loop-i
-decreases-loop-i l = l.n - l.i
+invariant-loop-i l = (l.gone ≤ l.i) × PartingAt (box_in l.m) l.at (every_report l.initial.waiting) l.i l.gone (every_report l.waiting) (every_report l.taken)

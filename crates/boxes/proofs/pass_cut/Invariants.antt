@@ -1,11 +1,6 @@
-use Prim.Native.Nat.{◌-◌, ◌≤◌}
-use Rattle.rules.specs.Limits.{full_memory}
 use Rattle.boxes.specs.Boxes.{Passing}
 use Rattle.boxes.proofs.pass_cut.Given as goal
 
 -- The first i stripes are those by one cut more (`Passing`).
 abbrev pub invariant-loop-i : goal.invariant-loop-i
-invariant-loop-i l = (l.i ≤ full_memory) × Passing l.cut l.waiting l.column l.initial.stripes l.i l.stripes
-
-abbrev pub decreases-loop-i : goal.decreases-loop-i
-decreases-loop-i l = full_memory - l.i
+invariant-loop-i l = Passing l.cut l.waiting l.column l.initial.stripes l.i l.stripes

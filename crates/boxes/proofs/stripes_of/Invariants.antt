@@ -1,10 +1,6 @@
-use Prim.Native.Nat.{◌-◌, ◌≤◌}
 use Rattle.boxes.proofs.StripesLaws.{StripedBy}
 use Rattle.boxes.proofs.stripes_of.Given as goal
 
--- The stripes by the first i cuts (`StripedBy`).
-abbrev pub invariant-loop-i : goal.invariant-loop-i
-invariant-loop-i l = (l.i ≤ l.n) × StripedBy l.cuts l.waiting l.column l.i l.stripes
-
-abbrev pub decreases-loop-i : goal.decreases-loop-i
-decreases-loop-i l = l.n - l.i
+-- The stripes by the cuts so far (`StripedBy`).
+abbrev pub invariant-loop-cut : goal.invariant-loop-cut
+invariant-loop-cut l = StripedBy l.fn.cuts l.waiting l.column l.cut-index l.stripes

@@ -1,9 +1,7 @@
-use Rattle.cell_last.proofs.MovedLaws.{loose_reads, loose_takes, settles_out}
+use mathlib.Core.Path.{refl}
 use borrow.Author.Rules.{rules}
+use Rattle.cell_last.proofs.MovedLaws.{loose_takes, settles_out}
 use Rattle.cell_last.proofs.settled_last.Goals as goal
-
-pub slot_at-d-requires : goal.slot_at-d-requires
-slot_at-d-requires c = search loose_reads
 
 pub take_out-requires : goal.take_out-requires
 take_out-requires c = search loose_takes
@@ -12,5 +10,4 @@ pub hand_last-requires : goal.hand_last-requires
 hand_last-requires c = (search rules, search settles_out)
 
 pub returns : goal.returns
-returns c = λ x.
-    c.hand_last.ensures (settles_out x c.slot_at-d.ensures c.take_out.ensures)
+returns c = λ x. c.hand_last.ensures (settles_out x refl c.take_out.ensures)

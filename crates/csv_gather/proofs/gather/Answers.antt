@@ -1,15 +1,14 @@
-use borrow.Author.Rules.{rules}
 use Rattle.csv_gather.proofs.GatherLaws.{no_header, start_within, start_late, header_lines}
 use Rattle.csv_gather.proofs.gather.Goals as goal
 
--- src/lib.rt:54:9
-pub returns-in_default : goal.returns-in_default
-returns-in_default c = search no_header
-
--- src/lib.rt:56:5
 pub gather_lines-requires : goal.gather_lines-requires
-gather_lines-requires c = (search start_late, search start_within, search rules)
+gather_lines-requires c = (start_late _ c.in-Some.ensures, start_within _ c.in-Some.ensures)
 
--- src/lib.rt:49:1
-pub returns : goal.returns
-returns c = search header_lines
+pub returns-in_default-clause-err : goal.returns-in_default-clause-err
+returns-in_default-clause-err c = no_header _ c.in_default.ensures
+
+pub returns-clause-ok : goal.returns-clause-ok
+returns-clause-ok c = rw (header_lines _ c.in-Some.ensures) c.gather_lines.ensures.ok
+
+pub returns-clause-err : goal.returns-clause-err
+returns-clause-err c = rw (header_lines _ c.in-Some.ensures) c.gather_lines.ensures.err

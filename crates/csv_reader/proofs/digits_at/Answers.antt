@@ -1,19 +1,13 @@
-use mathlib.Core.Path.{refl}
+use native.Mathlib.Omega.{arith}
 use borrow.Author.Rules.{rules}
-use Rattle.csv_reader.proofs.NumberLaws.{digit_above, digits_end, digits_stop, digits_turn}
+use Rattle.csv_reader.proofs.NumberLaws.{digits_end, digits_stop, digits_turn}
 use Rattle.csv_reader.proofs.digits_at.Goals as goal
 
-pub loop-at-init : goal.loop-at-init
-loop-at-init c = (search rules, search rules, refl)
+pub returns-then-not-is_ascii_digit : goal.returns-then-not-is_ascii_digit
+returns-then-not-is_ascii_digit c = search (digits_stop, c.is_ascii_digit.ensures.value)
 
-pub with_digit-value-requires : goal.with_digit-value-requires
-with_digit-value-requires c = (search rules, search digit_above)
-
-pub loop-at-preserved : goal.loop-at-preserved
-loop-at-preserved c = (search rules, search rules, search digits_turn)
-
-pub returns-else-is_digit : goal.returns-else-is_digit
-returns-else-is_digit c = search digits_stop
+pub loop-i-preserved : goal.loop-i-preserved
+loop-i-preserved c = (search rules, search (digits_turn, c.is_ascii_digit.ensures.value))
 
 pub returns : goal.returns
-returns c = search digits_end
+returns c = let l = c.loop-i.invariant in digits_end c.args.file.now c.args.from c.loop-i.number c.loop-i.i l.1 l.0 (search rules) (omega arith)

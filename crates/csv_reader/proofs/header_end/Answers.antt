@@ -1,29 +1,30 @@
-use Rattle.csv_reader.proofs.EndLaws.{left_inside, header_none, header_none₂, header_none₃, header_none₄, header_there}
+use Rattle.csv_grammar.specs.Csv.{radio_name, east_name, north_name, after_header}
+use Rattle.csv_reader.proofs.EndLaws.{then_none, then_some, column_none, column_some}
 use Rattle.csv_reader.proofs.header_end.Goals as goal
 
-pub returns-in_default : goal.returns-in_default
-returns-in_default c = search header_none
+pub returns-in_err-east : goal.returns-in_err-east
+unfolding after_header
+returns-in_err-east c = rw c.from_residual.ensures (column_none radio_name _ c.in_err-east.ensures)
 
-pub column_end-requires-2 : goal.column_end-requires-2
-column_end-requires-2 c = search left_inside
+pub returns-in_err-north : goal.returns-in_err-north
+unfolding after_header
+returns-in_err-north c = rw c.from_residual-in_err-north.ensures (column_some radio_name _ c.in_ok-east.ensures (column_none east_name _ c.in_err-north.ensures))
 
-pub returns-in_default-column_end : goal.returns-in_default-column_end
-returns-in_default-column_end c = search header_none₂
+pub returns-in_err-minute : goal.returns-in_err-minute
+unfolding after_header
+returns-in_err-minute c =
+    rw c.from_residual-in_err-minute.ensures
+    (column_some radio_name _ c.in_ok-east.ensures (column_some east_name _ c.in_ok-north.ensures (column_none north_name _ c.in_err-minute.ensures)))
 
-pub column_end-requires-3 : goal.column_end-requires-3
-column_end-requires-3 c = search left_inside
-
-pub returns-in_default-column_end-2 : goal.returns-in_default-column_end-2
-returns-in_default-column_end-2 c = search header_none₃
-
-pub name_end-requires : goal.name_end-requires
-name_end-requires c = search left_inside
-
-pub returns-in_default-name_end : goal.returns-in_default-name_end
-returns-in_default-name_end c = search header_none₄
-
-pub line_end-requires : goal.line_end-requires
-line_end-requires c = left_inside c.name_end.ensures c.in-At-name_end.is
+pub returns-in_err-end : goal.returns-in_err-end
+unfolding after_header
+returns-in_err-end c =
+    rw c.from_residual-in_err-end.ensures
+    (column_some radio_name _ c.in_ok-east.ensures
+    (column_some east_name _ c.in_ok-north.ensures (column_some north_name _ c.in_ok-minute.ensures (then_none _ c.in_err-end.ensures))))
 
 pub returns : goal.returns
-returns c = search header_there
+unfolding after_header
+returns c =
+    column_some radio_name _ c.in_ok-east.ensures
+    (column_some east_name _ c.in_ok-north.ensures (column_some north_name _ c.in_ok-minute.ensures (then_some _ c.in_ok-end.ensures c.line_end.ensures)))

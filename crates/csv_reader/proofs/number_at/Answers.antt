@@ -1,8 +1,8 @@
-use Rattle.csv_reader.proofs.NumberLaws.{number_plain, number_quoted}
+use borrow.Author.Rules.{rules}
+use Rattle.csv_grammar.specs.Csv.{plain_number, quoted_number, number}
+use Rattle.csv_reader.proofs.NumberLaws.{valued_or_else}
 use Rattle.csv_reader.proofs.number_at.Goals as goal
 
-pub returns-in_default : goal.returns-in_default
-returns-in_default c = search number_quoted
-
 pub returns : goal.returns
-returns c = search number_plain
+unfolding number
+returns c = valued_or_else (plain_number _) (quoted_number _) c.plain_number.result c.plain_number.ensures c.or_else.ensures (search rules)

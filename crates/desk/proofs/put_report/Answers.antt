@@ -1,7 +1,5 @@
-use lib.ListN.{length-set}
-use borrow.Author.Rules.{rules}
 use Rattle.desk.proofs.ReportsLaws.{report_written}
 use Rattle.desk.proofs.put_report.Goals as goal
 
 pub returns : goal.returns
-returns c = (search report_written, simp length-set (search rules))
+returns c = search report_written

@@ -1,9 +1,5 @@
-use Rattle.directory.proofs.CellLaws.{whole_size, push_directory}
-use borrow.Author.Rules.{rules}
+use Rattle.directory.proofs.CellLaws.{push_directory}
 use Rattle.directory.proofs.put_last.Goals as goal
 
-pub put_slot-requires : goal.put_slot-requires
-put_slot-requires c = (search rules, whole_size c.requires.0 (search rules))
-
 pub returns : goal.returns
-returns c = search push_directory
+returns c = push_directory c.requires.0 c.args.slot c.requires.1

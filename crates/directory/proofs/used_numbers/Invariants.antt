@@ -1,10 +1,8 @@
-use Prim.Native.Nat.{◌-◌, ◌≤◌}
-use Rattle.directory.proofs.NumberLaws.{Marked}
+use mathlib.Core.Path.{◌≡◌}
+use lib.ListN.{take}
+use Rattle.directory.specs.Directory.{used_numbers}
 use Rattle.directory.proofs.used_numbers.Given as goal
 
--- The numbers of the first i cells are marked (`Marked`).
-abbrev pub invariant-loop-i : goal.invariant-loop-i
-invariant-loop-i l = (l.i ≤ l.count) × Marked l.n l.cells l.i l.used
-
-abbrev pub decreases-loop-i : goal.decreases-loop-i
-decreases-loop-i l = l.count - l.i
+-- The numbers of the cells so far are marked.
+abbrev pub invariant-loop-cell : goal.invariant-loop-cell
+invariant-loop-cell l = l.used ≡ used_numbers (take l.cell-index l.cells)

@@ -1,12 +1,15 @@
-use Rattle.effects.proofs.EffectLaws.{flushed_tallies, flush_returns}
+use mathlib.Core.Path.{ap}
+use Rattle.desk.specs.declared.Desk.{Desk}
+use Rattle.desk.specs.Held.{desk_ledger}
+use Rattle.effects.proofs.EffectLaws.{flush_follows, flush_done}
 use Rattle.effects.proofs.followed.Goals as goal
 
-pub after_report-after-requires : goal.after_report-after-requires
-after_report-after-requires c = c.requires.before
+pub after_report-requires : goal.after_report-requires
+after_report-requires c = c.requires.before
 
 pub ticked-requires : goal.ticked-requires
-ticked-requires c = flushed_tallies c.requires c.after_report-after.ensures
+ticked-requires c = flush_follows c.requires c.after_report.ensures.laid (ap (λ (d : Desk). desk_ledger d) c.after_report.ensures.kept)
 
-pub returns : goal.returns
-returns c = λ x.
-    flush_returns x c.after_report-after.ensures c.ticked.ensures
+pub returns-clause-laid : goal.returns-clause-laid
+returns-clause-laid c = λ x.
+    flush_done x c.after_report.ensures.laid (ap (λ (d : Desk). desk_ledger d) c.after_report.ensures.kept) c.ticked.ensures.laid

@@ -1,16 +1,20 @@
-use native.Mathlib.Omega.{arith}
 use borrow.Author.Rules.{rules}
-use Rattle.enter.proofs.EnterLaws.{table_fits, memo_fits, missing_fits, still_missing, adds}
+use Rattle.enter.proofs.EnterLaws.{memo_ready, memo_roomy, missing_fits, adds_raised, adds_placed}
 use Rattle.enter.proofs.added.Goals as goal
 
-pub inserted-requires : goal.inserted-requires
-inserted-requires c = (search missing_fits, search rules, search rules, search still_missing)
+pub insert-requires : goal.insert-requires
+insert-requires c = record { rising = c.requires.0.room.rows_rise; room = search missing_fits }
 
-pub overflow_add-result : goal.overflow_add-result
-overflow_add-result c = omega (arith, table_fits _ _ _ _ c.requires.0)
+pub raised-requires : goal.raised-requires
+raised-requires c = search memo_roomy
 
-pub memo_added-requires : goal.memo_added-requires
-memo_added-requires c = ((search rules, search memo_fits, search rules), search rules)
+pub placed-requires : goal.placed-requires
+placed-requires c = search memo_ready
+
+pub returns-then-report-eq0 : goal.returns-then-report-eq0
+returns-then-report-eq0 c =
+    adds_raised _ _ _ c.args.report c.requires.0 c.requires.1 c.entry_of.ensures c.insert.ensures.rows (search rules) (rw c.place_of-place.ensures at c.raised.ensures)
 
 pub returns : goal.returns
-returns c = search adds
+returns c =
+    adds_placed _ _ _ c.args.report c.requires.0 c.requires.1 c.entry_of.ensures c.insert.ensures.rows (search rules) (rw c.place_of-place.ensures at c.placed.ensures)

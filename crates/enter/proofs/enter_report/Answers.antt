@@ -1,13 +1,8 @@
-use borrow.Author.Rules.{rules}
-use Rattle.entries.proofs.TableLaws.{means_found, means_missing}
-use Rattle.enter.proofs.EnterLaws.{table_fits}
+use Rattle.enter.proofs.EnterLaws.{memo_ready, moves}
 use Rattle.enter.proofs.enter_report.Goals as goal
 
-pub look_up-requires : goal.look_up-requires
-look_up-requires c = (search table_fits, search rules, search rules)
+pub placed-requires : goal.placed-requires
+placed-requires c = search memo_ready
 
-pub added-requires : goal.added-requires
-added-requires c = (search rules, search means_missing)
-
-pub moved-requires : goal.moved-requires
-moved-requires c = (search rules, search means_found)
+pub returns : goal.returns
+returns c = moves _ _ _ c.args.report c.requires c.in-Ok.ensures.found c.entry_of.ensures c.replace.ensures (rw c.place_of-place.ensures at c.placed.ensures)

@@ -1,12 +1,11 @@
 use Rattle.flush.proofs.FlushLaws.{home_place, Entered_asks, Entered_gives}
-use borrow.Author.Rules.{rules}
 use Rattle.flush.proofs.entered.Goals as goal
 
-pub swept_at-d-requires : goal.swept_at-d-requires
-swept_at-d-requires c = (search home_place, search rules)
+pub swept_at-chain-requires : goal.swept_at-chain-requires
+swept_at-chain-requires c = search home_place
 
-pub enter_all-done-requires : goal.enter_all-done-requires
-enter_all-done-requires c = Entered_asks c.args.m c.requires.0 _ _ _ c.swept_at-d.ensures
+pub enter_all-lines-requires : goal.enter_all-lines-requires
+enter_all-lines-requires c = Entered_asks c.args.m c.requires _ _ _ c.swept_at-chain.ensures.at_hand
 
-pub returns : goal.returns
-returns c = λ x. Entered_gives c.args.m x _ _ _ c.swept_at-d.ensures c.enter_all-done.result c.enter_all-done.ensures
+pub returns-clause-at_hand : goal.returns-clause-at_hand
+returns-clause-at_hand c = λ x. Entered_gives c.args.m x _ _ _ c.swept_at-chain.ensures.at_hand _ c.enter_all-lines.ensures

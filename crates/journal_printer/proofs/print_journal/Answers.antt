@@ -5,17 +5,14 @@ use Rattle.journal_printer.proofs.print_journal.Goals as goal
 pub loop-i-init : goal.loop-i-init
 loop-i-init g c = record { inside = search rules; going = going_first _ _ c.requires.0 c.requires.1 }
 
-pub turn-requires-clause-store : goal.turn-requires-clause-store
-turn-requires-clause-store g c = (c.loop-i.invariant.going.run.plain, c.loop-i.invariant.going.run.calls)
+pub returns-in-Some : goal.returns-in-Some
+returns-in-Some g c = rw c.in-Some.is at (c.in_ok-ending.ensures.turned _ _ c.loop-i.invariant.going)
 
 pub loop-i-preserved : goal.loop-i-preserved
 loop-i-preserved g c = record {
   inside = c.turn.ensures.inside;
-  going = rw c.in-Ok-None.field-0-is at (c.in-Ok-None.ensures.turned _ _ c.loop-i.invariant.going);
+  going = rw c.in_default.is at (c.in_ok-ending.ensures.turned _ _ c.loop-i.invariant.going);
 }
-
-pub returns-in-Ok-Some : goal.returns-in-Ok-Some
-returns-in-Ok-Some g c = rw c.in-Ok-Some.field-0-is at (c.in-Ok-Some.ensures.turned _ _ c.loop-i.invariant.going)
 
 pub returns : goal.returns
 returns g c = ran_out c.loop-i.invariant.going (omega (arith, c.loop-i-test.false, c.loop-i.auto.i-end))

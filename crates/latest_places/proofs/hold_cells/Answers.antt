@@ -1,17 +1,15 @@
-use Rattle.desk.specs.Held.{directory_in}
-use Rattle.range_places.proofs.TableLaws.{cells_start, cells_radios, cells_end}
-use Rattle.latest_places.proofs.TellLaws.{told_cells}
 use borrow.Author.Rules.{rules}
+use Rattle.desk.specs.Layout.{no_slot}
+use Rattle.range_places.specs.Places.{slot_over}
+use Rattle.latest_places.specs.Latest.{anywhere, unjudged}
+use Rattle.latest_places.proofs.TellLaws.{over_none, over_next, cell_told, cell_radios}
 use Rattle.latest_places.proofs.hold_cells.Goals as goal
 
-pub loop-i-init : goal.loop-i-init
-loop-i-init c = (search rules, search cells_start)
+pub loop-cell-init : goal.loop-cell-init
+loop-cell-init c = over_none (slot_over unjudged c.args.pages.now anywhere) _
 
-pub hold_cell-requires : goal.hold_cell-requires
-hold_cell-requires c = (search rules, search cells_radios)
+pub tell_cell-requires : goal.tell_cell-requires
+tell_cell-requires c = cell_radios _ _ _ c.requires (search rules)
 
-pub loop-i-preserved : goal.loop-i-preserved
-loop-i-preserved c = (search rules, told_cells (directory_in c.args.n c.args.cells.now) c.requires.1 c.requires.2 _ c.loop-i-test.true c.slot_at-cell.ensures _ _ c.loop-i.invariant.1 c.hold_cell.ensures)
-
-pub returns : goal.returns
-returns c = search cells_end
+pub loop-cell-preserved : goal.loop-cell-preserved
+loop-cell-preserved c = over_next (slot_over unjudged c.args.pages.now anywhere) c.args.cells.now c.loop-cell.cell-index no_slot _ _ _ (search rules) c.loop-cell.invariant (cell_told _ _ _ _ c.tell_cell.ensures)

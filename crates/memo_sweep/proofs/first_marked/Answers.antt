@@ -1,9 +1,11 @@
-use Rattle.memo_sweep.proofs.LowerLaws.{Unmarked_start, Unmarked_turn}
+use Rattle.std.proofs.Common.{ap, ◌∙◌, ℕ, Option, length, unwrap_or}
 use borrow.Author.Rules.{rules}
+use Rattle.std.proofs.lemmas.Iterator.Search.{position_from_yields_List}
+use Rattle.std.proofs.lemmas.Iterator.{YieldsList-from_slice}
+use Rattle.memo_sweep.proofs.LowerLaws.{first_mark}
 use Rattle.memo_sweep.proofs.first_marked.Goals as goal
 
-pub loop-i-init : goal.loop-i-init
-loop-i-init c = (search rules, Unmarked_start c.args.marks.now)
-
-pub loop-i-preserved : goal.loop-i-preserved
-loop-i-preserved c = (search rules, search Unmarked_turn)
+pub returns : goal.returns
+returns c =
+    let at = position_from_yields_List (λ b. b) _ _ c.position.result c.position.ensures.ran (YieldsList-from_slice _ c.iter.ensures.rest) (λ x b q k. search rules) in
+    first_mark c.args.marks.now (c.unwrap_or.ensures ∙ ap (λ (o : Option ℕ). unwrap_or o (length c.args.marks.now)) at)

@@ -4,8 +4,8 @@ use Rattle.memo_sweep.proofs.lowered_line.Goals as goal
 pub returns-then-not-mark : goal.returns-then-not-mark
 returns-then-not-mark c = search line_kept
 
-pub returns-then-x-le1 : goal.returns-then-x-le1
-returns-then-x-le1 c = search line_dropped
+pub returns-then-line-le1 : goal.returns-then-line-le1
+returns-then-line-le1 c = search line_dropped
 
 pub returns : goal.returns
 returns c = search line_lowered

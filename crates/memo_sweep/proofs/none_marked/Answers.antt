@@ -2,11 +2,11 @@ use borrow.Author.Rules.{rules}
 use Rattle.memo_sweep.proofs.LowerLaws.{Seen_start, Seen_turn, Seen_end}
 use Rattle.memo_sweep.proofs.none_marked.Goals as goal
 
-pub loop-i-init : goal.loop-i-init
-loop-i-init c = (search rules, Seen_start _)
+pub loop-mark-init : goal.loop-mark-init
+loop-mark-init c = Seen_start _
 
-pub loop-i-preserved : goal.loop-i-preserved
-loop-i-preserved c = (search rules, search Seen_turn)
+pub loop-mark-preserved : goal.loop-mark-preserved
+loop-mark-preserved c = search Seen_turn
 
 pub returns : goal.returns
-returns c = let l = c.loop-i.invariant in Seen_end l.1 l.0 (search rules)
+returns c = Seen_end c.loop-mark.invariant (search rules)

@@ -1,14 +1,14 @@
-use Rattle.page_layout.proofs.TestLaws.{fits_free, fits_first, fits_further, fits_none}
+use Rattle.page_layout.proofs.TestLaws.{no_kind_fits, that_kind_fits}
 use Rattle.page_layout.proofs.kind_fits.Goals as goal
 
-pub returns-then-kind-eq-KIND_FREE : goal.returns-then-kind-eq-KIND_FREE
-returns-then-kind-eq-KIND_FREE c = search fits_free
+pub returns-in-Some-Free : goal.returns-in-Some-Free
+returns-in-Some-Free c = that_kind_fits _ _ c.numbered.ensures c.in-Some-Free.is c.in-Some-Free.field-0-is
 
-pub returns-then-kind-eq-KIND_FIRST : goal.returns-then-kind-eq-KIND_FIRST
-returns-then-kind-eq-KIND_FIRST c = search fits_first
+pub returns-in-Some-First : goal.returns-in-Some-First
+returns-in-Some-First c = that_kind_fits _ _ c.numbered.ensures c.in-Some-First.is c.in-Some-First.field-0-is
 
-pub returns-then-kind-eq-KIND_FURTHER : goal.returns-then-kind-eq-KIND_FURTHER
-returns-then-kind-eq-KIND_FURTHER c = search fits_further
+pub returns-in-Some-Further : goal.returns-in-Some-Further
+returns-in-Some-Further c = that_kind_fits _ _ c.numbered.ensures c.in-Some-Further.is c.in-Some-Further.field-0-is
 
-pub returns : goal.returns
-returns c = search fits_none
+pub returns-in-None : goal.returns-in-None
+returns-in-None c = no_kind_fits _ _ c.numbered.ensures c.in-None.is

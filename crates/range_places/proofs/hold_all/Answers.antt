@@ -1,10 +1,16 @@
+use borrow.Author.Rules.{rules}
+use Rattle.desk.specs.Views.{slots_in}
 use Rattle.memo_index.proofs.IndexLaws.{Blank_zeros}
 use Rattle.range_places.proofs.TableLaws.{all_held}
-use borrow.Author.Rules.{rules}
 use Rattle.range_places.proofs.hold_all.Goals as goal
 
 pub index_lines-requires : goal.index_lines-requires
-index_lines-requires c = (search rules, search rules, search rules, search rules, Blank_zeros)
+index_lines-requires c = (search rules, search rules, search rules, Blank_zeros)
+
+pub hold_cells-requires : goal.hold_cells-requires
+unfolding slots_in
+hold_cells-requires c = c.requires.1.entry_radios
 
 pub returns : goal.returns
-returns c = search all_held
+unfolding slots_in
+returns c = all_held _ _ _ _ _ c.index_lines.ensures.1 c.requires.0 c.hold_cells.ensures c.hold_reports.ensures

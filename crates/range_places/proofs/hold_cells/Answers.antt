@@ -1,16 +1,15 @@
-use Rattle.desk.specs.Held.{directory_in}
-use Rattle.range_places.proofs.TableLaws.{cells_start, cells_radios, cells_turn, cells_end}
 use borrow.Author.Rules.{rules}
+use Rattle.range_places.proofs.TableLaws.{cells_start, cells_turn, slot_touched, slot_skipped}
 use Rattle.range_places.proofs.hold_cells.Goals as goal
+use Rattle.range_places.proofs.hold_cells.Goals.{then-is_touched, else-is_touched}
 
-pub loop-i-init : goal.loop-i-init
-loop-i-init c = (search rules, search cells_start)
+pub loop-cell-init : goal.loop-cell-init
+loop-cell-init c = cells_start _ _ _ _
 
-pub hold_touched-requires : goal.hold_touched-requires
-hold_touched-requires c = (search rules, search rules, search cells_radios)
-
-pub loop-i-preserved : goal.loop-i-preserved
-loop-i-preserved c = (search rules, cells_turn (directory_in c.args.n c.args.cells.now) c.requires.2 c.requires.3 _ c.loop-i-test.true c.slot_at-cell.ensures _ _ _ _ c.loop-i.invariant.1 c.hold_touched.ensures)
-
-pub returns : goal.returns
-returns c = search cells_end
+pub loop-cell-preserved : goal.loop-cell-preserved
+loop-cell-preserved c =
+    cells_turn _ _ _ c.args.cells.now c.loop-cell.cell-index c.loop-cell.table c.if-is_touched.table _ (search rules) c.loop-cell.invariant
+    (elim c.if-is_touched.branch [
+      | then-is_touched w ↦ rw w.table-is (slot_touched _ _ _ _ c.is_touched.ensures _ _ w.if-is_touched.true w.tell_cell.ensures)
+      | else-is_touched w ↦ rw w.table-is (slot_skipped _ _ _ _ c.is_touched.ensures _ w.if-is_touched.false)
+    ])

@@ -7,5 +7,5 @@ returns-then-bytes-lt-HEAD_BYTES c = search few_bytes
 pub returns-then-stated-lt-HEAD_BYTES : goal.returns-then-stated-lt-HEAD_BYTES
 returns-then-stated-lt-HEAD_BYTES c = search stated_below
 
-pub returns : goal.returns
-returns c = search stated_above
+pub returns-else-stated-lt-HEAD_BYTES : goal.returns-else-stated-lt-HEAD_BYTES
+returns-else-stated-lt-HEAD_BYTES c = search stated_above

@@ -1,5 +1,5 @@
-use Rattle.settle.proofs.LoopLaws.{Growing_start, Growing_there, Growing_turn, Growing_end}
 use borrow.Author.Rules.{rules}
+use Rattle.settle.proofs.LoopLaws.{Growing_start, Growing_there, Growing_turn, Growing_end}
 use Rattle.settle.proofs.grow.Goals as goal
 
 pub loop-n-init : goal.loop-n-init

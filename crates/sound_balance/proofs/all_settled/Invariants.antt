@@ -1,11 +1,9 @@
-use Rattle.std.proofs.Common.{◌≡◌, ◌-◌, ◌≤◌}
-use Rattle.memo_index.specs.Index.{table_size}
-use Rattle.sound_balance.proofs.SettledLaws.{unsettled}
+use mathlib.Core.Path.{◌≡◌}
+use lib.Dec.{eqb}
+use lib.ListN.{get_or}
+use Rattle.sound_clauses.specs.Loops.{all_to}
 use Rattle.sound_balance.proofs.all_settled.Given as goal
 
--- The numbers so far that are not settled are counted.
-abbrev pub invariant-loop-i : goal.invariant-loop-i
-invariant-loop-i l = (l.i ≤ table_size) × (l.n ≤ l.i) × (l.n ≡ unsettled l.balance l.i)
-
-abbrev pub decreases-loop-i : goal.decreases-loop-i
-decreases-loop-i l = table_size - l.i
+-- The verdict so far is that of the numbers so far.
+abbrev pub invariant-loop-number : goal.invariant-loop-number
+invariant-loop-number l = l.so ≡ all_to l.number-index (λ q. eqb (get_or l.balance q 0) 0)

@@ -1,4 +1,3 @@
-use Rattle.std.proofs.Common.{◌-◌, ◌≤◌}
 use Rattle.desk.specs.Held.{memo_in}
 use Rattle.memo.specs.Memo.{lines_of}
 use Rattle.memo_index.proofs.IndexLaws.{Indexing}
@@ -8,7 +7,4 @@ use Rattle.sound_balance.proofs.lines_due.Given as goal
 
 -- The missed counts of the lines so far are added (`Adding`), and the lines are named (`Indexing`).
 abbrev pub invariant-loop-i : goal.invariant-loop-i
-invariant-loop-i l = (l.i ≤ l.n) × Adding missed_off l.initial.balance (lines_of (memo_in l.n l.words)) l.i l.balance × Indexing (memo_in l.n l.words) l.i l.lines
-
-abbrev pub decreases-loop-i : goal.decreases-loop-i
-decreases-loop-i l = l.n - l.i
+invariant-loop-i l = Adding missed_off l.initial.balance (lines_of (memo_in l.n l.memo)) l.i l.balance × Indexing (memo_in l.n l.memo) l.i l.lines

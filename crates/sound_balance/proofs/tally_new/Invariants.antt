@@ -1,4 +1,3 @@
-use Rattle.std.proofs.Common.{◌-◌, ◌≤◌}
 use Rattle.desk.specs.Held.{waiting_with}
 use Rattle.waiting.specs.Waiting.{reports_of}
 use Rattle.sound_balance.specs.Tables.{mark_new}
@@ -8,7 +7,4 @@ use Rattle.sound_balance.proofs.tally_new.Given as goal
 
 -- The reports so far are added (`Adding`), and tested by what the table held before (`Belonging`).
 abbrev pub invariant-loop-i : goal.invariant-loop-i
-invariant-loop-i l = (l.i ≤ l.n) × Adding mark_new l.initial.balance (reports_of (waiting_with l.n l.waiting)) l.i l.balance × Belonging l.initial.balance (reports_of (waiting_with l.n l.waiting)) l.i l.so l.balance
-
-abbrev pub decreases-loop-i : goal.decreases-loop-i
-decreases-loop-i l = l.n - l.i
+invariant-loop-i l = Adding mark_new l.initial.balance (reports_of (waiting_with l.n l.waiting)) l.i l.balance × Belonging l.initial.balance (reports_of (waiting_with l.n l.waiting)) l.i l.so l.balance

@@ -1,11 +1,6 @@
-use Rattle.sound_directory.proofs.CutsLaws.{cuts_long, cuts_unclear, cuts_rise}
+use borrow.Author.Rules.{rules}
+use Rattle.sound_directory.proofs.CutsLaws.{row_cuts}
 use Rattle.sound_directory.proofs.cuts_sound.Goals as goal
 
-pub returns-then-c-gt-MAX_CUTS : goal.returns-then-c-gt-MAX_CUTS
-returns-then-c-gt-MAX_CUTS c = search cuts_long
-
-pub returns-then-not-is_clear : goal.returns-then-not-is_clear
-returns-then-not-is_clear c = search cuts_unclear
-
 pub returns : goal.returns
-returns c = search cuts_rise
+returns c = row_cuts c.args.c (search rules) c.row_sound.ensures

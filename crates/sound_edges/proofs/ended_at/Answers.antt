@@ -1,17 +1,12 @@
-use mathlib.Core.Path.{refl}
-use Rattle.sound_edges.proofs.SeekLaws.{seek_turn}
-use Rattle.sound_edges.proofs.EdgeLaws.{ended_found, ended_not}
+use mathlib.Core.Path.{◌∙◌}
 use borrow.Author.Rules.{rules}
+use lib.Dec.{eqb}
+use Rattle.std.proofs.lemmas.Iterator.Search.{position_from_yields_List}
+use Rattle.std.proofs.lemmas.Iterator.{YieldsList-from_slice}
+use Rattle.sound_edges.proofs.EdgeLaws.{ended_found}
 use Rattle.sound_edges.proofs.ended_at.Goals as goal
 
-pub loop-i-init : goal.loop-i-init
-loop-i-init c = (search rules, record { fits = search rules; same = refl })
-
-pub returns-then-slots-i : goal.returns-then-slots-i
-returns-then-slots-i c = search ended_found
-
-pub loop-i-preserved : goal.loop-i-preserved
-loop-i-preserved c = (search rules, search seek_turn)
-
 pub returns : goal.returns
-returns c = search ended_not
+returns c =
+    position_from_yields_List (λ x. eqb x c.args.x) _ _ c.position.result c.position.ensures.ran (YieldsList-from_slice _ c.iter.ensures.rest) (λ x b q k. search rules)
+    ∙ ended_found c.args.cuts.now c.args.x c.requires

@@ -3,13 +3,13 @@ use borrow.Author.Rules.{rules}
 use Rattle.sound_entries.proofs.tally_cells.Goals as goal
 
 pub loop-i-init : goal.loop-i-init
-loop-i-init c = (search rules, search (Cells_start, rules))
+loop-i-init c = search (Cells_start, rules)
 
 pub tally_chain-requires : goal.tally_chain-requires
 tally_chain-requires c = (search rules, search Cells_radios)
 
 pub loop-i-preserved : goal.loop-i-preserved
-loop-i-preserved c = (search rules, search Cells_turn)
+loop-i-preserved c = search Cells_turn
 
 pub returns : goal.returns
-returns c = Cells_end _ c.loop-i.invariant.1 c.loop-i.invariant.0 c.loop-i-test.false
+returns c = Cells_end _ c.loop-i.invariant (search rules) c.loop-i-test.false

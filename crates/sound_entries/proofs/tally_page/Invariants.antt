@@ -1,4 +1,4 @@
-use Prim.Native.Nat.{◌-◌, ◌≤◌}
+use Prim.Native.Nat.{◌≤◌}
 use Rattle.page.specs.Page.{entries}
 use Rattle.memo_index.specs.Index.{judged}
 use Rattle.sound_entries.proofs.WalkLaws.{Tallying}
@@ -6,7 +6,4 @@ use Rattle.sound_entries.proofs.tally_page.Given as goal
 
 -- The entries so far are added, and counted where they are stale (`Tallying`).
 abbrev pub invariant-loop-i : goal.invariant-loop-i
-invariant-loop-i l = (l.i ≤ l.n) × (l.sum ≤ l.i) × Tallying (judged l.words l.lines) l.initial.balance (entries l.page) l.i l.balance l.sum
-
-abbrev pub decreases-loop-i : goal.decreases-loop-i
-decreases-loop-i l = l.n - l.i
+invariant-loop-i l = (l.sum ≤ l.i) × Tallying (judged l.memo l.lines) l.initial.balance (entries l.page) l.i l.balance l.sum

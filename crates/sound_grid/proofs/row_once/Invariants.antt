@@ -1,10 +1,6 @@
-use Prim.Native.Nat.{◌-◌, ◌≤◌}
 use Rattle.sound_grid.proofs.TileLaws.{RowTo}
 use Rattle.sound_grid.proofs.row_once.Given as goal
 
 -- The memory cells so far are held once (`RowTo`).
 abbrev pub invariant-loop-i : goal.invariant-loop-i
-invariant-loop-i l = (l.i ≤ l.columns) × RowTo l.table l.row l.i
-
-abbrev pub decreases-loop-i : goal.decreases-loop-i
-decreases-loop-i l = l.columns - l.i
+invariant-loop-i l = RowTo l.table l.row l.i

@@ -1,5 +1,4 @@
 use mathlib.Core.Path.{◌≡◌}
-use Prim.Native.Nat.{◌-◌, ◌≤◌}
 use lib.ListN.{drop}
 use Rattle.lists.specs.Parts.{tab}
 use Rattle.lists.specs.Tests.{all}
@@ -9,7 +8,4 @@ use Rattle.sound_page.proofs.all_belong.Given as goal
 
 -- What is left passes exactly where all pass.
 abbrev pub invariant-loop-i : goal.invariant-loop-i
-invariant-loop-i l = (l.i ≤ l.n) × (all (belongs l.highest l.s) (drop l.i (tab l.n (entry_at l.page))) ≡ all (belongs l.highest l.s) (tab l.n (entry_at l.page)))
-
-abbrev pub decreases-loop-i : goal.decreases-loop-i
-decreases-loop-i l = l.n - l.i
+invariant-loop-i l = all (belongs l.highest l.s) (drop l.i (tab l.n (entry_at l.page))) ≡ all (belongs l.highest l.s) (tab l.n (entry_at l.page))

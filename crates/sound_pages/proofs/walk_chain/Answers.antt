@@ -4,9 +4,9 @@ use borrow.Author.Rules.{rules}
 use Rattle.sound_pages.proofs.WalkLaws.{unmarked_below, unmarked_room, chain_tired, chain_met, chain_wrong, chain_ends, chain_goes_on}
 use Rattle.sound_pages.proofs.walk_chain.Goals as goal
 
-pub loop-fuel-init : goal.loop-fuel-init
+pub loop-met-init : goal.loop-met-init
 unfolding slot_test
-loop-fuel-init c = refl
+loop-met-init c = refl
 
 pub returns-then-not-is_unmarked : goal.returns-then-not-is_unmarked
 returns-then-not-is_unmarked c = search chain_met
@@ -23,8 +23,8 @@ bounds-marks-p c = search (unmarked_below, rules)
 pub returns-then-p : goal.returns-then-p
 returns-then-p c = search chain_ends
 
-pub loop-fuel-preserved : goal.loop-fuel-preserved
-loop-fuel-preserved c = search chain_goes_on
+pub loop-met-preserved : goal.loop-met-preserved
+loop-met-preserved c = search chain_goes_on
 
 pub returns : goal.returns
 returns c = search chain_tired

@@ -1,12 +1,13 @@
-use Rattle.sound_rows.proofs.ColumnsLaws.{Marks_start, Marks_turn, marks_end}
+use mathlib.Core.Path.{refl}
 use borrow.Author.Rules.{rules}
+use Rattle.sound_directory.proofs.LoopLaws.{pass_start, pass_turn, pass_end}
 use Rattle.sound_rows.proofs.are_marks.Goals as goal
 
-pub loop-i-init : goal.loop-i-init
-loop-i-init c = (search rules, search Marks_start)
+pub loop-mark-init : goal.loop-mark-init
+loop-mark-init c = search pass_start
 
-pub loop-i-preserved : goal.loop-i-preserved
-loop-i-preserved c = (search rules, search Marks_turn)
+pub loop-mark-preserved : goal.loop-mark-preserved
+loop-mark-preserved c = pass_turn _ _ 0 (search rules) (search rules) refl
 
 pub returns : goal.returns
-returns c = search marks_end
+returns c = search pass_end

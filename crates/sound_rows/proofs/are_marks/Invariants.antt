@@ -1,10 +1,7 @@
-use Prim.Native.Nat.{◌≤◌, ◌-◌}
-use Rattle.sound_rows.proofs.ColumnsLaws.{Marks}
+use Rattle.sound_directory.proofs.LoopLaws.{Passed}
+use Rattle.sound_rows.specs.Sound.{is_mark}
 use Rattle.sound_rows.proofs.are_marks.Given as goal
 
--- With whether the rest are, the verdict so far is the test (`Marks`).
-abbrev pub invariant-loop-i : goal.invariant-loop-i
-invariant-loop-i l = (l.i ≤ l.n) × Marks l.marks l.n l.so l.i
-
-abbrev pub decreases-loop-i : goal.decreases-loop-i
-decreases-loop-i l = l.n - l.i
+-- With whether the rest are, the verdict so far is the test (`Passed`).
+abbrev pub invariant-loop-mark : goal.invariant-loop-mark
+invariant-loop-mark l = Passed is_mark l.marks l.so l.mark-index

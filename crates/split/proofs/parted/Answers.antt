@@ -1,31 +1,36 @@
+use mathlib.Core.Path.{◌∙◌, sym, ap}
+use mathlib.Core.Bool.{not}
 use native.Mathlib.Omega.{arith}
-use Rattle.split.proofs.SplitLaws.{part_start, part_turn, low_rows, high_rows, low_count, high_count}
-use borrow.Author.Rules.{rules}
+use Rattle.split.proofs.SplitLaws.{side_start, side_more, side_same, side_few}
 use Rattle.split.proofs.parted.Goals as goal
+use Rattle.split.proofs.parted.Goals.{then-is_low, else-is_low}
 
-pub loop-i-init : goal.loop-i-init
-loop-i-init c = (search rules, search rules, search rules, search rules, part_start _ _ _)
+pub loop-entry-init : goal.loop-entry-init
+loop-entry-init c = (c.clear.ensures ∙ side_start _, c.clear-2.ensures ∙ side_start _)
 
-pub loop-i-preserved : goal.loop-i-preserved
-loop-i-preserved c = let v = c.loop-i.invariant in (
-  search rules,
-  search rules,
-  search rules,
-  search rules,
-  part_turn _ _ _ v.4 v.0 (omega (arith, c.loop-i-test.true, c.requires.0)) c.requires.1 v.2 v.3
-      c.entry_at-e.ensures c.put_entry.ensures.0 c.put_entry-in-loop-i.ensures.0 c.is_low-stays.ensures c.one_if-low.ensures.0,
-)
+pub push-requires : goal.push-requires
+push-requires c = omega (arith, side_few _ c.args.entries.now c.loop-entry.invariant.0 (omega arith))
 
-pub returns : goal.returns
-returns c = let v = c.loop-i.invariant in
-    let h = c.loop-i-test.false in
-    let p = c.requires.0 in (
-      low_rows _ _ _ _ v.4 v.1 h,
-      high_rows _ _ _ _ v.4 v.1 h,
-      low_count _ _ _ _ v.4 v.1 h p v.0 v.2,
-      high_count _ _ _ _ v.4 v.1 h p v.0 v.3,
-      search rules,
-      search rules,
-      search rules,
-      search rules,
-    )
+pub push-requires-else-is_low : goal.push-requires-else-is_low
+push-requires-else-is_low c = omega (arith, side_few _ c.args.entries.now c.loop-entry.invariant.1 (omega arith))
+
+pub loop-entry-preserved : goal.loop-entry-preserved
+loop-entry-preserved c =
+    let v = c.loop-entry.invariant in
+    let es = c.args.entries.now in
+    let more = c.loop-entry-test.true in
+    elim c.if-is_low.branch [
+      | then-is_low w ↦ let low = sym c.is_low.ensures ∙ w.if-is_low.true in (
+        w.low-is ∙ side_more _ es v.0 more low w.push.ensures,
+        w.high-is ∙ side_same _ es v.1 more (ap not low),
+      )
+      | else-is_low w ↦ let high = sym c.is_low.ensures ∙ w.if-is_low.false in (
+        w.low-is ∙ side_same _ es v.0 more high,
+        w.high-is ∙ side_more _ es v.1 more (ap not high) w.push-else-is_low.ensures,
+      )
+    ]
+
+pub returns-clause-few : goal.returns-clause-few
+returns-clause-few c =
+    let v = c.loop-entry.invariant in
+    (omega (arith, side_few _ c.args.entries.now v.0 (omega arith)), omega (arith, side_few _ c.args.entries.now v.1 (omega arith)))

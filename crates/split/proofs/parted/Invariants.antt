@@ -1,14 +1,14 @@
+use mathlib.Core.Bool.{not}
 use mathlib.Core.Path.{◌≡◌}
-use Prim.Native.Nat.{◌-◌, ◌≤◌}
-use lib.ListN.{length}
-use Rattle.entries.specs.Entries.{table_words, every_entry}
-use Rattle.cut.specs.Choice.{cut_at}
-use Rattle.split.proofs.SplitLaws.{Parted}
+use lib.ListN.{take}
+use Rattle.lists.specs.Sums.{filter}
+use Rattle.entries.specs.Entries.{rows_of}
+use Rattle.rules.specs.Cut.{low_side}
+use Rattle.cut.specs.Choice.{cut_of}
 use Rattle.split.proofs.parted.Given as goal
 
--- Of the entries so far those of the low side are kept, one after the other, and so are the others (`Parted`).
-abbrev pub invariant-loop-i : goal.invariant-loop-i
-invariant-loop-i l = (l.low ≤ l.i) × (l.i ≤ l.n) × (length l.table ≡ table_words) × (length l.far ≡ table_words) × Parted (cut_at l.axis l.at) (every_entry l.initial.table) l.i l.low (every_entry l.table) (every_entry l.far)
-
-abbrev pub decreases-loop-i : goal.decreases-loop-i
-decreases-loop-i l = l.n - l.i
+-- Each side has those of the entries so far that are its own.
+abbrev pub invariant-loop-entry : goal.invariant-loop-entry
+invariant-loop-entry l =
+    (l.low ≡ filter (low_side (cut_of l.cut)) (rows_of (take l.entry-index l.entries)))
+    × (l.high ≡ filter (λ e. not (low_side (cut_of l.cut) e)) (rows_of (take l.entry-index l.entries)))

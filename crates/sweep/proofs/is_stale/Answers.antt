@@ -1,16 +1,16 @@
-use Rattle.memo.proofs.MemoLaws.{Whole_size}
+use Rattle.desk.specs.Layout.{no_line}
 use Rattle.sweep.proofs.LinesLaws.{stale_past, stale_other, stale_here}
-use borrow.Author.Rules.{rules}
 use Rattle.sweep.proofs.is_stale.Goals as goal
 
-pub returns-then-n-at : goal.returns-then-n-at
-returns-then-n-at c = search stale_past
+pub returns-in_default : goal.returns-in_default
+returns-in_default c = stale_past _ c.args.entry c.requires.0 c.requires.1 c.in_default.ensures.lookup.3
 
-pub line_at-x-requires : goal.line_at-x-requires
-line_at-x-requires c = (search rules, search Whole_size)
+pub returns-then-line-entry : goal.returns-then-line-entry
+returns-then-line-entry c =
+    let there = c.in-Some.ensures.lookup.3 in
+    stale_here _ c.args.entry c.requires.0 c.requires.1 (there.1 no_line) there.0 c.if-line-entry.true c.is_elsewhere.ensures
 
-pub returns-then-x-e : goal.returns-then-x-e
-returns-then-x-e c = search stale_other
-
-pub returns : goal.returns
-returns c = search stale_here
+pub returns-else-line-entry : goal.returns-else-line-entry
+returns-else-line-entry c =
+    let there = c.in-Some.ensures.lookup.3 in
+    stale_other _ c.args.entry c.requires.0 c.requires.1 (there.1 no_line) there.0 c.if-line-entry.false

@@ -1,13 +1,10 @@
-use Rattle.std.proofs.Common.{◌≡◌, ◌-◌, ◌≤◌}
-use Rattle.desk.specs.Layout.{watches_of}
+use Rattle.std.proofs.Common.{◌≡◌, length, get_or}
 use Rattle.rules.specs.Watches.{max_watches}
-use Rattle.watch_members.proofs.AreasLaws.{watches_to}
-use Rattle.watch_members.specs.Members.{nowhere}
+use Rattle.desk.specs.Layout.{watch_of, no_watch}
+use Rattle.desk.specs.Views.{watch_in}
+use Rattle.watch_members.specs.Members.{nowhere, Filled}
 use Rattle.watch_members.proofs.lay_areas.Given as goal
 
--- The array is that of the first w watches, without members.
+-- The first w watches are laid out, without members.
 abbrev pub invariant-loop-w : goal.invariant-loop-w
-invariant-loop-w l = (l.w ≤ max_watches) × (l.blank ≡ watches_of nowhere (watches_to l.watches l.w))
-
-abbrev pub decreases-loop-w : goal.decreases-loop-w
-decreases-loop-w l = max_watches - l.w
+invariant-loop-w l = (length l.laid ≡ max_watches) × Filled (λ v. watch_of nowhere (watch_in (get_or l.watches v no_watch))) no_watch l.w l.laid

@@ -1,11 +1,6 @@
-use Rattle.std.proofs.Common.{◌≤◌}
-use Rattle.rules.specs.Watches.{max_watches}
 use Rattle.watch_members.proofs.NumbersLaws.{Numbered}
 use Rattle.watch_members.proofs.number_each.Given as goal
 
 -- From watch 15 down: each number has the bits of the watches from w on (`Numbered`).
 abbrev pub invariant-loop-w : goal.invariant-loop-w
-invariant-loop-w l = (l.w ≤ max_watches) × Numbered l.watches l.easts l.norths l.n l.w l.numbers
-
-abbrev pub decreases-loop-w : goal.decreases-loop-w
-decreases-loop-w l = l.w
+invariant-loop-w l = Numbered l.watches l.easts l.norths l.n l.w l.numbers

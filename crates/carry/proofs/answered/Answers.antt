@@ -1,4 +1,0 @@
-use Rattle.carry.proofs.answered.Goals as goal
-
-pub returns : goal.returns
-returns c = cc

@@ -1,8 +1,0 @@
-use native.Mathlib.Omega.{arith}
-use Rattle.watches.proofs.with_bit.Goals as goal
-
-pub returns-then-test : goal.returns-then-test
-returns-then-test c = rw c.if-test.true
-
-pub returns-else-test : goal.returns-else-test
-returns-else-test c = rw c.if-test.false (omega arith)
