@@ -1,6 +1,6 @@
 -- The directory: numbers by marks, and what the code's tests come to.
-use mathlib.Core.Path.{◌≡◌, refl, sym, ap, ◌∙◌}
-use mathlib.Core.Bool.{Bool, true, false, ◌&&◌}
+use mathlib.Core.Path.{◌≡◌, refl, sym, ap, ap₂, ◌∙◌}
+use mathlib.Core.Bool.{Bool, true, false}
 use mathlib.Core.List.{List, [], ◌∷◌, map}
 use Prim.Native.Nat.{ℕ, ◌+◌, ◌-◌, ◌≤◌, ◌<◌}
 use native.Mathlib.Omega.{arith}
@@ -24,9 +24,9 @@ use Rattle.desk.proofs.UniqueLaws.{take-slotted}
 use Rattle.sound_clauses.specs.Cells.{numbers_test, round_test}
 use Rattle.sound_clauses.proofs.LoopsLaws.{all-false, at_most_twice, marks_at_most}
 use Rattle.sound_directory.specs.Views.{slot_numbers, numbers_in}
-use Rattle.sound_directory.specs.Sound.{weighs, slots_test, slot_weight, names_test, names_sound, directory_sound}
+use Rattle.sound_directory.specs.Sound.{weighs, slots_test, slot_weight, is_unused_cell, names_test, names_sound, directory_sound}
 use Rattle.lists.proofs.SlotsLaws.{true-both, same_at}
-use Rattle.sound_directory.proofs.LoopLaws.{unused_rest, field_unused}
+use Rattle.sound_directory.proofs.LoopLaws.{unused_rest, sum_Clear}
 use Rattle.sound_directory.proofs.SlotLaws.{slots_long, slots_unclear, slots_clear, slots_count, slots_used, slots_slotted, slotted_slots}
 
 -- ---- numbers by marks
@@ -106,11 +106,12 @@ slot_nothing x e =
     let f : x.first ≡ 0 = omega arith in
     λ i. record { number = k i; west = w i; east = a i; south = u i; north = o i; first = f i }
 
--- a slot is as an unused one just if it weighs nothing
-pub slot_unused : (x : Slot) → (eqb x.number 0 && (eqb x.west 0 && (eqb x.east 0 && (eqb x.south 0 && (eqb x.north 0 && eqb x.first 0))))) ≡ eqb (slot_weight x) 0
-slot_unused x =
-    let same : x.number + (x.west + (x.east + (x.south + (x.north + x.first)))) ≡ slot_weight x = omega arith in
-    field_unused x.number _ (field_unused x.west _ (field_unused x.east _ (field_unused x.south _ (field_unused x.north x.first refl)))) ∙ ap (λ (k : ℕ). eqb k 0) same
+-- a cell's numbers, its first four and its last two: all are zero just if it is as an unused one
+pub cell_unused : (x : Slot) (a b : ℕ) → eqb a 0 ≡ eqb (x.number + x.west + x.east + x.south) 0 → eqb b 0 ≡ eqb (x.north + x.first + 0 + 0) 0
+    → both (eqb a 0) (eqb b 0) ≡ is_unused_cell x
+cell_unused x a b e f =
+    let same : x.number + x.west + x.east + x.south + (x.north + x.first + 0 + 0) ≡ slot_weight x = omega arith in
+    ap₂ both e f ∙ sym (sum_Clear (x.number + x.west + x.east + x.south) (x.north + x.first + 0 + 0)) ∙ ap (λ (k : ℕ). eqb k 0) same
 
 module _ (d : Directory) where
   pub directory_long : max_cells < d.n → false ≡ directory_sound d

@@ -1,4 +1,5 @@
 pub mod LoopLaws
+pub mod JoinedLaws
 pub mod SlotLaws
 pub mod CutsLaws
 pub mod DirectoryLaws

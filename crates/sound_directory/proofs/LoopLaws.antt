@@ -96,7 +96,3 @@ pub unused_rest : {A : Type 0} (w : A → ℕ) (p : A → Bool) → ((x : A) →
 unfolding weighs
 unused_rest w p h n size xs l e =
     e ∙ ap (all p) (take_all (size - n) (drop n xs) (omega (arith, length-drop n xs))) ∙ unused_weigh w p h (drop n xs)
-
--- a struct is as an unused one just if its fields are zero: one field, and the others
-pub field_unused : (a b : ℕ) {q : Bool} → q ≡ eqb b 0 → (eqb a 0 && q) ≡ eqb (a + b) 0
-field_unused a b {q} e = and_both (eqb a 0) q ∙ ap (both (eqb a 0)) e ∙ sym (sum_Clear a b)

@@ -39,6 +39,10 @@ cuts_sound c = both (slots_test number max_cuts c.n c.at) (cuts_test (cuts_in c)
 abbrev pub slot_weight : Slot → ℕ
 slot_weight x = x.number + x.west + x.east + x.south + x.north + x.first
 
+-- each of its numbers zero
+abbrev pub is_unused_cell : Slot → Bool
+is_unused_cell x = eqb (slot_weight x) 0
+
 -- numbers from 0 to 63, "The round names each cell once."
 unfoldable pub names_test : List ℕ → Bool
 names_test numbers = both (numbers_test numbers) (round_test numbers)

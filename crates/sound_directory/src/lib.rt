@@ -2,14 +2,17 @@
 // before a slot is looked at.
 #![tactic(auto)]
 
-ghost use Rattle.std.specs.Prelude.{◌≡◌, eqb, leb, ltb, length, take};
+ghost use Rattle.std.specs.Prelude.{◌≡◌, ◌+◌, eqb, leb, ltb, length, take};
 ghost use Rattle.lists.specs.Tests.{both, all};
 ghost use Rattle.desk.specs.Held.{directory_in};
 ghost use Rattle.sound_clauses.specs.Loops.{rises_to};
 ghost use Rattle.sound_directory.specs.Views.{slot_numbers};
-ghost use Rattle.sound_directory.specs.Sound.{row_sound, cuts_sound, names_test, directory_sound};
+ghost use Rattle.sound_directory.specs.Sound.{row_sound, cuts_sound, is_unused_cell, names_test, directory_sound};
 
 use desk::{CutList, Desk, Slot};
+
+// Every number of 16 bits is below.
+const WORD: u64 = 65536;
 
 // ---- numbers in slots
 
@@ -57,6 +60,14 @@ pub fn row_sound(slots: &[u16], n: usize, top: u16) -> bool
     rises(&slots[..n], top)
 }
 
+// Four numbers as one, which is 0 just if each of them is: such as stand side by side are read at once.
+pub fn joined(first: u16, second: u16, third: u16, fourth: u16) -> u64
+    ensures { eqb result 0 ≡ eqb (first + second + third + fourth) 0 }
+{
+    u64::from(first)
+        + WORD * (u64::from(second) + WORD * (u64::from(third) + WORD * u64::from(fourth)))
+}
+
 // ---- cuts
 
 // Whether the cuts of one direction are sound.
@@ -86,6 +97,19 @@ fn names_sound(cells: &[Slot]) -> bool
     true
 }
 
+// Whether each cell is as an unused one. It never leaves early, and reads a cell as two numbers: to compare each of its six takes several times as long.
+fn cells_unused(cells: &[Slot]) -> bool
+    ensures { result ≡ all is_unused_cell cells.now }
+{
+    let mut fronts: u64 = 0;
+    let mut backs: u64 = 0;
+    for &cell in cells {
+        fronts = fronts | joined(cell.number, cell.west, cell.east, cell.south);
+        backs = backs | joined(cell.north, cell.first, 0, 0);
+    }
+    (fronts == 0) & (backs == 0)
+}
+
 // Whether the directory is sound, but for edges and pages.
 pub fn directory_sound(cells: &[Slot; Desk::MAX_CELLS], n: usize) -> bool
     ensures { result ≡ directory_sound (directory_in n cells.now) }
@@ -93,7 +117,7 @@ pub fn directory_sound(cells: &[Slot; Desk::MAX_CELLS], n: usize) -> bool
     if Desk::MAX_CELLS < n {
         return false;
     }
-    if !is_unused(&cells[n..], Slot::UNUSED) {
+    if !cells_unused(&cells[n..]) {
         return false;
     }
     names_sound(&cells[..n])

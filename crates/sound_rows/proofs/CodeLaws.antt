@@ -1,6 +1,6 @@
 -- Radios on, waiting reports and memo lines: what the code's tests come to.
 use mathlib.Core.Path.{◌≡◌, refl, sym, ap, ap₂, ◌∙◌}
-use mathlib.Core.Bool.{Bool, true, false, cond, ◌&&◌}
+use mathlib.Core.Bool.{Bool, true, false, cond}
 use mathlib.Core.List.{List, map}
 use mathlib.Core.Logic.{◌≢◌}
 use Prim.Native.Nat.{ℕ, ◌+◌, ◌-◌, ◌≤◌, ◌<◌}
@@ -28,9 +28,9 @@ use Rattle.sound_clauses.proofs.LoopsLaws.{all-both}
 use Rattle.sound_directory.specs.Sound.{weighs, slots_test, number, row_sound}
 use Rattle.lists.proofs.MapLaws.{map-map, map_same}
 use Rattle.lists.proofs.SlotsLaws.{true-both, all-map, few_used}
-use Rattle.sound_directory.proofs.LoopLaws.{unused_rest, field_unused}
+use Rattle.sound_directory.proofs.LoopLaws.{unused_rest, sum_Clear}
 use Rattle.sound_directory.proofs.SlotLaws.{slots_long, slots_unclear, slots_clear, slots_count}
-use Rattle.sound_rows.specs.Sound.{on_sound, report_weight, reports_test, waiting_sound, line_weight, line_marked, missed_test, line_test, lines_test, memo_sound}
+use Rattle.sound_rows.specs.Sound.{on_sound, report_weight, reports_test, waiting_sound, line_weight, is_unused_line, line_marked, missed_test, line_test, lines_test, memo_sound}
 use Rattle.sound_rows.proofs.ClimbLaws.{climbs}
 
 -- ---- who is on
@@ -104,11 +104,9 @@ module _ (x : Line) where
       same true = refl
       same false = refl
 
--- a line is as an unused one just if it weighs nothing
-pub line_unused : (x : Line) → (eqb x.radio 0 && (eqb x.missed 0 && (eqb x.placed 0 && (eqb x.east 0 && eqb x.north 0)))) ≡ eqb (line_weight x) 0
-line_unused x =
-    let same : x.radio + (x.missed + (x.placed + (x.east + x.north))) ≡ line_weight x = omega arith in
-    field_unused x.radio _ (field_unused x.missed _ (field_unused x.placed _ (field_unused x.east x.north refl))) ∙ ap (λ (k : ℕ). eqb k 0) same
+-- a line's numbers, its first four and its north: all are zero just if it is as an unused one
+pub line_unused : (x : Line) (a : ℕ) → eqb a 0 ≡ eqb (x.radio + x.missed + x.placed + x.east) 0 → both (eqb a 0) (eqb x.north 0) ≡ is_unused_line x
+line_unused x a e = ap (λ (y : Bool). both y (eqb x.north 0)) e ∙ sym (sum_Clear (x.radio + x.missed + x.placed + x.east) x.north)
 
 pub lines_climb : (lines : List Line) {r : Bool} → r ≡ climbs (λ x. x.radio) line_test 0 lines → r ≡ lines_test lines
 unfolding climbs lines_test

@@ -55,6 +55,10 @@ waiting_sound highest w = both (slots_test report_weight (full_memory - 1) w.n (
 abbrev pub line_weight : Line → ℕ
 line_weight x = x.radio + x.missed + x.placed + x.east + x.north
 
+-- each of its numbers zero
+abbrev pub is_unused_line : Line → Bool
+is_unused_line x = eqb (line_weight x) 0
+
 -- marked 1, or marked 0 with the place zero
 abbrev pub line_marked : Line → Bool
 line_marked x = either (eqb x.placed 1) (both (eqb x.placed 0) (both (eqb x.east 0) (eqb x.north 0)))

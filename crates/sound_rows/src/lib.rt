@@ -11,10 +11,10 @@ ghost use Rattle.desk.specs.Held.{waiting_with, memo_in, on_with};
 ghost use Rattle.desk.specs.Views.{every_report};
 ghost use Rattle.sound_clauses.specs.Loops.{all_to};
 ghost use Rattle.sound_directory.specs.Sound.{weighs, number};
-ghost use Rattle.sound_rows.specs.Sound.{on_sound, report_weight, is_mark, is_dated, reports_test, waiting_sound, line_test, lines_test, memo_sound};
+ghost use Rattle.sound_rows.specs.Sound.{on_sound, report_weight, is_mark, is_dated, reports_test, waiting_sound, line_test, lines_test, is_unused_line, memo_sound};
 
 use desk::{Desk, Line};
-use sound_directory::{goes_on, is_unused, rises, row_sound};
+use sound_directory::{goes_on, is_unused, joined, rises, row_sound};
 
 // The columns of the waiting reports' array, by their places in the desk, which C sees.
 const RADIOS: usize = 0;
@@ -171,6 +171,19 @@ fn lines_ok(lines: &[Line]) -> bool
     true
 }
 
+// Whether each line is as an unused one. It never leaves early, and reads a line as two numbers: to compare each of its five takes several times as long.
+fn lines_unused(lines: &[Line]) -> bool
+    ensures { result ≡ all is_unused_line lines.now }
+{
+    let mut fronts: u64 = 0;
+    let mut norths: u16 = 0;
+    for &line in lines {
+        fronts = fronts | joined(line.radio, line.missed, line.placed, line.east);
+        norths = norths | line.north;
+    }
+    (fronts == 0) & (norths == 0)
+}
+
 // Whether the memo is sound: its unused lines are as unused ones, its lines' radios rise and each line is one.
 pub fn memo_sound(lines: &[Line; Desk::LINE_SLOTS], n: u16) -> bool
     ensures test { result ≡ memo_sound (memo_in n lines.now) }
@@ -180,7 +193,7 @@ pub fn memo_sound(lines: &[Line; Desk::LINE_SLOTS], n: u16) -> bool
     if Desk::LINE_SLOTS < n {
         return false;
     }
-    if !is_unused(&lines[n..], Line::UNUSED) {
+    if !lines_unused(&lines[n..]) {
         return false;
     }
     lines_ok(&lines[..n])
