@@ -49,6 +49,9 @@ module _ {from into : Rows Fix} {entries : List Entry} where
     pub merge_room : length from + length into ≤ max_on → i < length entries → length all < max_on
     merge_room h more = omega (arith, m.room, many)
 
+    pub merge_few : i ≤ length entries → length all ≤ length from + length into
+    merge_few h = omega (arith, m.room, many)
+
     pub merge_turn : i < length entries → {r : Rows Fix} → r ≡ insert (get_or entries i no_entry).radio (fix_of (get_or entries i no_entry)) all → length r ≤ length all + 1 → Merging from into entries (i + 1) r
     merge_turn more put grown =
         let e : Entry = get_or entries i no_entry in

@@ -10,7 +10,7 @@ merge-requires c = near_merges c.requires.1 refl c.read_chain-other.result c.rea
 
 pub join_pages-ends-requires : goal.join_pages-ends-requires
 join_pages-ends-requires c =
-    (c.requires.0, c.read_chain-other.ensures.2, near_joins c.requires.1 refl c.read_chain-other.result c.read_chain-other.ensures.0 c.sweep_chain-lines.ensures _ c.merge.ensures)
+    (c.requires.0, c.read_chain-other.ensures.2, near_joins c.requires.1 refl c.read_chain-other.result c.read_chain-other.ensures.0 c.sweep_chain-lines.ensures _ c.merge.ensures.rows)
 
 pub overflow_sub-n : goal.overflow_sub-n
 overflow_sub-n c = near_some c.requires.1
@@ -20,5 +20,5 @@ joined_cells-requires c = near_puts c.requires.1
 
 pub returns-clause-laid : goal.returns-clause-laid
 returns-clause-laid c = λ x.
-    let b = near_joins x refl c.read_chain-other.result c.read_chain-other.ensures.0 c.sweep_chain-lines.ensures _ c.merge.ensures in
+    let b = near_joins x refl c.read_chain-other.result c.read_chain-other.ensures.0 c.sweep_chain-lines.ensures _ c.merge.ensures.rows in
     near_returns x refl c.read_chain-other.result c.read_chain-other.ensures.0 c.sweep_chain-lines.ensures (c.join_pages-ends.ensures b) c.joined_cells.ensures c.with_cells-desk.ensures
