@@ -11,8 +11,12 @@ ghost use Rattle.sound_directory.specs.Sound.{row_sound, cuts_sound, is_unused_c
 
 use desk::{CutList, Desk, Slot};
 
-// Every number of 16 bits is below.
-const WORD: u64 = 65536;
+// What a number of 16 bits counts in each of the four places of one of 64, but in the first.
+const SECOND: u64 = 65_536;
+
+const THIRD: u64 = 4_294_967_296;
+
+const FOURTH: u64 = 281_474_976_710_656;
 
 // ---- numbers in slots
 
@@ -60,12 +64,14 @@ pub fn row_sound(slots: &[u16], n: usize, top: u16) -> bool
     rises(&slots[..n], top)
 }
 
-// Four numbers as one, which is 0 just if each of them is: such as stand side by side are read at once.
+// Four numbers as one, which is 0 just if each of them is. Each has its place by one product: so the compiler reads numbers that stand side by side at once.
 pub fn joined(first: u16, second: u16, third: u16, fourth: u16) -> u64
     ensures { eqb result 0 ≡ eqb (first + second + third + fourth) 0 }
 {
     u64::from(first)
-        + WORD * (u64::from(second) + WORD * (u64::from(third) + WORD * u64::from(fourth)))
+        + SECOND * u64::from(second)
+        + THIRD * u64::from(third)
+        + FOURTH * u64::from(fourth)
 }
 
 // ---- cuts
